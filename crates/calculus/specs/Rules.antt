@@ -1,0 +1,192 @@
+-- The thirteen rules: when a rule gives term l the value v from the premises ps, in their order.
+use mathlib.Core.Bool.{Bool, true, false, not, _&&_, _||_}
+use mathlib.Core.List.{List, [], _∷_, map}
+use Prim.Native.Nat.{ℕ, zero, suc, _+_}
+use lib.ListN.{length, getD}
+use lib.Dec.{eqb, leb, ltb}
+use Rattle.calculus.specs.declared.Premise.{Premise}
+use Rattle.calculus.specs.declared.Fit.{Fit}
+use Rattle.calculus.specs.declared.Fit.the-variants.{Fits, Unfit}
+use Rattle.calculus.specs.declared.Rule.{Rule}
+use Rattle.calculus.specs.declared.Rule.the-variants.{Same, Differ, Reflexivity, Symmetry, Transitivity, Negated, Part, Unit, Evaluation, Congruence, Predicate, Read, Skip, Unlisted}
+use Rattle.calculus.specs.Lists.{all, any, has, eqList, num, isTrue}
+use Rattle.calculus.specs.Terms.{head, args, arg, eqHead, notHead, andHead, orHead, selectHead, storeHead, firstFree}
+
+-- ---- the rules' numbers
+
+-- same, differ, refl, sym, trans, neg, part, unit, eval, cong, pred, read, skip
+abbrev pub rules : List Rule
+rules =
+    Same ∷ Differ ∷ Reflexivity ∷ Symmetry ∷ Transitivity ∷ Negated ∷ Part ∷ Unit ∷ Evaluation ∷ Congruence ∷ Predicate ∷ Read ∷ Skip ∷ []
+
+unfoldable pub ruleOf : ℕ → Rule
+ruleOf n = getD rules n Unlisted
+
+abbrev pub ruleListed : ℕ → Bool
+ruleListed n = ltb n (length rules)
+
+-- ---- premises
+
+abbrev pub rowOf : Premise → ℕ
+rowOf p = p .row
+
+abbrev pub valueOf : Premise → ℕ
+valueOf p = p .value
+
+-- p is row a with value w
+abbrev pub gives : ℕ → ℕ → Premise → Bool
+gives a w p = eqb (p .row) a && eqb (p .value) w
+
+-- no premise
+unfoldable pub bare : List Premise → Bool → Bool
+bare [] b = b
+bare (p ∷ ps) b = false
+
+-- one premise, p
+unfoldable pub single : List Premise → (Premise → Bool) → Bool
+single [] f = false
+single (p ∷ []) f = f p
+single (p ∷ q ∷ ps) f = false
+
+-- two premises, p and q
+unfoldable pub double : List Premise → (Premise → Premise → Bool) → Bool
+double [] f = false
+double (p ∷ []) f = false
+double (p ∷ q ∷ []) f = f p q
+double (p ∷ q ∷ r ∷ ps) f = false
+
+-- p, and any number more
+unfoldable pub leading : List Premise → (Premise → List Premise → Bool) → Bool
+leading [] f = false
+leading (p ∷ ps) f = f p ps
+
+-- ---- what not, and, or make of truth values
+
+abbrev pub notOf : List ℕ → Bool
+notOf xs = not (isTrue (getD xs 0 0))
+
+abbrev pub andOf : List ℕ → Bool
+andOf xs = all isTrue xs
+
+abbrev pub orOf : List ℕ → Bool
+orOf xs = any isTrue xs
+
+-- head h over the truth values xs has the value v
+abbrev pub evaluates : ℕ → List ℕ → ℕ → Bool
+evaluates h xs v =
+    (eqb h notHead && eqb v (num (notOf xs)))
+    || ((eqb h andHead && eqb v (num (andOf xs)))
+    || (eqb h orHead && eqb v (num (orOf xs))))
+
+-- ---- the arguments at all positions but one
+
+-- ps are the rows xs, each with value w
+abbrev pub others : ℕ → List ℕ → List Premise → Bool
+others w [] [] = true
+others w [] (p ∷ ps) = false
+others w (a ∷ xs) [] = false
+others w (a ∷ xs) (p ∷ ps) = gives a w p && others w xs ps
+
+abbrev pub unitHere : ℕ → ℕ → ℕ → List ℕ → List Premise → Bool
+unitHere w l a xs ps = eqb a l && others w xs ps
+
+-- l stands at some position of xs, and ps are the arguments at all the others, each with value w
+abbrev pub unitAt : ℕ → ℕ → List ℕ → List Premise → Bool
+unitAt w l [] ps = false
+unitAt w l (a ∷ xs) [] = unitHere w l a xs []
+unitAt w l (a ∷ xs) (p ∷ ps) = unitHere w l a xs (p ∷ ps) || (gives a w p && unitAt w l xs ps)
+
+-- ---- the rules
+
+module _ (ts : List ℕ) where
+  abbrev pub isHead : ℕ → ℕ → Bool
+  isHead t h = eqb (head ts t) h
+
+  -- e is the term a = b
+  abbrev pub isEq : ℕ → ℕ → ℕ → Bool
+  isEq e a b = isHead e eqHead && (eqb (arg ts e 0) a && eqb (arg ts e 1) b)
+
+  -- p is the term a = b, with value w
+  abbrev pub equates : ℕ → ℕ → ℕ → Premise → Bool
+  equates a b w p = isEq (p .row) a b && eqb (p .value) w
+
+  -- ps are true equalities between xs and ys, one at every position
+  abbrev pub pairs : List ℕ → List ℕ → List Premise → Bool
+  pairs [] [] [] = true
+  pairs [] [] (p ∷ ps) = false
+  pairs [] (b ∷ ys) ps = false
+  pairs (a ∷ xs) [] ps = false
+  pairs (a ∷ xs) (b ∷ ys) [] = false
+  pairs (a ∷ xs) (b ∷ ys) (p ∷ ps) = equates a b 1 p && pairs xs ys ps
+
+  -- p is a term with head h and value w, and the value v that is given is x
+  abbrev pub connected : ℕ → Premise → ℕ → ℕ → ℕ → Bool
+  connected h p w v x = isHead (p .row) h && (eqb (p .value) w && eqb v x)
+
+  unfoldable pub fits : Rule → ℕ → ℕ → List Premise → Bool
+  -- t, u with equal values give t = u true
+  fits Same l v ps = double ps (λ p q. isEq l (p .row) (q .row) && (eqb (p .value) (q .value) && eqb v 1))
+  -- t, u with unequal values give t = u false
+  fits Differ l v ps = double ps (λ p q. isEq l (p .row) (q .row) && (not (eqb (p .value) (q .value)) && eqb v 0))
+  -- t = t
+  fits Reflexivity l v ps = bare ps (isHead l eqHead && (eqb (arg ts l 0) (arg ts l 1) && eqb v 1))
+  -- t = u gives u = t
+  fits Symmetry l v ps = single ps (λ p. isHead l eqHead && (equates (arg ts l 1) (arg ts l 0) 1 p && eqb v 1))
+  -- t = u, u = w give t = w
+  fits Transitivity l v ps =
+      double ps (λ p q.
+      let u = arg ts (p .row) 1 in
+      isHead l eqHead && (equates (arg ts l 0) u 1 p && (equates u (arg ts l 1) 1 q && eqb v 1)))
+  -- not(l) gives l the other value
+  fits Negated l v ps = single ps (λ p. isHead (p .row) notHead && (eqb (arg ts (p .row) 0) l && eqb (p .value + v) 1))
+  -- or false gives an argument false, and true gives one true
+  fits Part l v ps = single ps (λ p. has (args ts (p .row)) l && (connected orHead p 0 v 0 || connected andHead p 1 v 1))
+  -- or true with all other arguments false gives the remaining one true; and false with the others true gives it false
+  fits Unit l v ps =
+      leading ps (λ p qs.
+      (connected orHead p 1 v 1 && unitAt 0 l (args ts (p .row)) qs)
+      || (connected andHead p 0 v 0 && unitAt 1 l (args ts (p .row)) qs))
+  -- all arguments give not, and, or its value
+  fits Evaluation l v ps = eqList (map rowOf ps) (args ts l) && evaluates (head ts l) (map valueOf ps) v
+  -- equalities at every position give f(t..) = f(u..), where f is free, select or store
+  fits Congruence l v ps =
+      let f = arg ts l 0 in
+      let g = arg ts l 1 in
+      isHead l eqHead
+      && (eqb (head ts f) (head ts g)
+      && (leb selectHead (head ts f)
+      && (pairs (args ts f) (args ts g) ps && eqb v 1)))
+  -- p(t..) with value v, then the equalities, give p(u..) value v, where p is free
+  fits Predicate l v ps =
+      leading ps (λ p qs.
+      leb firstFree (head ts l)
+      && (eqb (head ts (p .row)) (head ts l)
+      && (eqb (p .value) v && pairs (args ts (p .row)) (args ts l) qs)))
+  -- select(store(a, i, x), i) = x
+  fits Read l v ps =
+      let s = arg ts l 0 in
+      let a = arg ts s 0 in
+      bare ps (isHead l eqHead
+      && (isHead s selectHead
+      && (isHead a storeHead
+      && (eqb (arg ts s 1) (arg ts a 1)
+      && (eqb (arg ts l 1) (arg ts a 2) && eqb v 1)))))
+  -- i = j false gives select(store(a, i, x), j) = select(a, j)
+  fits Skip l v ps =
+      let s = arg ts l 0 in
+      let r = arg ts l 1 in
+      let a = arg ts s 0 in
+      single ps (λ p.
+      isHead l eqHead
+      && (isHead s selectHead
+      && (isHead r selectHead
+      && (isHead a storeHead
+      && (eqb (arg ts r 0) (arg ts a 0)
+      && (eqb (arg ts r 1) (arg ts s 1)
+      && (equates (arg ts a 1) (arg ts s 1) 0 p && eqb v 1)))))))
+  fits Unlisted l v ps = false
+
+-- the answer of a rule test
+abbrev pub fitOf : Bool → Fit
+fitOf true = Fits
+fitOf false = Unfit

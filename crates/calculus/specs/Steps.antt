@@ -1,0 +1,245 @@
+-- The seven steps: the numbers 9 to 23 in their order, and what an allowed step makes of trail and conflict.
+use mathlib.Core.Bool.{Bool, true, false, not, _&&_, _||_, cond}
+use mathlib.Core.List.{List, [], _∷_}
+use Prim.Native.Nat.{ℕ, zero, suc, _+_, _-_, _*_}
+use lib.ListN.{getD}
+use lib.Dec.{eqb, leb, ltb}
+use Rattle.calculus.specs.declared.Step.{Step}
+use Rattle.calculus.specs.declared.Kind.{Kind}
+use Rattle.calculus.specs.declared.Kind.the-variants.{Decide, Deduce, Clash, Resolve, Clear, Jump, Flip, Unlisted}
+use Rattle.calculus.specs.Lists.{all, has, opposite}
+use Rattle.calculus.specs.Numbers.{unless}
+use Rattle.calculus.specs.Sheets.{blank, termRows}
+use Rattle.calculus.specs.Terms.{prop, filled, leftFilled}
+use Rattle.calculus.specs.Trail.{Set, Trail, Entry, empty, remove, union, intersection, on, valueAt, levelAt, decidedAt, whyAt, assigned, premisesAt, holds, firstOrder, levelOf, keptTo, decision, justified}
+use Rattle.calculus.specs.Inputs.{valueSuits}
+use Rattle.calculus.specs.Rules.{fits, ruleOf, ruleListed}
+
+-- ---- states and answers
+
+-- a trail in search, or a trail with a conflict: a set of assignments on it
+pub data State : Type 0 where
+  searching : Trail → State
+  conflict : Trail → Set → State
+
+abbrev pub trailOf : State → Trail
+trailOf (searching tr) = tr
+trailOf (conflict tr E) = tr
+
+abbrev pub conflictOf : State → Set
+conflictOf (searching tr) = empty
+conflictOf (conflict tr E) = E
+
+abbrev pub inConflict : State → Bool
+inConflict (searching tr) = false
+inConflict (conflict tr E) = true
+
+pub data Answer : Type 0 where
+  allowed : State → Answer
+  refuted : Answer
+  refused : ℕ → Answer
+
+-- refused with the number c, or the answer a where c is 0
+unfoldable pub answer : ℕ → Answer → Answer
+answer zero a = a
+answer (suc c) a = refused (suc c)
+
+-- ---- step rows
+
+-- row n of the step sheet: step, rule, term, value and five premises
+abbrev pub stepAt : List ℕ → ℕ → Step
+stepAt log n =
+    record {
+      step = getD log (n * 9) 0;
+      rule = getD log (n * 9 + 1) 0;
+      term = getD log (n * 9 + 2) 0;
+      value = getD log (n * 9 + 3) 0;
+      p = getD log (n * 9 + 4) 0;
+      q = getD log (n * 9 + 5) 0;
+      r = getD log (n * 9 + 6) 0;
+      s = getD log (n * 9 + 7) 0;
+      t = getD log (n * 9 + 8) 0;
+    }
+
+abbrev pub premiseCells : Step → List ℕ
+premiseCells x = x .p ∷ x .q ∷ x .r ∷ x .s ∷ x .t ∷ []
+
+unfoldable pub premises : Step → List ℕ
+premises x = filled (premiseCells x)
+
+-- decide, deduce, clash, resolve, clear, jump, flip
+abbrev pub kinds : List Kind
+kinds = Decide ∷ Deduce ∷ Clash ∷ Resolve ∷ Clear ∷ Jump ∷ Flip ∷ []
+
+unfoldable pub kindOf : ℕ → Kind
+kindOf n = getD kinds n Unlisted
+
+-- ---- number 9: the step is listed, its columns are filled, and no others
+
+abbrev pub isBlank : ℕ → Bool
+isBlank x = eqb x blank
+
+abbrev pub isFilled : ℕ → Bool
+isFilled x = not (eqb x blank)
+
+-- term and value
+abbrev pub decisionShaped : Step → Bool
+decisionShaped x = isBlank (x .rule) && (isFilled (x .term) && (isFilled (x .value) && all isBlank (premiseCells x)))
+
+-- rule, term, a truth value, and premises from the left
+abbrev pub inferenceShaped : Step → Bool
+inferenceShaped x = ruleListed (x .rule) && (isFilled (x .term) && (leb (x .value) 1 && leftFilled (premiseCells x)))
+
+-- the term, and beside it p or nothing
+abbrev pub conflictShaped : Step → Bool → Bool
+conflictShaped x withP =
+    isBlank (x .rule)
+    && (isFilled (x .term)
+    && (isBlank (x .value)
+    && (withP && (isBlank (x .q) && (isBlank (x .r) && (isBlank (x .s) && isBlank (x .t)))))))
+
+unfoldable pub shaped : Step → Kind → Bool
+shaped x Decide = decisionShaped x
+shaped x Deduce = inferenceShaped x
+shaped x Clash = inferenceShaped x
+shaped x Resolve = conflictShaped x (isBlank (x .p))
+shaped x Clear = conflictShaped x (isBlank (x .p))
+shaped x Jump = conflictShaped x (isBlank (x .p))
+shaped x Flip = conflictShaped x (isFilled (x .p))
+shaped x Unlisted = false
+
+-- ---- number 10: the first three steps need a search state, the others a conflict
+
+abbrev pub needsConflict : Kind → Bool
+needsConflict Decide = false
+needsConflict Deduce = false
+needsConflict Clash = false
+needsConflict Resolve = true
+needsConflict Clear = true
+needsConflict Jump = true
+needsConflict Flip = true
+needsConflict Unlisted = false
+
+unfoldable pub ready : State → Kind → Bool
+ready s k = cond (needsConflict k) (inConflict s) (not (inConflict s))
+
+module _ (ts : List ℕ) where
+  -- ---- number 11: the term and the premises are rows
+
+  unfoldable pub known : Step → Bool
+  known x = ltb (x .term) (termRows ts) && all (λ p. ltb p (termRows ts)) (premises x)
+
+  -- ---- steps of the search
+
+  -- decide: the term with its value as a decision
+  unfoldable pub decideNumber : Trail → ℕ → ℕ → ℕ
+  decideNumber tr t v =
+      unless (valueSuits ts t v) 22 (
+      unless (not (on tr t)) 14 0)
+
+  unfoldable pub decide : Trail → ℕ → ℕ → Answer
+  decide tr t v = answer (decideNumber tr t v) (allowed (searching (decision tr t v ∷ tr)))
+
+  -- rule r gives the prop l the value v from the rows ps; the rest is the step's own
+  unfoldable pub inferenceNumber : Trail → ℕ → ℕ → ℕ → List ℕ → ℕ → ℕ
+  inferenceNumber tr r l v ps rest =
+      unless (prop ts l) 22 (
+      unless (all (on tr) ps) 12 (
+      unless (fits ts (ruleOf r) l v (premisesAt tr ps)) 13 rest))
+
+  -- deduce: the premises justify l; neither value is there
+  unfoldable pub deduceNumber : Trail → ℕ → ℕ → ℕ → List ℕ → ℕ
+  deduceNumber tr r l v ps =
+      inferenceNumber tr r l v ps (
+      unless (not (assigned tr l v)) 14 (
+      unless (not (on tr l)) 15 0))
+
+  unfoldable pub deduce : Trail → ℕ → ℕ → ℕ → List ℕ → Answer
+  deduce tr r l v ps = answer (deduceNumber tr r l v ps) (allowed (searching (justified tr l v (has ps) ∷ tr)))
+
+  -- clash: the opposite is there; premises and opposite refute the input at level 0, and are the conflict above it
+  unfoldable pub clashNumber : Trail → ℕ → ℕ → ℕ → List ℕ → ℕ
+  clashNumber tr r l v ps =
+      inferenceNumber tr r l v ps (
+      unless (assigned tr l (opposite v)) 16 0)
+
+  abbrev pub clashSet : ℕ → List ℕ → Set
+  clashSet l ps = has (l ∷ ps)
+
+  unfoldable pub clashed : Trail → Set → Answer
+  clashed tr E = cond (eqb (levelOf tr E) 0) refuted (allowed (conflict tr E))
+
+  unfoldable pub clash : Trail → ℕ → ℕ → ℕ → List ℕ → Answer
+  clash tr r l v ps = answer (clashNumber tr r l v ps) (clashed tr (clashSet l ps))
+
+  -- ---- steps of a conflict E
+
+  -- resolve: a's justification, which holds no first-order decision at E's level, takes a's place in E
+  unfoldable pub resolveNumber : Trail → Set → ℕ → ℕ
+  resolveNumber tr E a =
+      unless (E a) 17 (
+      unless (not (decidedAt tr a)) 18 (
+      unless (not (holds tr (whyAt tr a) (firstOrder ts (levelOf tr E)))) 19 0))
+
+  unfoldable pub resolve : Trail → Set → ℕ → Answer
+  resolve tr E a = answer (resolveNumber tr E a) (allowed (conflict tr (union (remove E a) (whyAt tr a))))
+
+  -- clear: a first-order decision above the rest of E is undone, with all of its level and above
+  unfoldable pub clearNumber : Trail → Set → ℕ → ℕ
+  clearNumber tr E a =
+      unless (E a) 17 (
+      unless (decidedAt tr a && not (prop ts a)) 20 (
+      unless (ltb (levelOf tr (remove E a)) (levelAt tr a)) 21 0))
+
+  unfoldable pub clear : Trail → Set → ℕ → Answer
+  clear tr E a = answer (clearNumber tr E a) (allowed (searching (keptTo (levelAt tr a - 1) tr)))
+
+  -- the trail kept to m, then l with the opposite of its value, which s justifies
+  abbrev pub jumped : Trail → Set → ℕ → ℕ → Trail
+  jumped tr s l m = justified (keptTo m tr) l (opposite (valueAt tr l)) s ∷ keptTo m tr
+
+  -- jump: back to the level of the rest of E, which justifies the opposite of l
+  unfoldable pub jumpNumber : Trail → Set → ℕ → ℕ
+  jumpNumber tr E l =
+      unless (E l) 17 (
+      unless (prop ts l) 22 (
+      unless (ltb (levelOf tr (remove E l)) (levelAt tr l)) 21 0))
+
+  unfoldable pub jump : Trail → Set → ℕ → Answer
+  jump tr E l = answer (jumpNumber tr E l) (allowed (searching (jumped tr (remove E l) l (levelOf tr (remove E l)))))
+
+  -- the trail kept to m, then the opposite of l as a decision
+  abbrev pub flipped : Trail → ℕ → ℕ → Trail
+  flipped tr l m = decision (keptTo m tr) l (opposite (valueAt tr l)) ∷ keptTo m tr
+
+  -- flip: l and k share a first-order decision at E's level; below that level the opposite of l is decided
+  unfoldable pub flipNumber : Trail → Set → ℕ → ℕ → ℕ
+  flipNumber tr E l k =
+      unless (E l && E k) 17 (
+      unless (prop ts l) 22 (
+      unless (not (decidedAt tr l) && not (decidedAt tr k)) 18 (
+      unless (not (eqb l k) && holds tr (intersection (whyAt tr l) (whyAt tr k)) (firstOrder ts (levelOf tr E))) 23 0)))
+
+  unfoldable pub flip : Trail → Set → ℕ → ℕ → Answer
+  flip tr E l k = answer (flipNumber tr E l k) (allowed (searching (flipped tr l (levelOf tr E - 1))))
+
+  -- ---- a step
+
+  unfoldable pub rowNumber : State → Step → ℕ
+  rowNumber s x =
+      unless (shaped x (kindOf (x .step))) 9 (
+      unless (ready s (kindOf (x .step))) 10 (
+      unless (known x) 11 0))
+
+  unfoldable pub stepBy : Kind → State → Step → Answer
+  stepBy Decide s x = decide (trailOf s) (x .term) (x .value)
+  stepBy Deduce s x = deduce (trailOf s) (x .rule) (x .term) (x .value) (premises x)
+  stepBy Clash s x = clash (trailOf s) (x .rule) (x .term) (x .value) (premises x)
+  stepBy Resolve s x = resolve (trailOf s) (conflictOf s) (x .term)
+  stepBy Clear s x = clear (trailOf s) (conflictOf s) (x .term)
+  stepBy Jump s x = jump (trailOf s) (conflictOf s) (x .term)
+  stepBy Flip s x = flip (trailOf s) (conflictOf s) (x .term) (x .p)
+  stepBy Unlisted s x = refused 9
+
+  unfoldable pub step : State → Step → Answer
+  step s x = answer (rowNumber s x) (stepBy (kindOf (x .step)) s x)
