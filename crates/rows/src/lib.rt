@@ -1,0 +1,127 @@
+// Rows of the term sheet and of the step sheet, read into structs by value; and what their numbers stand for.
+ghost use mathlib.Core.Path.{_≡_};
+ghost use Prim.Native.Nat.{_+_, _*_, _≤_};
+ghost use lib.ListN.{length, getD};
+ghost use Rattle.calculus.specs.Terms.{termAt, headOf};
+ghost use Rattle.calculus.specs.Rules.{ruleOf};
+ghost use Rattle.calculus.specs.Steps.{stepAt, kindOf};
+use calculus::Head;
+use calculus::Kind;
+use calculus::Row;
+use calculus::Rule;
+use calculus::Step;
+use calculus::Term;
+
+// What a column holds where nothing is filled in.
+pub const BLANK: u16 = 65535;
+
+// The number at i; 0 past the end.
+pub fn cell(sheet: &[u16], i: usize) -> u16
+    ensures { λ r. ⌜ r ≡ getD (now (sheet .entry)) i 0 ⌝ }
+{
+    if i < sheet.len() { sheet[i] } else { 0 }
+}
+
+// Row t of the term sheet.
+pub fn term_at(terms: &[u16], t: Row) -> Term
+    ensures { λ r. ⌜ r ≡ termAt (now (terms .entry)) (t .0) ⌝ }
+{
+    let i = t.0 as usize * 6;
+    // A whole row, as in every sheet that passed, takes one test of the length.
+    if i + 5 < terms.len() {
+        return Term {
+            head: terms[i],
+            sort: terms[i + 1],
+            a: terms[i + 2],
+            b: terms[i + 3],
+            c: terms[i + 4],
+            d: terms[i + 5],
+        };
+    }
+    Term {
+        head: cell(terms, i),
+        sort: cell(terms, i + 1),
+        a: cell(terms, i + 2),
+        b: cell(terms, i + 3),
+        c: cell(terms, i + 4),
+        d: cell(terms, i + 5),
+    }
+}
+
+// Row n of the step sheet.
+pub fn step_at(log: &[u16], n: usize) -> Step
+    requires { ⌜ n * 9 + 9 ≤ length (now log) ⌝ }
+    ensures { λ r. ⌜ r ≡ stepAt (now (log .entry)) n ⌝ }
+{
+    let i = n * 9;
+    Step {
+        step: log[i],
+        rule: log[i + 1],
+        term: log[i + 2],
+        value: log[i + 3],
+        p: log[i + 4],
+        q: log[i + 5],
+        r: log[i + 6],
+        s: log[i + 7],
+        t: log[i + 8],
+    }
+}
+
+// What a number in the head column stands for.
+pub fn head_of(h: u16) -> Head
+    ensures { λ r. ⌜ r ≡ headOf h ⌝ }
+{
+    match h {
+        0 => Head::Equality,
+        1 => Head::Negation,
+        2 => Head::Conjunction,
+        3 => Head::Disjunction,
+        4 => Head::Select,
+        5 => Head::Store,
+        _ => {
+            if (16 <= h) & (h < BLANK) {
+                Head::Free
+            } else {
+                Head::Unlisted
+            }
+        }
+    }
+}
+
+// What a number in the rule column stands for.
+pub fn rule_of(n: u16) -> Rule
+    ensures { λ r. ⌜ r ≡ ruleOf n ⌝ }
+{
+    match n {
+        0 => Rule::Same,
+        1 => Rule::Differ,
+        2 => Rule::Reflexivity,
+        3 => Rule::Symmetry,
+        4 => Rule::Transitivity,
+        5 => Rule::Negated,
+        6 => Rule::Part,
+        7 => Rule::Unit,
+        8 => Rule::Evaluation,
+        9 => Rule::Congruence,
+        10 => Rule::Predicate,
+        11 => Rule::Read,
+        12 => Rule::Skip,
+        _ => Rule::Unlisted,
+    }
+}
+
+// What a number in the step column stands for.
+pub fn kind_of(n: u16) -> Kind
+    ensures { λ r. ⌜ r ≡ kindOf n ⌝ }
+{
+    match n {
+        0 => Kind::Decide,
+        1 => Kind::Deduce,
+        2 => Kind::Clash,
+        3 => Kind::Resolve,
+        4 => Kind::Clear,
+        5 => Kind::Jump,
+        6 => Kind::Flip,
+        _ => Kind::Unlisted,
+    }
+}
