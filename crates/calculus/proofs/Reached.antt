@@ -1,0 +1,1 @@
+-- Every trail that a list of steps can reach.
