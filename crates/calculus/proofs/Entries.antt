@@ -112,3 +112,54 @@ kept-out m (x ∷ older) e k = go (leb (x .level) m) refl (λ h. kept-out m olde
         pick (inl p) = (List·Memᴰ·head p, rw p (leb→le _ _ (true-T _ q)))
         pick (inr j) = let s = r j in (List·Memᴰ·tail (s .0), s .1)
     go false q r h = let s = r h in (List·Memᴰ·tail (s .0), s .1)
+
+-- a term whose newest entry is of level at most m is looked up in what is kept as before
+pub kept-entry : (m : ℕ) (tr : Trail) (t : ℕ) → on tr t ≡ true → levelAt tr t ≤ m → (on (keptTo m tr) t ≡ true) × (entry (keptTo m tr) t ≡ entry tr t)
+unfolding keptTo on entry
+kept-entry m [] t h l = absurd (true-or-false h refl)
+kept-entry m (x ∷ older) t h l = go (eqb (x .term) t) refl (leb (x .level) m) refl h l (λ p q. kept-entry m older t p q)
+  where
+    go : (b : Bool) → eqb (x .term) t ≡ b → (k : Bool) → leb (x .level) m ≡ k → (b || on older t) ≡ true → (cond b x (entry older t)) .level ≤ m
+        → (on older t ≡ true → levelAt older t ≤ m → (on (keptTo m older) t ≡ true) × (entry (keptTo m older) t ≡ entry older t))
+        → (on (cond k (x ∷ keptTo m older) (keptTo m older)) t ≡ true) × (entry (cond k (x ∷ keptTo m older) (keptTo m older)) t ≡ cond b x (entry older t))
+    go true e true f h l r = (rw e, rw e)
+    go true e false f h l r = absurd (subst T f (le→leb _ _ l))
+    go false e true f h l r = let s = r h l in (rw e (s .0), rw e (s .1))
+    go false e false f h l r = r h l
+
+pub kept-off : (m : ℕ) (tr : Trail) (t : ℕ) → on tr t ≡ false → on (keptTo m tr) t ≡ false
+unfolding keptTo on
+kept-off m [] t h = refl
+kept-off m (x ∷ older) t h =
+    let r = none-true (eqb (x .term) t) (on older t) h in
+    cond-case (λ tr. on tr t ≡ false) (leb (x .level) m) (x ∷ keptTo m older) (keptTo m older)
+    (λ q. rw (r .0) (kept-off m older t (r .1))) (λ q. kept-off m older t (r .1))
+
+-- a set whose level is at most m has the same level in what is kept
+pub level-kept : (m : ℕ) (tr : Trail) (s : Set) → levelOf tr s ≤ m → levelOf (keptTo m tr) s ≡ levelOf tr s
+unfolding keptTo levelOf
+level-kept m [] s l = refl
+level-kept m (x ∷ older) s l = go (λ h. level-kept m older s h) (s (x .term)) refl (leb (x .level) m) refl l
+  where
+    go : (levelOf older s ≤ m → levelOf (keptTo m older) s ≡ levelOf older s) → (b : Bool) → s (x .term) ≡ b → (k : Bool) → leb (x .level) m ≡ k
+        → max (levelOf older s) (cond b (x .level) 0) ≤ m → levelOf (cond k (x ∷ keptTo m older) (keptTo m older)) s ≡ max (levelOf older s) (cond b (x .level) 0)
+    go r b e true f h = rw (r (omega arith), e)
+    go r true e false f h = absurd (subst T f (le→leb (x .level) m (omega arith)))
+    go r false e false f h = r (omega arith) ∙ omega arith
+
+-- the level of a member is at most the set's
+pub level-at : (tr : Trail) (s : Set) (t : ℕ) → on tr t ≡ true → s t ≡ true → levelAt tr t ≤ levelOf tr s
+level-at tr s t h q =
+    let r = entry-in tr t (true-T _ h) in
+    level-ge tr s (entry tr t) (r .0) (true-T _ (ap s (r .1) ∙ q))
+
+-- some member of s with p, taken out
+pub holds-at : (tr : Trail) (s : Set) (p : Entry → Bool) → T (holds tr s p) → (e : Entry) × List·Memᴰ e tr × T (s (e .term)) × T (p e)
+unfolding holds
+holds-at [] s p h = absurd h
+holds-at (x ∷ older) s p h = go (λ k. holds-at older s p k) (or-cases (s (x .term) && p x) _ h)
+  where
+    go : (T (holds older s p) → (e : Entry) × List·Memᴰ e older × T (s (e .term)) × T (p e)) → T (s (x .term) && p x) ⊎ T (holds older s p)
+        → (e : Entry) × List·Memᴰ e (x ∷ older) × T (s (e .term)) × T (p e)
+    go r (inl q) = (x, List·Memᴰ·head refl, and-l (s (x .term)) _ q, and-r (s (x .term)) _ q)
+    go r (inr q) = let y = r q in (y .0, List·Memᴰ·tail (y .1), y .2, y .3)
