@@ -3,3 +3,4 @@ pub mod Facts
 pub mod Entries
 pub mod Reached
 pub mod Runs
+pub mod Slips
