@@ -20,7 +20,7 @@ use Rattle.calculus.specs.Steps.{State, searching, conflict, trailOf, co
 use Rattle.calculus.specs.Run.{Ending, follow, run, sheetsNumber, callNumber, start, turnedAway, endingOf, ending}
 use Rattle.calculus.specs.Reached.{Within, Distinct, Below, Grounded, relevelled, Reached, ReachedState}
 use Rattle.calculus.proofs.Facts.{and-l, and-r, or-cases, T-true, T-false, true-T, false-T, is-or-not, true-or-false, both-true, one-true, none-true, cond-case, all-at, has-at, unless-ok, orElse-ok, first-ok, answer-case, facts}
-use Rattle.calculus.proofs.Entries.{on-entered, entered-on, entry-in, entry-here, entry-older, level-ge, level-le, level-empty, kept-in, kept-out, kept-entry, kept-off, level-kept, level-at, holds-at}
+use Rattle.calculus.proofs.Entries.{on-entered, entered-on, entry-in, entry-here, entry-older, entry-off, level-ge, level-le, level-empty, kept-in, kept-out, kept-entry, kept-off, level-kept, level-at, holds-at}
 
 -- ---- one entry and the trail before it
 
@@ -362,3 +362,19 @@ top-length (x ∷ older) r =
     go : (b : Bool) → topLevel older ≤ length older → levelOf older (x .why) ≤ topLevel older → x .level ≡ cond b (1 + topLevel older) (levelOf older (x .why)) → max (topLevel older) (x .level) ≤ suc (length older)
     go true h k e = omega arith
     go false h k e = omega arith
+
+-- the level of a set with one member more
+pub level-more : (tr : Trail) (s : Set) (p : ℕ) → Distinct tr → levelOf tr (λ u. eqb u p || s u) ≡ max (levelAt tr p) (levelOf tr s)
+unfolding levelOf entry Distinct
+level-more [] s p d = refl
+level-more (x ∷ older) s p d = go (eqb (x .term) p) refl (level-more older s p (d .1)) (s (x .term))
+  where
+    gone : eqb (x .term) p ≡ true → levelAt older p ≡ 0
+    gone e = ap (λ (y : Entry). y .level) (entry-off older p (ap (on older) (sym (eqb→eq _ _ (true-T _ e))) ∙ d .0))
+
+    go : (b : Bool) → eqb (x .term) p ≡ b → levelOf older (λ u. eqb u p || s u) ≡ max (levelAt older p) (levelOf older s) → (c : Bool)
+        → max (levelOf older (λ u. eqb u p || s u)) (cond (b || c) (x .level) 0) ≡ max ((cond b x (entry older p)) .level) (max (levelOf older s) (cond c (x .level) 0))
+    go true e h true = let z = gone e in omega arith
+    go true e h false = let z = gone e in omega arith
+    go false e h true = omega arith
+    go false e h false = omega arith
