@@ -20,7 +20,15 @@ none-requires c κs = search needs
 
 returns : tie.Need-returns
 unfolding fits cells arg
-returns c = rw (c .before .before .before .before .before .before .before .before .none .ensures, c .before .before .before .before .before .before .before .before .before .term-at3 .ensures, c .before .before .before .before .before .before .before .before .before .before .term-at2 .ensures, c .before .before .before .before .before .before .before .before .before .before .before .term-at .ensures, bare-flat)
+returns c =
+    let k = c .before .before .before .before .before .before .before .before in
+    rw (
+      k .none .ensures,
+      k .before .term-at3 .ensures,
+      k .before .before .term-at2 .ensures,
+      k .before .before .before .term-at .ensures,
+      bare-flat,
+    )
 
 pub read-spec : {M : Type 1} → statement M
 read-spec =

@@ -17,7 +17,14 @@ one-requires c κs = search needs
 
 returns : tie.Need-returns
 unfolding fits cells arg
-returns c = rw (c .before .before .before .one .ensures, c .before .before .before .before .opposed .ensures, c .before .before .before .before .before .term-at .ensures, single-flat)
+returns c =
+    let k = c .before .before .before in
+    rw (
+      k .one .ensures,
+      k .before .opposed .ensures,
+      k .before .before .term-at .ensures,
+      single-flat,
+    )
 
 pub neg-spec : {M : Type 1} → statement M
 neg-spec = tie.close (tie.spec term-at-requires opposed-requires one-requires returns)

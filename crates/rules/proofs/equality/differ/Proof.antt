@@ -17,7 +17,14 @@ two-requires c κs = search needs
 
 returns : tie.Need-returns
 unfolding fits cells arg
-returns c = rw (c .before .before .two .ensures, c .before .before .before .is-eq .ensures, c .before .before .before .before .term-at .ensures, double-flat)
+returns c =
+    let k = c .before .before in
+    rw (
+      k .two .ensures,
+      k .before .is-eq .ensures,
+      k .before .before .term-at .ensures,
+      double-flat,
+    )
 
 pub differ-spec : {M : Type 1} → statement M
 differ-spec = tie.close (tie.spec term-at-requires is-eq-requires two-requires returns)

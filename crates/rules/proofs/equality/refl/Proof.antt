@@ -14,7 +14,13 @@ none-requires c κs = search needs
 
 returns : tie.Need-returns
 unfolding fits cells arg
-returns c = rw (c .before .before .before .none .ensures, c .before .before .before .before .term-at .ensures, bare-flat)
+returns c =
+    let k = c .before .before .before in
+    rw (
+      k .none .ensures,
+      k .before .term-at .ensures,
+      bare-flat,
+    )
 
 pub refl-spec : {M : Type 1} → statement M
 refl-spec = tie.close (tie.spec term-at-requires none-requires returns)

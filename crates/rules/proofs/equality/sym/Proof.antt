@@ -20,7 +20,15 @@ one-requires c κs = search needs
 
 returns : tie.Need-returns
 unfolding fits cells arg
-returns c = rw (c .before .before .before .one .ensures, c .before .before .before .before .is-eq .ensures, c .before .before .before .before .before .term-at2 .ensures, c .before .before .before .before .before .before .term-at .ensures, single-flat)
+returns c =
+    let k = c .before .before .before in
+    rw (
+      k .one .ensures,
+      k .before .is-eq .ensures,
+      k .before .before .term-at2 .ensures,
+      k .before .before .before .term-at .ensures,
+      single-flat,
+    )
 
 pub sym-spec : {M : Type 1} → statement M
 sym-spec =

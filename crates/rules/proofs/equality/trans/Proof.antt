@@ -26,7 +26,17 @@ two-requires c κs = search needs
 
 returns : tie.Need-returns
 unfolding fits cells arg
-returns c = rw (c .before .before .before .before .two .ensures, c .before .before .before .before .before .is-eq2 .ensures, c .before .before .before .before .before .before .is-eq .ensures, c .before .before .before .before .before .before .before .term-at3 .ensures, c .before .before .before .before .before .before .before .before .term-at2 .ensures, c .before .before .before .before .before .before .before .before .before .term-at .ensures, double-flat)
+returns c =
+    let k = c .before .before .before .before in
+    rw (
+      k .two .ensures,
+      k .before .is-eq2 .ensures,
+      k .before .before .is-eq .ensures,
+      k .before .before .before .term-at3 .ensures,
+      k .before .before .before .before .term-at2 .ensures,
+      k .before .before .before .before .before .term-at .ensures,
+      double-flat,
+    )
 
 pub trans-spec : {M : Type 1} → statement M
 trans-spec =

@@ -31,7 +31,18 @@ number-requires-3 c κs = search needs
 
 returns : tie.Need-returns
 unfolding fits cells args
-returns c = rw (c .before .before .before .before .before .before .number3 .ensures, c .before .before .before .before .before .before .before .any-true .ensures, c .before .before .before .before .before .before .before .before .number2 .ensures, c .before .before .before .before .before .before .before .before .before .all-true .ensures, c .before .before .before .before .before .before .before .before .before .before .number .ensures, c .before .before .before .before .before .before .before .before .before .before .before .first-false .ensures, c .before .before .before .before .before .before .before .before .before .before .before .before .same-rows .ensures, c .before .before .before .before .before .before .before .before .before .before .before .before .before .term-at .ensures)
+returns c =
+    let k = c .before .before .before .before .before .before in
+    rw (
+      k .number3 .ensures,
+      k .before .any-true .ensures,
+      k .before .before .number2 .ensures,
+      k .before .before .before .all-true .ensures,
+      k .before .before .before .before .number .ensures,
+      k .before .before .before .before .before .first-false .ensures,
+      k .before .before .before .before .before .before .same-rows .ensures,
+      k .before .before .before .before .before .before .before .term-at .ensures,
+    )
 
 pub eval-spec : {M : Type 1} → statement M
 eval-spec =

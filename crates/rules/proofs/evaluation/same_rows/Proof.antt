@@ -20,8 +20,9 @@ more-same-requires-4 c κs = search needs
 
 returns : tie.Need-returns
 returns c =
-    let e = c .before .before .before .before .before .args .e in
-    let x = c .before .before .before .before .before .args .x in
+    let y = c .before .before .before .before .before .args in
+    let e = y .e in
+    let x = y .x in
     let d = c .before .before .before .more-same .ensures (x .t ∷ []) [] (sym (same-none (x .t) [])) in
     let k = c .before .before .more-same2 .ensures (x .s ∷ x .t ∷ []) (e .d ∷ []) d in
     let b = c .before .more-same3 .ensures (x .r ∷ x .s ∷ x .t ∷ []) (e .c ∷ e .d ∷ []) k in

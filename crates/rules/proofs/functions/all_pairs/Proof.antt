@@ -20,10 +20,11 @@ more-pair-requires-4 c κs = search needs
 
 returns : tie.Need-returns
 returns c =
-    let f = c .before .before .before .before .before .before .args .f in
-    let g = c .before .before .before .before .before .before .args .g in
-    let x = c .before .before .before .before .before .before .args .x in
-    let d = c .before .before .before .more-pair .ensures [] [] (x .t ∷ []) (sym (pairs-none (c .before .before .before .before .before .before .args .terms .now) (x .t) [])) in
+    let y = c .before .before .before .before .before .before .args in
+    let f = y .f in
+    let g = y .g in
+    let x = y .x in
+    let d = c .before .before .before .more-pair .ensures [] [] (x .t ∷ []) (sym (pairs-none (y .terms .now) (x .t) [])) in
     let k = c .before .before .more-pair2 .ensures (f .d ∷ []) (g .d ∷ []) (x .s ∷ x .t ∷ []) d in
     let b = c .before .more-pair3 .ensures (f .c ∷ f .d ∷ []) (g .c ∷ g .d ∷ []) (x .r ∷ x .s ∷ x .t ∷ []) k in
     c .more-pair4 .ensures (f .b ∷ f .c ∷ f .d ∷ []) (g .b ∷ g .c ∷ g .d ∷ []) (x .q ∷ x .r ∷ x .s ∷ x .t ∷ []) b

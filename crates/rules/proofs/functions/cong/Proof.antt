@@ -19,7 +19,14 @@ all-pairs-requires c κs = search needs
 
 returns : tie.Need-returns
 unfolding fits cells arg args
-returns c = rw (c .before .before .before .before .before .all-pairs .ensures, c .before .before .before .before .before .before .term-at3 .ensures, c .before .before .before .before .before .before .before .term-at2 .ensures, c .before .before .before .before .before .before .before .before .term-at .ensures)
+returns c =
+    let k = c .before .before .before .before .before in
+    rw (
+      k .all-pairs .ensures,
+      k .before .term-at3 .ensures,
+      k .before .before .term-at2 .ensures,
+      k .before .before .before .term-at .ensures,
+    )
 
 pub cong-spec : {M : Type 1} → statement M
 cong-spec =

@@ -20,7 +20,15 @@ all-pairs-requires c κs = search needs
 
 returns : tie.Need-returns
 unfolding fits cells args
-returns c = rw (c .before .before .before .before .before .all-pairs .ensures, c .before .before .before .before .before .before .after-first .ensures, c .before .before .before .before .before .before .before .term-at2 .ensures, c .before .before .before .before .before .before .before .before .term-at .ensures, leading-flat)
+returns c =
+    let k = c .before .before .before .before .before in
+    rw (
+      k .all-pairs .ensures,
+      k .before .after-first .ensures,
+      k .before .before .term-at2 .ensures,
+      k .before .before .before .term-at .ensures,
+      leading-flat,
+    )
 
 pub pred-spec : {M : Type 1} → statement M
 pred-spec =

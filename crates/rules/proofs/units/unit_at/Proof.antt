@@ -29,9 +29,10 @@ more-unit-requires-4 c κs = search needs
 
 returns : tie.Need-returns
 returns c =
-    let e = c .before .before .before .before .before .before .before .before .before .args .e in
-    let x = c .before .before .before .before .before .before .before .before .before .args .x in
-    let none = sym (others-none (c .before .before .before .before .before .before .before .before .before .args .w) (x .s) (x .t ∷ [])) in
+    let y = c .before .before .before .before .before .before .before .before .before .args in
+    let e = y .e in
+    let x = y .x in
+    let none = sym (others-none (y .w) (x .s) (x .t ∷ [])) in
     let od = c .before .before .before .before .before .before .before .more-other .ensures [] (x .s ∷ x .t ∷ []) none in
     let oc = c .before .before .before .before .before .before .more-other2 .ensures (e .d ∷ []) (x .r ∷ x .s ∷ x .t ∷ []) od in
     let ob = c .before .before .before .before .before .more-other3 .ensures (e .c ∷ e .d ∷ []) (x .q ∷ x .r ∷ x .s ∷ x .t ∷ []) oc in
