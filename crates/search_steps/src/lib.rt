@@ -1,0 +1,1 @@
+// laws only for now

@@ -1,0 +1,92 @@
+-- The state in the words, and answers in the calculus and in the code.
+use mathlib.Core.Path.{_≡_, refl, sym, ap, subst, _∙_}
+use mathlib.Core.Logic.{_⊎_, inl, inr}
+use mathlib.Core.Bool.{Bool, true, false, cond}
+use mathlib.Core.List.{List, [], _∷_}
+use Prim.Native.Nat.{ℕ, zero, suc, _+_, _≤_, _<_}
+use native.Mathlib.Omega.{arith}
+use lib.ListN.{length}
+use lib.Dec.{eqb, eqb→eq}
+use Rattle.calculus.specs.Trail.{Set, Trail, Entry, on, topLevel}
+use Rattle.calculus.specs.Steps as calculus
+use Rattle.calculus.specs.Steps.{answer}
+use Rattle.calculus.specs.Reached.{Within, Distinct, Below, Reached, ReachedState}
+use Rattle.calculus.proofs.Facts.{is-or-not, true-T}
+use Rattle.calculus.proofs.Reached.{top-length}
+use Rattle.bitset.specs.Windows.{setAt}
+use Rattle.trail.specs.Words
+use Rattle.trail.specs.Words.{trailIn, Laid}
+use Rattle.state.specs.declared.Status.{Status}
+use Rattle.state.specs.declared.Answer.{Answer}
+use Rattle.state.specs.declared.Answer.the-variants.{Allowed, Refuted, Refused}
+use Rattle.state.specs.States.{stateIn, Held, Standing, Answers}
+
+-- ---- the state
+
+module _ (w n : ℕ) (ws : List ℕ) (st : Status) where
+  abbrev there : Trail
+  there = trailIn w n ws (st .count)
+
+  abbrev set : Set
+  set = setAt ws (Words.conflict w n) w
+
+  pub in-search : st .conflict ≡ false → stateIn w n ws st ≡ calculus.searching (trailIn w n ws (st .count))
+  unfolding stateIn
+  in-search e = rw e
+
+  pub in-conflict : st .conflict ≡ true → stateIn w n ws st ≡ calculus.conflict (trailIn w n ws (st .count)) (setAt ws (Words.conflict w n) w)
+  unfolding stateIn
+  in-conflict e = rw e
+
+  pub trail-there : calculus.trailOf (stateIn w n ws st) ≡ trailIn w n ws (st .count)
+  unfolding stateIn
+  trail-there = go (st .conflict)
+    where
+      go : (b : Bool) → calculus.trailOf (cond b (calculus.conflict there set) (calculus.searching there)) ≡ there
+      go true = refl
+      go false = refl
+
+  pub conflict-there : calculus.inConflict (stateIn w n ws st) ≡ st .conflict
+  unfolding stateIn
+  conflict-there = go (st .conflict)
+    where
+      go : (b : Bool) → calculus.inConflict (cond b (calculus.conflict there set) (calculus.searching there)) ≡ b
+      go true = refl
+      go false = refl
+
+  pub trail-reached : ReachedState n (stateIn w n ws st) → Reached n (trailIn w n ws (st .count))
+  unfolding stateIn ReachedState
+  trail-reached r = go (st .conflict) r
+    where
+      go : (b : Bool) → ReachedState n (cond b (calculus.conflict there set) (calculus.searching there)) → Reached n there
+      go true r = r .0
+      go false r = r
+
+  pub conflict-within : st .conflict ≡ true → ReachedState n (stateIn w n ws st) → Within (setAt ws (Words.conflict w n) w) (trailIn w n ws (st .count))
+  unfolding ReachedState
+  conflict-within e r = (subst (ReachedState n) (in-conflict e) r) .1
+
+-- ---- rows past the last stand on no trail
+
+pub below-off : (n : ℕ) (tr : Trail) (t : ℕ) → Below n tr → n ≤ t → on tr t ≡ false
+unfolding Below on
+below-off n [] t b l = refl
+below-off n (e ∷ older) t b l = go (is-or-not (eqb (e .term) t)) (below-off n older t (b .1) l)
+  where
+    go : (eqb (e .term) t ≡ true) ⊎ (eqb (e .term) t ≡ false) → on older t ≡ false → on (e ∷ older) t ≡ false
+    go (inl q) h = let z : e .term ≡ t = eqb→eq _ _ (true-T _ q) in absurd (omega (arith, b .0))
+    go (inr q) h = rw q h
+
+-- ---- answers
+
+pub refused-by : {c k : ℕ} (a : calculus.Answer) → k ≡ c → (k ≡ 0 → ⊥) → answer c a ≡ calculus.refused k
+unfolding answer
+refused-by {c} {k} a e h = go c e
+  where
+    go : (d : ℕ) → k ≡ d → answer d a ≡ calculus.refused k
+    go zero q = absurd (h q)
+    go (suc d) q = ap calculus.refused (sym q)
+
+pub passed-by : {c k : ℕ} (a : calculus.Answer) → k ≡ c → k ≡ 0 → answer c a ≡ a
+unfolding answer
+passed-by {c} {k} a e z = rw (sym e ∙ z)

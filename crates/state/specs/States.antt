@@ -1,0 +1,39 @@
+-- The state of a run in the workspace, and what a step's answer says of it.
+use mathlib.Core.Path.{_≡_}
+use mathlib.Core.Bool.{Bool, true, false, cond}
+use mathlib.Core.List.{List}
+use Prim.Native.Nat.{ℕ, _≤_}
+use Rattle.calculus.specs.Sheets.{termRows}
+use Rattle.calculus.specs.Trail.{Trail, topLevel}
+use Rattle.calculus.specs.Steps as calculus
+use Rattle.calculus.specs.Reached.{ReachedState}
+use Rattle.bitset.specs.Windows.{setAt}
+use Rattle.trail.specs.Words
+use Rattle.trail.specs.Words.{trailIn, Laid}
+use Rattle.state.specs.declared.Status.{Status}
+use Rattle.state.specs.declared.Answer.{Answer}
+use Rattle.state.specs.declared.Answer.the-variants.{Allowed, Refuted, Refused}
+
+-- the state that the words hold: n term rows, sets of w words
+unfoldable pub stateIn : ℕ → ℕ → List ℕ → Status → calculus.State
+stateIn w n ws st =
+    cond (st .conflict)
+    (calculus.conflict (trailIn w n ws (st .count)) (setAt ws (Words.conflict w n) w))
+    (calculus.searching (trailIn w n ws (st .count)))
+
+-- the words are a trail of the sheet's rows, and the status has its greatest level
+pub record Held (w n : ℕ) (ts ws : List ℕ) (st : Status) : Type 0 where
+  pub rows : n ≡ termRows ts
+  pub laid : Laid w n ws (st .count)
+  pub top : st .top .0 ≡ topLevel (trailIn w n ws (st .count))
+
+-- and the state is one that steps can reach
+pub record Standing (w n : ℕ) (ts ws : List ℕ) (st : Status) : Type 0 where
+  pub held : Held w n ts ws st
+  pub reached : ReachedState n (stateIn w n ws st)
+
+-- the answer r is the answer a of the calculus: an allowed step leaves its state in the words, any other leaves the words as they were
+unfoldable pub Answers : ℕ → ℕ → List ℕ → List ℕ → List ℕ → calculus.Answer → Answer → Type 0
+Answers w n ts ws vs a (Allowed st) = (a ≡ calculus.allowed (stateIn w n vs st)) × Held w n ts vs st
+Answers w n ts ws vs a Refuted = (a ≡ calculus.refuted) × (vs ≡ ws)
+Answers w n ts ws vs a (Refused c) = (a ≡ calculus.refused c) × (vs ≡ ws)
