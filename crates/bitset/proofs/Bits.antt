@@ -10,11 +10,8 @@ use lib.Pow.{pow-add, pow-pos, pow-lt, pow-mono, shr-shr, shr-lt}
 use lib.Count.{trailingZeros, under}
 use lib.Bits.{bitAnd, bitOr, bitXor, differ, and-step, or-step, xor-step, and-shr, or-shr, xor-shr}
 use borrow.Author.Tests.{eq-eqb, ne-eqb, ltb-true, ltb-false}
+use Rattle.calculus.proofs.Facts.{is-or-not}
 use Rattle.bitset.specs.Windows.{bitAt}
-
-pub is-or-not : (b : Bool) → (b ≡ true) ⊎ (b ≡ false)
-is-or-not true = inl refl
-is-or-not false = inr refl
 
 -- ---- two words, digit by digit
 

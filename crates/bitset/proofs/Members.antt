@@ -11,13 +11,14 @@ use lib.ListN.{length, getD}
 use lib.Pow.{shr-le}
 use lib.Count.{trailingZeros}
 use borrow.Author.Tests.{ltb-true, ltb-false}
+use Rattle.calculus.proofs.Facts.{is-or-not}
 use Rattle.calculus.specs.Trail.{Set}
 use Rattle.calculus.specs.declared.Row.{Row}
 use Rattle.bitset.specs.Windows.{bitAt, setAt}
 use Rattle.bitset.specs.Members.{Clear, Least, Answers}
 use Rattle.bitset.specs.declared.Found.{Found}
 use Rattle.bitset.specs.declared.Found.the-variants.{At, Nothing}
-use Rattle.bitset.proofs.Bits.{is-or-not, bit-zero, bit-below, bit-first, bit-shift, bit-high}
+use Rattle.bitset.proofs.Bits.{bit-zero, bit-below, bit-first, bit-shift, bit-high}
 use Rattle.bitset.proofs.Windows.{set-in}
 
 pub clear-join : (s : Set) (a b c : ℕ) → Clear s a b → Clear s b c → Clear s a c

@@ -12,9 +12,10 @@ use lib.Seq.{getD-set-same, getD-set-other}
 use lib.Pow.{pow-lt}
 use lib.Bits.{bitOr, bitAnd, bitXor}
 use borrow.Author.Tests.{ltb-true, ltb-false, eqb-true, eqb-false, lt-ltb, le-ltb, eq-eqb, ne-eqb}
+use Rattle.calculus.proofs.Facts.{is-or-not}
 use Rattle.calculus.specs.Trail.{Set, empty, insert, remove, union}
 use Rattle.bitset.specs.Windows.{bitAt, setAt, Only, Holds, Copied}
-use Rattle.bitset.proofs.Bits.{is-or-not, bit-or, bit-less, bit-pow, bit-zero}
+use Rattle.bitset.proofs.Bits.{bit-or, bit-less, bit-pow, bit-zero}
 
 -- ---- reading a window
 

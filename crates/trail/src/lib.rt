@@ -126,5 +126,8 @@ pub fn cut(work: &mut [u64], w: usize, terms: usize, n: usize, m: Level) -> Kept
             work[b + 2 * terms + t] = 0;
         }
     }
-    Kept { count: j, top: Level(top) }
+    Kept {
+        count: j,
+        top: Level(top),
+    }
 }
