@@ -123,13 +123,13 @@ below-at (suc n) p k h l = go (λ q. below-at n p k (and-l (below n p) _ h) q) (
 
 -- ---- the first trouble
 
-pub unless-yes : {b : Bool} {c r : ℕ} → b ≡ true → unless b c r ≡ r
+pub unless-yes : {b : Bool} (c r : ℕ) → b ≡ true → unless b c r ≡ r
 unfolding unless
-unless-yes e = rw e
+unless-yes c r e = rw e
 
-pub unless-no : {b : Bool} {c r : ℕ} → b ≡ false → unless b c r ≡ c
+pub unless-no : {b : Bool} (c r : ℕ) → b ≡ false → unless b c r ≡ c
 unfolding unless
-unless-no e = rw e
+unless-no c r e = rw e
 
 -- ---- no trouble
 
