@@ -21,3 +21,41 @@ pub enum Answer {
     Refused(u16),
 }
 
+// Whether t is a row whose term stands on the trail.
+pub fn stands(work: &[u64], w: usize, n: usize, count: usize, t: Row) -> bool
+    requires { ⌜ Laid w n (now work) count ⌝ }
+    ensures { λ r. ⌜ r ≡ on (trailIn w n (now (work .entry)) count) (t .0) ⌝ }
+{
+    if (t.0 as usize) < n {
+        return trail::present(work, w, n, count, t);
+    }
+    false
+}
+
+// The value of t on the trail; blank where it does not stand there.
+pub fn value_at(work: &[u64], w: usize, n: usize, count: usize, t: Row) -> u16
+    requires { ⌜ Laid w n (now work) count ⌝ }
+    ensures { λ r. ⌜ r ≡ valueAt (trailIn w n (now (work .entry)) count) (t .0) ⌝ }
+{
+    if (t.0 as usize) < n {
+        if trail::present(work, w, n, count, t) {
+            return trail::value(work, w, n, count, t);
+        }
+        return BLANK;
+    }
+    BLANK
+}
+
+// The level of t on the trail; 0 where it does not stand there.
+pub fn level_at(work: &[u64], w: usize, n: usize, count: usize, t: Row) -> Level
+    requires { ⌜ Laid w n (now work) count ⌝ }
+    ensures { λ r. ⌜ r .0 ≡ levelAt (trailIn w n (now (work .entry)) count) (t .0) ⌝ }
+{
+    if (t.0 as usize) < n {
+        if trail::present(work, w, n, count, t) {
+            return trail::level(work, w, n, count, t);
+        }
+        return Level(0);
+    }
+    Level(0)
+}

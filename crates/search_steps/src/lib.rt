@@ -1,1 +1,0 @@
-// laws only for now
