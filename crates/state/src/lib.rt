@@ -1,7 +1,9 @@
 // Where a run stands, what a step answers, and look-ups on the trail that any number may be asked of.
 ghost use mathlib.Core.Path.{_≡_};
 ghost use Prim.Native.Nat.{_<_};
-ghost use Rattle.calculus.specs.Trail.{on, valueAt, levelAt};
+ghost use Rattle.calculus.specs.Lists.{opposite};
+ghost use Rattle.calculus.specs.Terms.{prop};
+ghost use Rattle.calculus.specs.Trail.{on, valueAt, levelAt, assigned};
 ghost use Rattle.trail.specs.Words.{trailIn, Laid};
 use calculus::Level;
 use calculus::Row;
@@ -58,4 +60,29 @@ pub fn level_at(work: &[u64], w: usize, n: usize, count: usize, t: Row) -> Level
         return Level(0);
     }
     Level(0)
+}
+
+// Whether t stands on the trail with value v.
+pub fn has_value(work: &[u64], w: usize, n: usize, count: usize, t: Row, v: u16) -> bool
+    requires { ⌜ Laid w n (now work) count ⌝ }
+    ensures { λ r. ⌜ r ≡ assigned (trailIn w n (now (work .entry)) count) (t .0) v ⌝ }
+{
+    if (t.0 as usize) < n {
+        return trail::has_value(work, w, n, count, t, v);
+    }
+    false
+}
+
+// The other truth value.
+pub fn opposite(v: u16) -> u16
+    ensures { λ r. ⌜ r ≡ opposite v ⌝ }
+{
+    if v == 0 { 1 } else { 0 }
+}
+
+// Whether term row t is of sort prop.
+pub fn is_prop(terms: &[u16], t: Row) -> bool
+    ensures { λ r. ⌜ r ≡ prop (now (terms .entry)) (t .0) ⌝ }
+{
+    rows::cell(terms, t.0 as usize * 6 + 1) == 0
 }

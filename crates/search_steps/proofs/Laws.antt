@@ -1,0 +1,80 @@
+-- Premises column by column, and the numbers of the steps of the search.
+use mathlib.Core.Path.{_≡_, refl, sym, _∙_}
+use mathlib.Core.Bool.{Bool, true, false, _&&_}
+use mathlib.Core.List.{List, _∷_}
+use Prim.Native.Nat.{ℕ, zero, suc, max}
+use native.Mathlib.Omega.{arith}
+use lib.Dec.{eqb}
+use Rattle.calculus.specs.declared.Fit.{Fit}
+use Rattle.calculus.specs.declared.Fit.the-variants.{Fits, Unfit}
+use Rattle.calculus.specs.declared.Rule.{Rule}
+use Rattle.calculus.specs.declared.Step.{Step}
+use Rattle.calculus.specs.Lists.{all, has}
+use Rattle.calculus.specs.Numbers.{unless, orElse}
+use Rattle.calculus.specs.Sheets.{blank}
+use Rattle.calculus.specs.Terms.{prop, filled}
+use Rattle.calculus.specs.Trail.{Trail, on, levelAt, levelOf, premisesAt}
+use Rattle.calculus.specs.Reached.{Distinct}
+use Rattle.calculus.specs.Rules.{fits, fitOf, ruleOf}
+use Rattle.calculus.specs.Steps.{premises, inferenceNumber}
+use Rattle.calculus.proofs.Entries.{level-empty}
+use Rattle.calculus.proofs.Reached.{level-more}
+use Rattle.rules.specs.declared.Claim.{Claim}
+use Rattle.rules.specs.Claims.{premisesOf}
+use Rattle.search_steps.specs.Claims.{Claims}
+
+-- ---- premises
+
+pub all-blank : (tr : Trail) (p : ℕ) (xs : List ℕ) → eqb p blank ≡ true → all (on tr) (filled (p ∷ xs)) ≡ true
+all-blank tr p xs e = rw e
+
+pub all-more : (tr : Trail) (p : ℕ) (xs : List ℕ) → eqb p blank ≡ false → all (on tr) (filled (p ∷ xs)) ≡ (on tr p && all (on tr) (filled xs))
+all-more tr p xs e = rw e
+
+pub level-blank : (tr : Trail) (p : ℕ) (xs : List ℕ) → eqb p blank ≡ true → levelOf tr (has (filled (p ∷ xs))) ≡ 0
+level-blank tr p xs e = rw e (level-empty tr)
+
+pub level-filled : (tr : Trail) (p : ℕ) (xs : List ℕ) → Distinct tr → eqb p blank ≡ false
+    → levelOf tr (has (filled (p ∷ xs))) ≡ max (levelAt tr p) (levelOf tr (has (filled xs)))
+level-filled tr p xs d e = rw e (level-more tr (has (filled xs)) p d)
+
+-- ---- numbers
+
+-- what is not the tests' own comes after them
+pub inference-rest : (ts : List ℕ) (tr : Trail) (r l v : ℕ) (ps : List ℕ) (rest : ℕ) → inferenceNumber ts tr r l v ps rest ≡ orElse (inferenceNumber ts tr r l v ps 0) rest
+unfolding inferenceNumber unless orElse
+inference-rest ts tr r l v ps rest = go (prop ts l) (all (on tr) ps) (fits ts (ruleOf r) l v (premisesAt tr ps))
+  where
+    go : (a b c : Bool) → unless a 22 (unless b 12 (unless c 13 rest)) ≡ orElse (unless a 22 (unless b 12 (unless c 13 0))) rest
+    go false b c = refl
+    go true false c = refl
+    go true true false = refl
+    go true true true = refl
+
+-- trouble of the inference is the step's
+pub inference-first : {k i : ℕ} (rest : ℕ) → k ≡ i → (k ≡ 0 → ⊥) → k ≡ orElse i rest
+unfolding orElse
+inference-first {k} {i} rest e h = go i e
+  where
+    go : (j : ℕ) → k ≡ j → k ≡ orElse j rest
+    go zero q = absurd (h q)
+    go (suc j) q = q
+
+pub inference-past : {k i : ℕ} (rest : ℕ) → k ≡ i → k ≡ 0 → orElse i rest ≡ rest
+unfolding orElse
+inference-past rest e z = rw (sym e ∙ z)
+
+-- ---- the rule's answer
+
+pub fits-true : {b : Bool} → fitOf b ≡ Fits → b ≡ true
+fits-true {b = true} e = refl
+fits-true {b = false} e = let z : _≡_ {A = ℕ} 0 1 = cc in absurd (omega arith)
+
+pub fits-false : {b : Bool} → fitOf b ≡ Unfit → b ≡ false
+fits-false {b = true} e = let z : _≡_ {A = ℕ} 0 1 = cc in absurd (omega arith)
+fits-false {b = false} e = refl
+
+-- what the test of a row's claim answers is what the rule says of the row
+pub tested : (ts : List ℕ) (tr : Trail) (x : Step) {y : Claim} {k : Rule} {f : Fit} → f ≡ fitOf (fits ts k (y .term) (y .value) (premisesOf y))
+    → k ≡ ruleOf (x .rule) → Claims tr x y → f ≡ fitOf (fits ts (ruleOf (x .rule)) (x .term) (x .value) (premisesAt tr (premises x)))
+tested ts tr x e q c = e ∙ rw (q, c .term, c .value, c .premises)

@@ -1,0 +1,177 @@
+// The steps of the search: decide, deduce, clash. Each has its number, found by reading alone, and then what it does.
+ghost use mathlib.Core.Path.{_≡_};
+ghost use mathlib.Core.Bool.{false};
+ghost use mathlib.Core.List.{List, _∷_};
+ghost use Prim.Native.Nat.{ℕ, _<_};
+ghost use lib.Dec.{eqb};
+ghost use Rattle.calculus.specs.Lists.{all, has};
+ghost use Rattle.calculus.specs.Terms.{prop, filled};
+ghost use Rattle.calculus.specs.Inputs.{valueSuits};
+ghost use Rattle.calculus.specs.Trail.{on, valueAt, levelOf};
+ghost use Rattle.calculus.specs.Steps.{premises, decideNumber, inferenceNumber, deduceNumber, clashNumber};
+ghost use Rattle.calculus.specs.Steps as steps;
+ghost use Rattle.rules.specs.Claims.{premisesOf, valued};
+ghost use Rattle.trail.specs.Words.{trailIn, Laid};
+ghost use Rattle.state.specs.States.{Held, Standing, Answers};
+ghost use Rattle.search_steps.specs.Claims.{Claims};
+use calculus::Fit;
+use calculus::Level;
+use calculus::Premise;
+use calculus::Row;
+use calculus::Step;
+use rows::BLANK;
+use rules::Claim;
+use state::Answer;
+use state::Status;
+
+// ---- what the tests share
+
+// Whether v is a value for term row t: for a prop, 0 or 1.
+fn value_suits(terms: &[u16], t: Row, v: u16) -> bool
+    ensures { λ r. ⌜ r ≡ valueSuits (now (terms .entry)) (t .0) v ⌝ }
+{
+    let p = state::is_prop(terms, t);
+    !p | (v <= 1)
+}
+
+// ---- premises, a column at a time: each says what one more column in front makes of the test of the rest
+
+fn more_on(work: &[u64], w: usize, n: usize, count: usize, p: u16, rest: bool) -> bool
+    requires { ⌜ Laid w n (now work) count ⌝ }
+    ensures { λ r. ⌜ ((xs : List ℕ) → rest ≡ all (on (trailIn w n (now (work .entry)) count)) (filled xs) → r ≡ all (on (trailIn w n (now (work .entry)) count)) (filled (p ∷ xs))) ⌝ }
+{
+    if p == BLANK {
+        return true;
+    }
+    let s = state::stands(work, w, n, count, Row(p));
+    s & rest
+}
+
+// Whether every premise stands on the trail.
+fn all_on(work: &[u64], w: usize, n: usize, count: usize, x: Step) -> bool
+    requires { ⌜ Laid w n (now work) count ⌝ }
+    ensures { λ r. ⌜ r ≡ all (on (trailIn w n (now (work .entry)) count)) (premises x) ⌝ }
+{
+    let t = more_on(work, w, n, count, x.t, true);
+    let s = more_on(work, w, n, count, x.s, t);
+    let r = more_on(work, w, n, count, x.r, s);
+    let q = more_on(work, w, n, count, x.q, r);
+    more_on(work, w, n, count, x.p, q)
+}
+
+fn more_level(work: &[u64], w: usize, n: usize, count: usize, p: u16, rest: u64) -> u64
+    requires { ⌜ Laid w n (now work) count ⌝ }
+    ensures { λ r. ⌜ ((xs : List ℕ) → rest ≡ levelOf (trailIn w n (now (work .entry)) count) (has (filled xs)) → r ≡ levelOf (trailIn w n (now (work .entry)) count) (has (filled (p ∷ xs)))) ⌝ }
+{
+    if p == BLANK {
+        return 0;
+    }
+    let l = state::level_at(work, w, n, count, Row(p));
+    trail::larger(l.0, rest)
+}
+
+// The level of the premises as a set.
+fn premises_level(work: &[u64], w: usize, n: usize, count: usize, x: Step) -> Level
+    requires { ⌜ Laid w n (now work) count ⌝ }
+    ensures { λ r. ⌜ r .0 ≡ levelOf (trailIn w n (now (work .entry)) count) (has (premises x)) ⌝ }
+{
+    let t = more_level(work, w, n, count, x.t, 0);
+    let s = more_level(work, w, n, count, x.s, t);
+    let r = more_level(work, w, n, count, x.r, s);
+    let q = more_level(work, w, n, count, x.q, r);
+    Level(more_level(work, w, n, count, x.p, q))
+}
+
+// A premise column with its value on the trail.
+fn premise(work: &[u64], w: usize, n: usize, count: usize, p: u16) -> Premise
+    requires { ⌜ Laid w n (now work) count ⌝ }
+    ensures { λ r. ⌜ r ≡ valued (valueAt (trailIn w n (now (work .entry)) count)) p ⌝ }
+{
+    Premise {
+        row: p,
+        value: state::value_at(work, w, n, count, Row(p)),
+    }
+}
+
+// What the row claims: its term, its value, and its premises with their values on the trail.
+fn claim(work: &[u64], w: usize, n: usize, count: usize, x: Step) -> Claim
+    requires { ⌜ Laid w n (now work) count ⌝ }
+    ensures { λ r. ⌜ Claims (trailIn w n (now (work .entry)) count) x r ⌝ }
+{
+    Claim {
+        term: x.term,
+        value: x.value,
+        p: premise(work, w, n, count, x.p),
+        q: premise(work, w, n, count, x.q),
+        r: premise(work, w, n, count, x.r),
+        s: premise(work, w, n, count, x.s),
+        t: premise(work, w, n, count, x.t),
+    }
+}
+
+// ---- the numbers
+
+// Numbers 22 and 14.
+fn decide_number(terms: &[u16], work: &[u64], w: usize, n: usize, count: usize, t: Row, v: u16) -> u16
+    requires { ⌜ Laid w n (now work) count ⌝ }
+    ensures { λ r. ⌜ r ≡ decideNumber (now (terms .entry)) (trailIn w n (now (work .entry)) count) (t .0) v ⌝ }
+{
+    if !value_suits(terms, t, v) {
+        return 22;
+    }
+    if state::stands(work, w, n, count, t) {
+        return 14;
+    }
+    0
+}
+
+// Numbers 22, 12, 13, which deduce and clash share.
+fn inference_number(terms: &[u16], work: &[u64], w: usize, n: usize, count: usize, x: Step) -> u16
+    requires { ⌜ Laid w n (now work) count ⌝ }
+    ensures { λ r. ⌜ r ≡ inferenceNumber (now (terms .entry)) (trailIn w n (now (work .entry)) count) (x .rule) (x .term) (x .value) (premises x) 0 ⌝ }
+{
+    if !state::is_prop(terms, Row(x.term)) {
+        return 22;
+    }
+    if !all_on(work, w, n, count, x) {
+        return 12;
+    }
+    let fit = rules::test(terms, rows::rule_of(x.rule), claim(work, w, n, count, x));
+    let Fit::Fits = fit else {
+        return 13;
+    };
+    0
+}
+
+// Numbers 22, 12, 13, 14, 15.
+fn deduce_number(terms: &[u16], work: &[u64], w: usize, n: usize, count: usize, x: Step) -> u16
+    requires { ⌜ Laid w n (now work) count ⌝ }
+    ensures { λ r. ⌜ r ≡ deduceNumber (now (terms .entry)) (trailIn w n (now (work .entry)) count) (x .rule) (x .term) (x .value) (premises x) ⌝ }
+{
+    let c = inference_number(terms, work, w, n, count, x);
+    if c != 0 {
+        return c;
+    }
+    if state::has_value(work, w, n, count, Row(x.term), x.value) {
+        return 14;
+    }
+    if state::stands(work, w, n, count, Row(x.term)) {
+        return 15;
+    }
+    0
+}
+
+// Numbers 22, 12, 13, 16.
+fn clash_number(terms: &[u16], work: &[u64], w: usize, n: usize, count: usize, x: Step) -> u16
+    requires { ⌜ Laid w n (now work) count ⌝ }
+    ensures { λ r. ⌜ r ≡ clashNumber (now (terms .entry)) (trailIn w n (now (work .entry)) count) (x .rule) (x .term) (x .value) (premises x) ⌝ }
+{
+    let c = inference_number(terms, work, w, n, count, x);
+    if c != 0 {
+        return c;
+    }
+    if !state::has_value(work, w, n, count, Row(x.term), state::opposite(x.value)) {
+        return 16;
+    }
+    0
+}
