@@ -1,0 +1,4 @@
+-- The claim is proved of every call, and an interpretation exists for every sheet.
+pub mod Witness
+pub mod Rows
+pub mod Values
