@@ -2,3 +2,5 @@
 pub mod Witness
 pub mod Rows
 pub mod Values
+pub mod Premises
+pub mod Inferences
