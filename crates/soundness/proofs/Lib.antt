@@ -4,3 +4,6 @@ pub mod Rows
 pub mod Values
 pub mod Premises
 pub mod Inferences
+pub mod Invariant
+pub mod Steps
+pub mod Theorem
