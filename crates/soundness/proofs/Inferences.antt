@@ -3,26 +3,26 @@ use mathlib.Core.Path.{_≡_, refl, sym, ap, subst, _∙_}
 use mathlib.Core.Logic.{_≢_, _↔_, _⊎_, inl, inr}
 use mathlib.Core.Bool.{Bool, true, false, not, _&&_, _||_, cond}
 use mathlib.Core.List.{List, [], _∷_, map, List·Memᴰ, List·Memᴰ·head, List·Memᴰ·tail, Memᴰ·map, Memᴰ·of-map}
-use Prim.Native.Nat.{ℕ, zero, suc, _+_, _-_, _≤_, _<_}
+use Prim.Native.Nat.{ℕ, _+_, _-_, _≤_, _<_}
 use native.Mathlib.Omega.{arith}
 use native.Mathlib.Decide.{ℕ-discrete}
 use lib.ListN.{getD}
-use lib.Dec.{T, eqb, leb, eqb→eq, eqb-refl}
+use lib.Dec.{T, eqb, eqb→eq, eqb-refl}
 use Rattle.calculus.specs.declared.Head.{Head}
 use Rattle.calculus.specs.declared.Head.the-variants.{Equality, Negation, Conjunction, Disjunction, Select, Store, Free, Unlisted}
 use Rattle.calculus.specs.declared.Premise.{Premise}
 use Rattle.calculus.specs.declared.Rule.{Rule}
 use Rattle.calculus.specs.declared.Rule.the-variants.{Same, Differ, Reflexivity, Symmetry, Transitivity, Negated, Part, Unit, Evaluation, Congruence, Predicate, Read, Skip}
-use Rattle.calculus.specs.Lists.{all, any, has, eqList, num, isTrue}
+use Rattle.calculus.specs.Lists.{has, eqList, num, isTrue}
 use Rattle.calculus.specs.Sheets.{blank, termRows}
 use Rattle.calculus.specs.Sorts.{indexSort, valueSort}
 use Rattle.calculus.specs.Terms.{head, sort, args, arg, headOf, eqHead, notHead, andHead, orHead, selectHead, storeHead, firstFree}
-use Rattle.calculus.specs.Rules.{rowOf, valueOf, notOf, andOf, orOf, evaluates, isHead, equates, pairs, connected, unitAt, fits}
+use Rattle.calculus.specs.Rules.{rowOf, valueOf, notOf, andOf, orOf, equates, pairs, connected, unitAt, fits}
 use Rattle.calculus.proofs.Facts.{and-l, and-r, or-cases, all-at, all-of, any-at, any-of, has-at, facts, T-true, T-false}
 use Rattle.soundness.specs.Interpretation.{Interpretation, meaning, value, Endorses}
-use Rattle.soundness.proofs.Rows.{WellSorted, IsEquality, IsSelect, IsStore, IsConnective, eqList-eq, arg-first, array-not-prop, free-head, free-sort, row-listed, Connective, row-args, is-equality, is-connective, is-select, is-store}
+use Rattle.soundness.proofs.Rows.{WellSorted, IsConnective, eqList-eq, arg-first, array-not-prop, free-head, free-sort, row-listed, Connective, row-args, is-equality, is-connective, is-select, is-store}
 use Rattle.soundness.proofs.Values.{value-is, equality-value, not-value, and-value, or-value, select-value, store-value, prop-isTrue, prop-le, domain}
-use Rattle.soundness.proofs.Premises.{Single, Double, Leading, bare-is, single-is, double-is, leading-is, Among, unit-others}
+use Rattle.soundness.proofs.Premises.{bare-is, single-is, double-is, leading-is, Among, unit-others}
 
 -- ---- truth values as numbers
 
@@ -440,10 +440,10 @@ module _ {ss ts : List ℕ} (W : WellSorted ss ts) (M : Interpretation ss ts) wh
         let vs = select-value W M s ks (ap headOf es) in
         let va = store-value W M a ka (ap headOf ea) in
         let law =
-            M .read-stored (sort ts a) (value M (arg ts a 0)) (value M (arg ts a 1)) (value M (arg ts a 2))
-            (qa .isArraySort) (d .0) (d .1) (d .2) in
+        M .read-stored (sort ts a) (value M (arg ts a 0)) (value M (arg ts a 1)) (value M (arg ts a 2))
+        (qa .isArraySort) (d .0) (d .1) (d .2) in
         let q : value M s ≡ value M (arg ts l 1) =
-            vs ∙ (λ i. M .select (sort ts a) (va i) (value M (ei i))) ∙ law ∙ (λ i. value M (sym ev i)) in
+        vs ∙ (λ i. M .select (sort ts a) (va i) (value M (ei i))) ∙ law ∙ (λ i. value M (sym ev i)) in
         eq-true l k e q ∙ sym x
 
     skip-sound : T (fits ts Skip l v ps) → value M l ≡ v
@@ -482,11 +482,11 @@ module _ {ss ts : List ℕ} (W : WellSorted ss ts) (M : Interpretation ss ts) wh
         let differ = false-eq p (K _ m) ep (hold _ m (qp .isProp) ∙ w) in
         let pa = array-not-prop ss (sort ts a) (qa .isArraySort) in
         let dj : M .Domain (indexSort ss (sort ts a)) (value M (arg ts s 1)) =
-            rw (qs .indexed) at (domain W M (arg ts s 1) (omega (arith, qs .index)) (omega (arith, qs .indexed))) in
+        rw (qs .indexed) at (domain W M (arg ts s 1) (omega (arith, qs .index)) (omega (arith, qs .indexed))) in
         let law =
-            M .read-other (sort ts a) (value M (arg ts a 0)) (value M (arg ts a 1)) (value M (arg ts s 1)) (value M (arg ts a 2))
-            (qa .isArraySort) (d .0) (d .1) dj (d .2)
-            (λ y. differ (ap (value M) ei ∙ y ∙ sym (ap (value M) ek))) in
+        M .read-other (sort ts a) (value M (arg ts a 0)) (value M (arg ts a 1)) (value M (arg ts s 1)) (value M (arg ts a 2))
+        (qa .isArraySort) (d .0) (d .1) dj (d .2)
+        (λ y. differ (ap (value M) ei ∙ y ∙ sym (ap (value M) ek))) in
         let al = qa .alike in
         let q : value M s ≡ value M r = cc in
         eq-true l k e q ∙ sym x

@@ -1,15 +1,14 @@
 -- The invariant of a trail and of a conflict, and how it is kept where the trail grows and where it is cut.
 use mathlib.Core.Path.{_≡_, refl, sym, ap, subst, _∙_}
 use mathlib.Core.Logic.{_≢_, _⊎_, inl, inr}
-use mathlib.Core.Bool.{Bool, true, false}
-use mathlib.Core.List.{List, [], _∷_, List·Memᴰ, List·Memᴰ·tail, List·Memᴰ·cases-cons}
-use Prim.Native.Nat.{ℕ, _+_, _≤_, _<_}
+use mathlib.Core.Bool.{true, false}
+use mathlib.Core.List.{List, _∷_, List·Memᴰ, List·Memᴰ·tail, List·Memᴰ·cases-cons}
+use Prim.Native.Nat.{ℕ, _≤_}
 use native.Mathlib.Omega.{arith}
-use Rattle.calculus.specs.Sheets.{termRows}
 use Rattle.calculus.specs.Terms.{sort}
-use Rattle.calculus.specs.Trail.{Set, Trail, Entry, on, entry, levelAt, whyAt, levelOf, keptTo, decision, justified}
+use Rattle.calculus.specs.Trail.{Set, Trail, Entry, entry, levelAt, whyAt, levelOf, keptTo, decision, justified}
 use Rattle.calculus.specs.Reached.{Reached}
-use Rattle.calculus.proofs.Facts.{T-true, true-T, is-or-not, true-or-false}
+use Rattle.calculus.proofs.Facts.{true-T, is-or-not, true-or-false}
 use Rattle.calculus.proofs.Entries.{entered-on, entry-in, level-ge, kept-in, kept-out}
 use Rattle.calculus.proofs.Reached.{why-reached, decided-high, one-entry}
 use Rattle.soundness.specs.Interpretation.{Interpretation, value, Assignments, Endorses}
@@ -111,7 +110,7 @@ module _ (ss ts : List ℕ) (Input : Assignments) where
       let o = kept-out m tr e k in
       let f = A e (o .0) in
       let low : (x : Entry) → List·Memᴰ x tr → e .why (x .term) ≡ true → x .level ≤ m
-          = λ x j h. let b = why-low tr r e (o .0) x j h in omega (arith, o .1) in
+      = λ x j h. let b = why-low tr r e (o .0) x j h in omega (arith, o .1) in
       record {
         truth = f .truth;
         given = f .given;

@@ -2,21 +2,20 @@
 use mathlib.Core.Path.{_≡_, refl, sym, ap, subst, _∙_}
 use mathlib.Core.Logic.{_≢_, _⊎_, inl, inr}
 use mathlib.Core.Bool.{Bool, true, false, not, _&&_, _||_, cond}
-use mathlib.Core.List.{List, [], _∷_, map, List·Memᴰ, List·Memᴰ·head, List·Memᴰ·tail, List·Memᴰ·cases-cons, List·Memᴰ·not-nil, Memᴰ·cast}
+use mathlib.Core.List.{List, [], _∷_, List·Memᴰ, List·Memᴰ·head, List·Memᴰ·tail, List·Memᴰ·cases-cons, List·Memᴰ·not-nil, Memᴰ·cast}
 use Prim.Native.Nat.{ℕ, zero, suc, _+_, _*_, _≤_, _<_}
 use native.Mathlib.Omega.{arith}
 use native.Mathlib.Nat.{not-suc-le-zero, le-of-suc-le-suc}
 use native.Mathlib.Decide.{decLt}
 use lib.ListN.{length, getD, drop}
-use lib.Dec.{T, eqb, leb, ltb, eqb→eq, leb→le, ltb→lt, nltb→le, lt→ltb, eqb-refl, T-not}
+use lib.Dec.{T, eqb, leb, ltb, eqb→eq, ltb→lt, nltb→le, lt→ltb, eqb-refl, T-not}
 use Rattle.calculus.specs.declared.Head.{Head}
 use Rattle.calculus.specs.declared.Head.the-variants.{Equality, Negation, Conjunction, Disjunction, Select, Store, Free, Unlisted}
 use Rattle.calculus.specs.Lists.{all, eqList, firstWhere}
-use Rattle.calculus.specs.Numbers.{unless}
 use Rattle.calculus.specs.Sheets.{blank, termRows}
 use Rattle.calculus.specs.Sorts.{indexSort, valueSort, isArray}
 use Rattle.calculus.specs.Terms.{head, sort, cells, filled, leftFilled, args, arg, prop, headOf, firstFree, earlier, sameUse, firstUse, suits, termNumber, termsNumber}
-use Rattle.calculus.proofs.Facts.{and-l, and-r, or-cases, all-at, facts, neq, T-true, T-false, false-T, unless-ok, first-ok}
+use Rattle.calculus.proofs.Facts.{and-l, and-r, or-cases, all-at, facts, neq, T-true, false-T, unless-ok, first-ok}
 
 -- ---- lists
 

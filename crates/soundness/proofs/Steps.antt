@@ -1,12 +1,12 @@
 -- Every step keeps the invariant, and a step that refutes does so rightly.
 use mathlib.Core.Path.{_≡_, refl, sym, ap, subst, _∙_}
 use mathlib.Core.Logic.{_≢_, _⊎_, inl, inr}
-use mathlib.Core.Bool.{Bool, true, false, not, _&&_, _||_}
-use mathlib.Core.List.{List, [], _∷_, map, List·Memᴰ, List·Memᴰ·head, List·Memᴰ·tail, Memᴰ·of-map}
-use Prim.Native.Nat.{ℕ, _+_, _-_, _≤_, _<_}
+use mathlib.Core.Bool.{Bool, true, false, not, _||_}
+use mathlib.Core.List.{List, _∷_, List·Memᴰ, List·Memᴰ·head, List·Memᴰ·tail, Memᴰ·of-map}
+use Prim.Native.Nat.{ℕ, _-_, _≤_, _<_}
 use native.Mathlib.Omega.{arith}
 use native.Mathlib.Decide.{ℕ-discrete}
-use lib.Dec.{T, eqb, leb, ltb, eqb→eq, leb→le, ltb→lt, not-T}
+use lib.Dec.{T, eqb, leb, ltb, eqb→eq, leb→le, ltb→lt}
 use Rattle.calculus.specs.declared.Step.{Step}
 use Rattle.calculus.specs.declared.Kind.{Kind}
 use Rattle.calculus.specs.declared.Kind.the-variants.{Decide, Deduce, Clash, Resolve, Clear, Jump, Flip, Unlisted}
@@ -14,12 +14,12 @@ use Rattle.calculus.specs.declared.Premise.{Premise}
 use Rattle.calculus.specs.Lists.{all, has, opposite}
 use Rattle.calculus.specs.Sheets.{termRows}
 use Rattle.calculus.specs.Terms.{sort, prop}
-use Rattle.calculus.specs.Trail.{Set, Trail, Entry, remove, union, on, entry, valueAt, levelAt, decidedAt, whyAt, assigned, premisesAt, levelOf, keptTo, decision, justified}
+use Rattle.calculus.specs.Trail.{Set, Trail, Entry, remove, union, on, entry, valueAt, decidedAt, whyAt, assigned, premisesAt, levelOf, keptTo}
 use Rattle.calculus.specs.Inputs.{valueSuits}
 use Rattle.calculus.specs.Rules.{rowOf, valueOf, fits, ruleOf}
-use Rattle.calculus.specs.Steps.{State, searching, conflict, trailOf, conflictOf, inConflict, Answer, allowed, refuted, refused, answer, premises, shaped, inferenceShaped, ready, needsConflict, known, kindOf, decide, decideNumber, inferenceNumber, deduce, deduceNumber, clashSet, clashed, clash, clashNumber, resolve, resolveNumber, clear, clearNumber, jumped, jump, jumpNumber, flipped, flip, flipNumber, rowNumber, stepBy, step}
+use Rattle.calculus.specs.Steps.{State, searching, conflict, trailOf, conflictOf, inConflict, Answer, allowed, refuted, refused, answer, premises, shaped, ready, known, kindOf, decide, decideNumber, inferenceNumber, deduce, deduceNumber, clashSet, clashed, clash, clashNumber, resolve, resolveNumber, clear, jump, jumpNumber, flip, rowNumber, stepBy, step}
 use Rattle.calculus.specs.Reached.{Within, Reached, ReachedState}
-use Rattle.calculus.proofs.Facts.{and-l, and-r, or-cases, T-true, true-T, T-false, true-or-false, both-true, one-true, is-or-not, cond-case, all-at, has-at, has-of, facts, neq, unless-ok, answer-case}
+use Rattle.calculus.proofs.Facts.{and-l, and-r, or-cases, T-true, true-T, T-false, true-or-false, is-or-not, cond-case, all-at, has-of, facts, neq, unless-ok, answer-case}
 use Rattle.calculus.proofs.Entries.{entry-in}
 use Rattle.calculus.proofs.Reached.{one-entry, kept-reached}
 use Rattle.soundness.specs.Interpretation.{Interpretation, value, Assignments, Endorses}
@@ -27,7 +27,7 @@ use Rattle.soundness.specs.Claim.{OnTrail, Together}
 use Rattle.soundness.proofs.Rows.{WellSorted}
 use Rattle.soundness.proofs.Values.{prop-le}
 use Rattle.soundness.proofs.Inferences.{rule-sound}
-use Rattle.soundness.proofs.Invariant.{Valid, AllValid, Unendorsed, extend, part-of, beside, on-kept, level-low, push-valid, kept-valid, at-base, justified-valid, decision-valid}
+use Rattle.soundness.proofs.Invariant.{AllValid, Unendorsed, extend, part-of, beside, on-kept, level-low, push-valid, kept-valid, at-base, justified-valid, decision-valid}
 
 -- a value that suits a prop is false or true
 pub value-small : (ts : List ℕ) (t v : ℕ) → T (valueSuits ts t v) → sort ts t ≡ 0 → v ≤ 1

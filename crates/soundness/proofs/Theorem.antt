@@ -1,25 +1,24 @@
 -- Demand 3: the claim holds of every call, whatever its sheets hold and whoever wrote the log.
 use mathlib.Core.Path.{_≡_, refl}
 use mathlib.Core.Logic.{inl}
-use mathlib.Core.Bool.{Bool, not, _&&_}
-use mathlib.Core.List.{List, [], List·Memᴰ·not-nil}
+use mathlib.Core.Bool.{not}
+use mathlib.Core.List.{List, List·Memᴰ·not-nil}
 use Prim.Native.Nat.{ℕ, zero, suc, _≤_, _<_}
 use native.Mathlib.Omega.{arith}
 use lib.Dec.{eqb}
-use Rattle.calculus.specs.declared.Verdict.the-variants.{Open, Refuted, Refused}
 use Rattle.calculus.specs.Sheets.{blank, Call, termRows, inputRows, stepRows, lengthNumber}
 use Rattle.calculus.specs.Sorts.{sortsNumber}
 use Rattle.calculus.specs.Terms.{termsNumber}
 use Rattle.calculus.specs.Inputs.{given, inputTerm, inputValue, inputTrail, inputNumber, inputsNumber}
 use Rattle.calculus.specs.Steps.{State, trailOf, Answer, allowed, refuted, refused, stepAt, step}
-use Rattle.calculus.specs.Run.{Ending, follow, run, sheetsNumber, callNumber, start, endingOf, ending, verdictNumber, outcomeOf, outcome}
+use Rattle.calculus.specs.Run.{Ending, follow, run, sheetsNumber, callNumber, start, endingOf, ending, verdictNumber, outcome}
 use Rattle.calculus.specs.Reached.{ReachedState}
 use Rattle.calculus.proofs.Facts.{and-r, unless-ok, orElse-ok, first-ok}
 use Rattle.calculus.proofs.Reached.{step-reached, input-reached}
 use Rattle.soundness.specs.Interpretation.{Interpretation, Endorses}
 use Rattle.soundness.specs.Claim.{Given, Sound}
 use Rattle.soundness.proofs.Rows.{WellSorted, well-sorted}
-use Rattle.soundness.proofs.Invariant.{Valid, AllValid, push-valid}
+use Rattle.soundness.proofs.Invariant.{AllValid, push-valid}
 use Rattle.soundness.proofs.Steps.{Good, GoodAnswer, good-search, step-good, value-small}
 
 -- what is to be shown of a run's end
@@ -76,7 +75,7 @@ ending-sound x = go (callNumber x) refl
         let c = orElse-ok (termsNumber (x .sorts) (x .terms)) _ (b .1) in
         let W = well-sorted (x .sorts) (x .terms) (c .0) in
         let h : (k : ℕ) → k < inputRows (x .inputs) → inputNumber (x .terms) (x .inputs) k ≡ 0
-            = λ k l. first-ok (inputRows (x .inputs)) (inputNumber (x .terms) (x .inputs)) k (c .1) l in
+        = λ k l. first-ok (inputRows (x .inputs)) (inputNumber (x .terms) (x .inputs)) k (c .1) l in
         run-sound W (x .inputs) (x .steps) (start x) 0 (stepRows (x .steps))
         (input-reached (x .terms) (x .inputs) (inputRows (x .inputs)) h)
         (good-search W (Given (x .inputs)) (input-valid (x .sorts) (x .terms) (x .inputs) (inputRows (x .inputs)) (omega arith) h))

@@ -1,9 +1,9 @@
 -- The value of a row: its equation by the head, that a prop's is 0 or 1, and that any other row's lies in its sort's domain.
 use mathlib.Core.Path.{_≡_, refl, sym, ap, _∙_}
 use mathlib.Core.Logic.{_≢_}
-use mathlib.Core.Bool.{Bool, true, false, not, _&&_, cond}
-use mathlib.Core.List.{List, [], _∷_, _++_, map, List·Memᴰ, List·Memᴰ·head, List·Memᴰ·tail}
-use Prim.Native.Nat.{ℕ, zero, suc, _+_, _≤_, _<_}
+use mathlib.Core.Bool.{Bool, true, false, not}
+use mathlib.Core.List.{List, [], _∷_, map, List·Memᴰ, List·Memᴰ·head, List·Memᴰ·tail}
+use Prim.Native.Nat.{ℕ, zero, suc, _≤_, _<_}
 use native.Mathlib.Omega.{arith}
 use native.Mathlib.Nat.{not-suc-le-zero, le-of-suc-le-suc}
 use native.Mathlib.Decide.{decLt}
@@ -19,7 +19,7 @@ use Rattle.calculus.specs.Terms.{head, sort, args, arg, prop, headOf, suits}
 use Rattle.calculus.specs.Rules.{andOf, orOf}
 use Rattle.calculus.proofs.Facts.{all-at, facts, neq, T-false}
 use Rattle.soundness.specs.Interpretation.{InDomains, Interpretation, meaning, values, value}
-use Rattle.soundness.proofs.Rows.{WellSorted, IsEquality, IsSelect, IsStore, arg-is, array-not-prop, row-suits, row-args, is-equality, is-select, is-store, not-count}
+use Rattle.soundness.proofs.Rows.{WellSorted, arg-is, array-not-prop, row-suits, row-args, is-equality, is-select, is-store, not-count}
 
 getD-map : (f : ℕ → ℕ) (l : List ℕ) (k d e : ℕ) → k < length l → getD (map f l) k e ≡ f (getD l k d)
 getD-map f [] k d e h = absurd (not-suc-le-zero h)
@@ -177,7 +177,7 @@ module _ {ss ts : List ℕ} (W : WellSorted ss ts) (M : Interpretation ss ts) wh
           let p = array-not-prop ss s (r .isArraySort) in
           let a : M .Domain s (value M (arg ts t 0)) = earlier _ (r .array) (omega arith) in
           let i : M .Domain (indexSort ss s) (value M (arg ts t 1)) =
-              rw (r .indexed) at (earlier _ (r .index) (omega (arith, r .indexed))) in
+          rw (r .indexed) at (earlier _ (r .index) (omega (arith, r .indexed))) in
           rw (r .result, select-value t l e) (M .select-closed _ _ _ (r .isArraySort) a i)
       go Store e h =
           let r = is-store W t l e in
@@ -185,15 +185,15 @@ module _ {ss ts : List ℕ} (W : WellSorted ss ts) (M : Interpretation ss ts) wh
           let p = array-not-prop ss s (r .isArraySort) in
           let a : M .Domain s (value M (arg ts t 0)) = rw (r .alike) at (earlier _ (r .array) (omega (arith, r .alike))) in
           let i : M .Domain (indexSort ss s) (value M (arg ts t 1)) =
-              rw (r .indexed) at (earlier _ (r .index) (omega (arith, r .indexed))) in
+          rw (r .indexed) at (earlier _ (r .index) (omega (arith, r .indexed))) in
           let v : M .Domain (valueSort ss s) (value M (arg ts t 2)) =
-              rw (r .stored) at (earlier _ (r .element) (omega (arith, r .stored))) in
+          rw (r .stored) at (earlier _ (r .element) (omega (arith, r .stored))) in
           rw (store-value t l e) (M .store-closed _ _ _ _ (r .isArraySort) a i v)
       go Free e h =
           let q : T (all (λ (a : ℕ). not (prop ts a)) (args ts t)) = search facts in
           let w =
-              in-domains (args ts t)
-              (λ a m. earlier a (row-args W t l a m) (neq _ _ (all-at (λ (a : ℕ). not (prop ts a)) (args ts t) q m))) in
+          in-domains (args ts t)
+          (λ a m. earlier a (row-args W t l a m) (neq _ _ (all-at (λ (a : ℕ). not (prop ts a)) (args ts t) q m))) in
           let n : prop ts t ≡ false = not-prop (sort ts t) z in
           rw (as-head t Free l e, n) (M .closed t l e z _ w)
       go Unlisted e h = absurd h

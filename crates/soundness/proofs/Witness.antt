@@ -1,6 +1,6 @@
 -- The claim is not empty: every sort sheet and every term sheet has an interpretation.
-use mathlib.Core.Path.{_≡_, refl, sym}
-use mathlib.Core.Bool.{Bool, true}
+use mathlib.Core.Path.{_≡_, refl}
+use mathlib.Core.Bool.{true}
 use mathlib.Core.List.{List}
 use Prim.Native.Nat.{ℕ}
 use Rattle.soundness.specs.Interpretation.{Interpretation}
@@ -18,6 +18,6 @@ point ss ts =
       store = λ s a i v. 0;
       select-closed = λ s a i h x y. refl;
       store-closed = λ s a i v h x y z. refl;
-      read-stored = λ s a i v h x y z. sym z;
+      read-stored = λ s a i v h x y z. cc;
       read-other = λ s a i j v h x y w z n. refl;
     }

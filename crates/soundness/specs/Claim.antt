@@ -1,16 +1,15 @@
 -- What a run claims: the sets of assignments that the claim speaks of, and the claim (demand 3) about a call.
 use mathlib.Core.Path.{_≡_}
 use mathlib.Core.Logic.{_⊎_}
-use mathlib.Core.Bool.{Bool, true, false}
+use mathlib.Core.Bool.{true, false}
 use mathlib.Core.List.{List, List·Memᴰ}
 use Prim.Native.Nat.{ℕ, _<_}
-use Rattle.calculus.specs.declared.Outcome.{Outcome}
 use Rattle.calculus.specs.Sheets.{Call, inputRows}
 use Rattle.calculus.specs.Terms.{sort}
 use Rattle.calculus.specs.Trail.{Set, Trail, Entry}
 use Rattle.calculus.specs.Inputs.{inputTerm, inputValue}
 use Rattle.calculus.specs.Steps.{trailOf}
-use Rattle.calculus.specs.Run.{Ending, ending, outcome}
+use Rattle.calculus.specs.Run.{ending, outcome}
 use Rattle.soundness.specs.Interpretation.{Interpretation, value, Assignments, Endorses}
 
 -- ---- sets of assignments
