@@ -1,5 +1,4 @@
--- The claim is proved of every call, and an interpretation exists for every sheet.
-pub mod Witness
+-- The claim is proved of every call: rows and their values, the rules, the invariant, the steps, the theorem.
 pub mod Rows
 pub mod Values
 pub mod Premises
@@ -7,3 +6,4 @@ pub mod Inferences
 pub mod Invariant
 pub mod Steps
 pub mod Theorem
+pub mod Witness

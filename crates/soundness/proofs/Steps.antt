@@ -14,12 +14,12 @@ use Rattle.calculus.specs.declared.Premise.{Premise}
 use Rattle.calculus.specs.Lists.{all, has, opposite}
 use Rattle.calculus.specs.Sheets.{termRows}
 use Rattle.calculus.specs.Terms.{sort, prop}
-use Rattle.calculus.specs.Trail.{Set, Trail, Entry, remove, union, on, entry, valueAt, decidedAt, whyAt, assigned, premisesAt, levelOf, keptTo}
+use Rattle.calculus.specs.Trail.{Set, Trail, Entry, remove, on, entry, valueAt, decidedAt, whyAt, assigned, premisesAt, levelOf, keptTo, justified}
 use Rattle.calculus.specs.Inputs.{valueSuits}
 use Rattle.calculus.specs.Rules.{rowOf, valueOf, fits, ruleOf}
 use Rattle.calculus.specs.Steps.{State, searching, conflict, trailOf, conflictOf, inConflict, Answer, allowed, refuted, refused, answer, premises, shaped, ready, known, kindOf, decide, decideNumber, inferenceNumber, deduce, deduceNumber, clashSet, clashed, clash, clashNumber, resolve, resolveNumber, clear, jump, jumpNumber, flip, rowNumber, stepBy, step}
 use Rattle.calculus.specs.Reached.{Within, Reached, ReachedState}
-use Rattle.calculus.proofs.Facts.{and-l, and-r, or-cases, T-true, true-T, T-false, true-or-false, is-or-not, cond-case, all-at, has-of, facts, neq, unless-ok, answer-case}
+use Rattle.calculus.proofs.Facts.{and-l, and-r, or-l, or-r, or-cases, T-true, true-T, T-false, true-or-false, is-or-not, cond-case, all-at, has-of, facts, neq, unless-ok, answer-case}
 use Rattle.calculus.proofs.Entries.{entry-in}
 use Rattle.calculus.proofs.Reached.{one-entry, kept-reached}
 use Rattle.soundness.specs.Interpretation.{Interpretation, value, Assignments, Endorses}
@@ -27,7 +27,7 @@ use Rattle.soundness.specs.Claim.{OnTrail, Together}
 use Rattle.soundness.proofs.Rows.{WellSorted}
 use Rattle.soundness.proofs.Values.{prop-le}
 use Rattle.soundness.proofs.Inferences.{rule-sound}
-use Rattle.soundness.proofs.Invariant.{AllValid, Unendorsed, extend, part-of, beside, on-kept, level-low, push-valid, kept-valid, at-base, justified-valid, decision-valid}
+use Rattle.soundness.proofs.Invariant.{Valid, AllValid, Unendorsed, extend, part-of, beside, on-kept, level-low, push-valid, kept-valid, at-base, justified-valid, decision-valid}
 
 -- a value that suits a prop is false or true
 pub value-small : (ts : List ℕ) (t v : ℕ) → T (valueSuits ts t v) → sort ts t ≡ 0 → v ≤ 1
@@ -123,32 +123,37 @@ module _ {ss ts : List ℕ} (W : WellSorted ss ts) (Input : Assignments) where
       good-answer _ _ (λ e.
       let F = inference tr r l v ps _ k s q e .0 in
       good-search (push-valid ss ts Input _ tr A
-      (justified-valid ss ts Input tr l v (has ps) i A (F .isProp) s (inferred tr r l v ps (has ps) F (λ p m. T-true _ (has-of m))))))
+      (justified-valid ss ts Input tr l v _ i A (F .isProp) s (inferred tr r l v ps _ F (λ p m. T-true _ (has-of m))))))
 
-  -- premises and opposite are endorsed together by nothing
-  clash-never : (tr : Trail) (r l v : ℕ) (ps : List ℕ) → Inference tr r l v ps → T (assigned tr l (opposite v))
-      → Unendorsed ss ts Input tr (clashSet l ps)
-  clash-never tr r l v ps F c M N =
-      let s = clashSet l ps in
-      let a : value M l ≡ v = inferred tr r l v ps s F (λ p m. T-true _ (has-of (List·Memᴰ·tail m))) M N in
-      let o : valueAt tr l ≡ 1 - v = eqb→eq _ _ (and-r (on tr l) _ c) in
+  -- a set that has the premises and the opposite is endorsed by nothing together with the input
+  clash-never : (tr : Trail) (r l v : ℕ) (ps : List ℕ) (E : Set) → Inference tr r l v ps → T (assigned tr l (opposite v))
+      → E l ≡ true → ((p : ℕ) → List·Memᴰ p ps → E p ≡ true) → Unendorsed ss ts Input tr E
+  clash-never tr r l v ps E F c h into M N =
+      let a : value M l ≡ v = inferred tr r l v ps E F into M N in
+      let o : valueAt tr l ≡ opposite v = eqb→eq _ _ (and-r (on tr l) _ c) in
       let q = entry-in tr l (and-l (on tr l) _ c) in
-      let h : s l ≡ true = T-true _ (has-of {xs = l ∷ ps} {x = l} (List·Memᴰ·head refl)) in
-      let b : value M l ≡ valueAt tr l = N .props l (valueAt tr l) (inr (entry tr l, q .0, ap s (q .1) ∙ h, q .1, refl)) (F .isProp) in
+      let b : value M l ≡ valueAt tr l = N .props l (valueAt tr l) (inr (entry tr l, q .0, ap E (q .1) ∙ h, q .1, refl)) (F .isProp) in
       let m = F .small in
       omega arith
 
+  -- at level 0 it refutes the input
+  clashed-good : (n : ℕ) (tr : Trail) (E : Set) → Reached n tr → AllValid ss ts Input tr → Unendorsed ss ts Input tr E → GoodAnswer (clashed tr E)
+  unfolding clashed
+  clashed-good n tr E i A never =
+      cond-case GoodAnswer (eqb (levelOf tr E) 0) refuted (allowed (conflict tr E))
+      (λ z M N. never M (at-base ss ts Input tr E i A (eqb→eq _ _ (true-T _ z)) M N))
+      (λ _. record { entries = A; conflicting = λ _. never })
+
   clash-good : (n : ℕ) (tr : Trail) (r l v : ℕ) (ps : List ℕ) → Reached n tr → AllValid ss ts Input tr → l < termRows ts → v ≤ 1
       → T (all (λ p. ltb p (termRows ts)) ps) → GoodAnswer (clash ts tr r l v ps)
-  unfolding clash clashNumber clashed
+  unfolding clash clashNumber
   clash-good n tr r l v ps i A k s q =
       good-answer _ _ (λ e.
       let f = inference tr r l v ps _ k s q e in
       let c = unless-ok _ 16 _ (omega arith) (f .1) .0 in
-      let E = clashSet l ps in
-      cond-case GoodAnswer (eqb (levelOf tr E) 0) refuted (allowed (conflict tr E))
-      (λ z M N. clash-never tr r l v ps (f .0) c M (at-base ss ts Input tr E i A (eqb→eq _ _ (true-T _ z)) M N))
-      (λ _. record { entries = A; conflicting = λ _. clash-never tr r l v ps (f .0) c }))
+      clashed-good n tr _ i A
+      (clash-never tr r l v ps (clashSet l ps) (f .0) c (T-true _ (has-of {xs = l ∷ ps} {x = l} (List·Memᴰ·head refl)))
+      (λ p m. T-true _ (has-of (List·Memᴰ·tail {x = l} m)))))
 
   -- ---- steps of a conflict
 
@@ -156,6 +161,10 @@ module _ {ss ts : List ℕ} (W : WellSorted ss ts) (Input : Assignments) where
       (never : Unendorsed ss ts Input tr E) where
     look : (a : ℕ) → E a ≡ true → List·Memᴰ (entry tr a) tr × ((entry tr a) .term ≡ a)
     look a h = entry-in tr a (true-T _ (inside a h))
+
+    -- a set in another, both on the trail
+    wider : (s r : Set) → ((t : ℕ) → s t ≡ true → r t ≡ true) → (t v : ℕ) → OnTrail tr s t v → OnTrail tr r t v
+    wider s r h t v b = (b .0, b .1, h (b .0 .term) (b .2), b .3, b .4)
 
     -- a member of E is a itself or one of the rest
     rest : (a : ℕ) → E a ≡ true → (e : Entry) → List·Memᴰ e tr → E (e .term) ≡ true → (e ≡ entry tr a) ⊎ (remove E a (e .term) ≡ true)
@@ -191,42 +200,69 @@ module _ {ss ts : List ℕ} (W : WellSorted ss ts) (Input : Assignments) where
         others t v (inl e) z = rw (e .0, e .1) (q (λ y. z (ap (sort ts) (e .0) ∙ y)))
         others t v (inr b) z = b
 
+    -- any set that has the rest of E and a's justification is endorsed by nothing together with the input
+    resolved : (a : ℕ) (E′ : Set) → E a ≡ true → decidedAt tr a ≡ false → ((t : ℕ) → remove E a t ≡ true → E′ t ≡ true)
+        → ((t : ℕ) → whyAt tr a t ≡ true → E′ t ≡ true) → Good (conflict tr E′)
+    resolved a E′ h d left right =
+        record {
+          entries = A;
+          conflicting = λ _ M N.
+              none-with a h M (Together Input (OnTrail tr E′)) N with-rest
+              (λ z. ap (value M) (sym (r .1)) ∙ f .entailed d (ap (sort ts) (r .1) ∙ z) M (beside Input _ _ (wider (whyAt tr a) E′ right) N))
+              (λ z. inl (subst (λ t. Input t (valueAt tr a)) (r .1) (f .given d (λ y. z (ap (sort ts) (sym (r .1)) ∙ y)))));
+        }
+      where
+        r : List·Memᴰ (entry tr a) tr × ((entry tr a) .term ≡ a)
+        r = look a h
+
+        f : Valid ss ts Input tr (entry tr a)
+        f = A (entry tr a) (r .0)
+
+        with-rest : (t v : ℕ) → Together Input (OnTrail tr (remove E a)) t v → Together Input (OnTrail tr E′) t v
+        with-rest t v (inl b) = inl b
+        with-rest t v (inr b) = inr (wider (remove E a) E′ left t v b)
+
     resolve-good : (a : ℕ) → GoodAnswer (resolve ts tr E a)
     unfolding resolve resolveNumber
     resolve-good a =
         good-answer _ _ (λ e.
         let b = unless-ok _ 17 _ (omega arith) e in
         let c = unless-ok _ 18 _ (omega arith) (b .1) in
-        record { entries = A; conflicting = λ _. resolved (T-true _ (b .0)) (T-false _ (c .0)) })
-      where
-        E′ : Set
-        E′ = union (remove E a) (whyAt tr a)
-
-        left : (t v : ℕ) → OnTrail tr (remove E a) t v → OnTrail tr E′ t v
-        left t v r = (r .0, r .1, rw (r .2) refl, r .3, r .4)
-
-        or-true : (b c : Bool) → c ≡ true → (b || c) ≡ true
-        or-true true c h = refl
-        or-true false c h = h
-
-        right : (t v : ℕ) → OnTrail tr (whyAt tr a) t v → OnTrail tr E′ t v
-        right t v r = (r .0, r .1, or-true (remove E a (r .0 .term)) _ (r .2), r .3, r .4)
-
-        with-rest : (t v : ℕ) → Together Input (OnTrail tr (remove E a)) t v → Together Input (OnTrail tr E′) t v
-        with-rest t v (inl b) = inl b
-        with-rest t v (inr b) = inr (left t v b)
-
-        resolved : E a ≡ true → decidedAt tr a ≡ false → Unendorsed ss ts Input tr E′
-        resolved h d M N =
-            let r = look a h in
-            let f = A (entry tr a) (r .0) in
-            none-with a h M (Together Input (OnTrail tr E′)) N with-rest
-            (λ z. ap (value M) (sym (r .1)) ∙ f .entailed d (ap (sort ts) (r .1) ∙ z) M (beside Input _ _ right N))
-            (λ z. inl (subst (λ t. Input t (valueAt tr a)) (r .1) (f .given d (λ y. z (ap (sort ts) (sym (r .1)) ∙ y)))))
+        resolved a _ (T-true _ (b .0)) (T-false _ (c .0))
+        (λ t q. T-true _ (or-l (remove E a t) _ (true-T _ q))) (λ t q. T-true _ (or-r (remove E a t) _ (true-T _ q))))
 
     clear-good : (a : ℕ) → GoodAnswer (clear ts tr E a)
     unfolding clear
     clear-good a = good-answer _ _ (λ e. good-search (kept-valid ss ts Input _ tr i A))
+
+    -- the rest of E entails the opposite of l
+    opposed : (l : ℕ) → l < termRows ts → E l ≡ true → sort ts l ≡ 0
+        → (M : Interpretation ss ts) → Endorses M (Together Input (OnTrail tr (remove E l))) → value M l ≡ opposite (valueAt tr l)
+    opposed l k h z M N = go (ℕ-discrete (value M l) (valueAt tr l))
+      where
+        go : Dec (value M l ≡ valueAt tr l) → value M l ≡ 1 - valueAt tr l
+        go (yes q) = absurd (none-with l h M _ N (λ t v b. b) (λ _. q) (λ y. absurd (y z)))
+        go (no q) =
+            let r = look l h in
+            let a : value M l ≤ 1 = prop-le W M l k z in
+            let b : valueAt tr l ≤ 1 = A (entry tr l) (r .0) .truth (ap (sort ts) (r .1) ∙ z) in
+            omega arith
+
+    -- and so does any set that has the rest, on the trail kept to that set's level or above
+    jumped-good : (l v m : ℕ) (s : Set) → l < termRows ts → E l ≡ true → sort ts l ≡ 0 → opposite (valueAt tr l) ≡ v → levelOf tr s ≤ m
+        → ((t : ℕ) → remove E l t ≡ true → s t ≡ true) → Good (searching (justified (keptTo m tr) l v s ∷ keptTo m tr))
+    jumped-good l v m s k h z o low has-rest =
+        good-search (push-valid ss ts Input _ (keptTo m tr) kept
+        (justified-valid ss ts Input (keptTo m tr) l v s (kept-reached m tr i) kept z (omega arith) entails))
+      where
+        kept : AllValid ss ts Input (keptTo m tr)
+        kept = kept-valid ss ts Input m tr i A
+
+        entails : (M : Interpretation ss ts) → Endorses M (Together Input (OnTrail (keptTo m tr) s)) → value M l ≡ v
+        entails M N =
+            let on-trail =
+            beside Input (OnTrail tr s) _ (on-kept m tr s (λ e q w. let g = level-low tr s e q w in omega arith)) N in
+            opposed l k h z M (beside Input _ _ (wider (remove E l) s has-rest) on-trail) ∙ o
 
     jump-good : (l : ℕ) → l < termRows ts → GoodAnswer (jump ts tr E l)
     unfolding jump jumpNumber
@@ -234,29 +270,7 @@ module _ {ss ts : List ℕ} (W : WellSorted ss ts) (Input : Assignments) where
         good-answer _ _ (λ e.
         let a = unless-ok _ 17 _ (omega arith) e in
         let b = unless-ok _ 22 _ (omega arith) (a .1) in
-        let h = T-true _ (a .0) in
-        let z : sort ts l ≡ 0 = eqb→eq _ _ (b .0) in
-        good-search (push-valid ss ts Input _ (keptTo m tr) (kept-valid ss ts Input m tr i A)
-        (justified-valid ss ts Input (keptTo m tr) l _ R (kept-reached m tr i) (kept-valid ss ts Input m tr i A) z (omega arith)
-        (λ M N. entails h z M (beside Input _ _ (on-kept m tr R (level-low tr R)) N)))))
-      where
-        R : Set
-        R = remove E l
-
-        m : ℕ
-        m = levelOf tr R
-
-        entails : E l ≡ true → sort ts l ≡ 0 → (M : Interpretation ss ts) → Endorses M (Together Input (OnTrail tr R))
-            → value M l ≡ opposite (valueAt tr l)
-        entails h z M N = go (ℕ-discrete (value M l) (valueAt tr l))
-          where
-            go : Dec (value M l ≡ valueAt tr l) → value M l ≡ 1 - valueAt tr l
-            go (yes q) = absurd (none-with l h M _ N (λ t v b. b) (λ _. q) (λ y. absurd (y z)))
-            go (no q) =
-                let r = look l h in
-                let a : value M l ≤ 1 = prop-le W M l k z in
-                let b : valueAt tr l ≤ 1 = A (entry tr l) (r .0) .truth (ap (sort ts) (r .1) ∙ z) in
-                omega arith
+        jumped-good l _ _ _ k (T-true _ (a .0)) (eqb→eq _ _ (b .0)) refl (omega arith) (λ t q. q))
 
     flip-good : (l k : ℕ) → GoodAnswer (flip ts tr E l k)
     unfolding flip
