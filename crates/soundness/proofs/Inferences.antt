@@ -139,42 +139,48 @@ module _ {ss ts : List ℕ} (W : WellSorted ss ts) (M : Interpretation ss ts) wh
   and-neutral : (t : ℕ) → t < termRows ts → headOf (head ts t) ≡ Conjunction → Neutral t 1
   and-neutral t l e = (each, whole)
     where
-      is : value M t ≡ num (andOf (map (value M) (args ts t)))
+      xs : List ℕ
+      xs = map (value M) (args ts t)
+
+      is : value M t ≡ num (andOf xs)
       is = and-value W M t l e
 
       each : value M t ≡ 1 → (a : ℕ) → List·Memᴰ a (args ts t) → value M a ≡ 1
-      each q a m = eqb→eq _ _ (all-at isTrue (map (value M) (args ts t)) (true-num (andOf (map (value M) (args ts t))) (sym is ∙ q)) (Memᴰ·map (value M) m))
+      each q a m = eqb→eq _ _ (all-at isTrue xs (true-num (andOf xs) (sym is ∙ q)) (Memᴰ·map (value M) m))
 
-      one : (x : ℕ) → ((a : ℕ) → List·Memᴰ a (args ts t) → value M a ≡ 1) → List·Memᴰ x (map (value M) (args ts t)) → T (isTrue x)
+      one : (x : ℕ) → ((a : ℕ) → List·Memᴰ a (args ts t) → value M a ≡ 1) → List·Memᴰ x xs → T (isTrue x)
       one x h m =
           let s = Memᴰ·of-map (value M) (args ts t) m in
           eqb-of x 1 (sym (s .2) ∙ h (s .0) (s .1))
 
       whole : ((a : ℕ) → List·Memᴰ a (args ts t) → value M a ≡ 1) → value M t ≡ 1
-      whole h = is ∙ num-true (andOf (map (value M) (args ts t))) (all-of isTrue (map (value M) (args ts t)) (λ x m. one x h m))
+      whole h = is ∙ num-true (andOf xs) (all-of isTrue xs (λ x m. one x h m))
 
   or-neutral : (t : ℕ) → t < termRows ts → headOf (head ts t) ≡ Disjunction → Neutral t 0
   or-neutral t l e = (each, whole)
     where
-      is : value M t ≡ num (orOf (map (value M) (args ts t)))
+      xs : List ℕ
+      xs = map (value M) (args ts t)
+
+      is : value M t ≡ num (orOf xs)
       is = or-value W M t l e
 
       each : value M t ≡ 0 → (a : ℕ) → List·Memᴰ a (args ts t) → value M a ≡ 0
       each q a m =
           let k : a < t = row-args W t l a m in
           prop-isTrue W M a (omega arith) (is-connective W t Disjunction l e tt .arguments a m)
-          ∙ num-false (isTrue (value M a)) (λ h. false-num (orOf (map (value M) (args ts t))) (sym is ∙ q) (any-of isTrue (Memᴰ·map (value M) m) h))
+          ∙ num-false (isTrue (value M a)) (λ h. false-num (orOf xs) (sym is ∙ q) (any-of isTrue (Memᴰ·map (value M) m) h))
+
+      none : ((a : ℕ) → List·Memᴰ a (args ts t) → value M a ≡ 0) → ((x : ℕ) × List·Memᴰ x xs × T (isTrue x)) → ⊥
+      none h r =
+          let s = Memᴰ·of-map (value M) (args ts t) (r .1) in
+          let z = h (s .0) (s .1) in
+          let o : r .0 ≡ 1 = eqb→eq _ _ (r .2) in
+          let u = s .2 in
+          omega arith
 
       whole : ((a : ℕ) → List·Memᴰ a (args ts t) → value M a ≡ 0) → value M t ≡ 0
-      whole h = is ∙ num-false (orOf (map (value M) (args ts t))) (λ y. none (any-at isTrue (map (value M) (args ts t)) y))
-        where
-          none : ((x : ℕ) × List·Memᴰ x (map (value M) (args ts t)) × T (isTrue x)) → ⊥
-          none r =
-              let s = Memᴰ·of-map (value M) (args ts t) (r .1) in
-              let z = h (s .0) (s .1) in
-              let o : r .0 ≡ 1 = eqb→eq _ _ (r .2) in
-              let u = s .2 in
-              omega arith
+      whole h = is ∙ num-false (orOf xs) (λ y. none h (any-at isTrue xs y))
 
   -- ---- the rules
 

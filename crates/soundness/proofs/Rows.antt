@@ -15,7 +15,7 @@ use Rattle.calculus.specs.Lists.{all, eqList, firstWhere}
 use Rattle.calculus.specs.Sheets.{blank, termRows}
 use Rattle.calculus.specs.Sorts.{indexSort, valueSort, isArray}
 use Rattle.calculus.specs.Terms.{head, sort, cells, filled, leftFilled, args, arg, prop, headOf, firstFree, earlier, sameUse, firstUse, suits, termNumber, termsNumber}
-use Rattle.calculus.proofs.Facts.{and-l, and-r, or-cases, all-at, facts, neq, T-true, false-T, unless-ok, first-ok}
+use Rattle.calculus.proofs.Facts.{and-l, and-r, or-cases, all-at, facts, neq, T-true, true-T, false-T, unless-ok, first-ok}
 
 -- ---- lists
 
@@ -49,7 +49,8 @@ unfolding firstWhere
 first-same p u zero h l = absurd (not-suc-le-zero l)
 first-same p u (suc n) h l = go (λ q. first-same p u n h q) (decLt u n) (first-le u p)
   where
-    last : u ≡ n → (b : Bool) → ltb (firstWhere n p) n ≡ b → firstWhere n p ≤ n → cond b (firstWhere n p) (cond (p n) n (suc n)) ≡ firstWhere n p
+    last : u ≡ n → (b : Bool) → ltb (firstWhere n p) n ≡ b → firstWhere n p ≤ n
+        → cond b (firstWhere n p) (cond (p n) n (suc n)) ≡ firstWhere n p
     last e true q g = refl
     last e false q g =
         let c : n ≤ firstWhere n p = nltb→le _ _ (false-T _ q) in
@@ -169,7 +170,7 @@ Connective Unlisted = ⊥
 pub array-not-prop : (ss : List ℕ) (s : ℕ) → isArray ss s ≡ true → (0 < s) × (0 < indexSort ss s) × (0 < valueSort ss s)
 unfolding isArray
 array-not-prop ss s e =
-    let h : T (ltb 0 (indexSort ss s) && ltb (indexSort ss s) s && (ltb 0 (valueSort ss s) && ltb (valueSort ss s) s)) = subst T (sym e) tt in
+    let h = true-T (isArray ss s) e in
     let a : 0 < indexSort ss s = search facts in
     let b : indexSort ss s < s = search facts in
     let c : 0 < valueSort ss s = search facts in

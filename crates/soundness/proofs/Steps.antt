@@ -1,7 +1,7 @@
 -- Every step keeps the invariant, and a step that refutes does so rightly.
 use mathlib.Core.Path.{_≡_, refl, sym, ap, subst, _∙_}
 use mathlib.Core.Logic.{_≢_, _⊎_, inl, inr}
-use mathlib.Core.Bool.{Bool, true, false, not, _||_}
+use mathlib.Core.Bool.{true, false, not}
 use mathlib.Core.List.{List, _∷_, List·Memᴰ, List·Memᴰ·head, List·Memᴰ·tail, Memᴰ·of-map}
 use Prim.Native.Nat.{ℕ, _-_, _≤_, _<_}
 use native.Mathlib.Omega.{arith}
@@ -11,7 +11,7 @@ use Rattle.calculus.specs.declared.Step.{Step}
 use Rattle.calculus.specs.declared.Kind.{Kind}
 use Rattle.calculus.specs.declared.Kind.the-variants.{Decide, Deduce, Clash, Resolve, Clear, Jump, Flip, Unlisted}
 use Rattle.calculus.specs.declared.Premise.{Premise}
-use Rattle.calculus.specs.Lists.{all, has, opposite}
+use Rattle.calculus.specs.Lists.{all, opposite}
 use Rattle.calculus.specs.Sheets.{termRows}
 use Rattle.calculus.specs.Terms.{sort, prop}
 use Rattle.calculus.specs.Trail.{Set, Trail, Entry, remove, on, entry, valueAt, decidedAt, whyAt, assigned, premisesAt, levelOf, keptTo, justified}
@@ -137,7 +137,8 @@ module _ {ss ts : List ℕ} (W : WellSorted ss ts) (Input : Assignments) where
       omega arith
 
   -- at level 0 it refutes the input
-  clashed-good : (n : ℕ) (tr : Trail) (E : Set) → Reached n tr → AllValid ss ts Input tr → Unendorsed ss ts Input tr E → GoodAnswer (clashed tr E)
+  clashed-good : (n : ℕ) (tr : Trail) (E : Set) → Reached n tr → AllValid ss ts Input tr → Unendorsed ss ts Input tr E
+      → GoodAnswer (clashed tr E)
   unfolding clashed
   clashed-good n tr E i A never =
       cond-case GoodAnswer (eqb (levelOf tr E) 0) refuted (allowed (conflict tr E))
@@ -159,6 +160,7 @@ module _ {ss ts : List ℕ} (W : WellSorted ss ts) (Input : Assignments) where
 
   module _ (n : ℕ) (tr : Trail) (E : Set) (i : Reached n tr) (inside : Within E tr) (A : AllValid ss ts Input tr)
       (never : Unendorsed ss ts Input tr E) where
+    -- the entry of a member of E
     look : (a : ℕ) → E a ≡ true → List·Memᴰ (entry tr a) tr × ((entry tr a) .term ≡ a)
     look a h = entry-in tr a (true-T _ (inside a h))
 
@@ -208,7 +210,9 @@ module _ {ss ts : List ℕ} (W : WellSorted ss ts) (Input : Assignments) where
           entries = A;
           conflicting = λ _ M N.
               none-with a h M (Together Input (OnTrail tr E′)) N with-rest
-              (λ z. ap (value M) (sym (r .1)) ∙ f .entailed d (ap (sort ts) (r .1) ∙ z) M (beside Input _ _ (wider (whyAt tr a) E′ right) N))
+              (λ z.
+              ap (value M) (sym (r .1))
+              ∙ f .entailed d (ap (sort ts) (r .1) ∙ z) M (beside Input _ _ (wider (whyAt tr a) E′ right) N))
               (λ z. inl (subst (λ t. Input t (valueAt tr a)) (r .1) (f .given d (λ y. z (ap (sort ts) (sym (r .1)) ∙ y)))));
         }
       where

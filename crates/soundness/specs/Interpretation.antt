@@ -27,10 +27,11 @@ InDomains D [] (x ∷ xs) = ⊥
 InDomains D (s ∷ sorts) [] = ⊥
 InDomains D (s ∷ sorts) (x ∷ xs) = D s x × InDomains D sorts xs
 
--- The domain of a declared sort is any set of whole numbers, decidable or not, finite or not; it has an element, but none is chosen.
--- What interprets a head is a function, so that equal arguments give equal results: this is all that congruence needs. The functions are total
--- on the numbers, and nothing is assumed of them at arguments outside the domains: they are closed, and the two select-store laws hold, on
--- elements of the domains. Nothing is assumed of the domain of a number that is no declared sort.
+-- The domain of a declared sort is any set of whole numbers, decidable or not, finite or not; it has an element, but none is
+-- chosen. Nothing is assumed of the domain of a number that is no declared sort.
+-- What interprets a head is a function, so that equal arguments give equal results: this is all that congruence needs.
+-- The functions are total on the numbers, and nothing is assumed of them at arguments outside the domains: they are closed,
+-- and the two select-store laws hold, on elements of the domains.
 pub record Interpretation (ss ts : List ℕ) : Type 1 where
   pub Domain : ℕ → ℕ → Type 0
   pub inhabited : (s : ℕ) → Declared ss s → ∥ ((x : ℕ) × Domain s x) ∥₁
