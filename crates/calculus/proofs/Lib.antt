@@ -1,2 +1,6 @@
 -- Laws of the definitions, and what is proved of them.
+pub mod Facts
+pub mod Entries
+pub mod Reached
 pub mod Runs
+pub mod Slips

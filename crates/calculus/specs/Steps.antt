@@ -123,6 +123,24 @@ needsConflict Unlisted = false
 unfoldable pub ready : State → Kind → Bool
 ready s k = cond (needsConflict k) (inConflict s) (not (inConflict s))
 
+-- ---- what steps make of the trail
+
+-- premises and opposite of a clash
+abbrev pub clashSet : ℕ → List ℕ → Set
+clashSet l ps = has (l ∷ ps)
+
+-- they refute the input at level 0, and are the conflict above it
+unfoldable pub clashed : Trail → Set → Answer
+clashed tr E = cond (eqb (levelOf tr E) 0) refuted (allowed (conflict tr E))
+
+-- the trail kept to m, then l with the opposite of its value, which s justifies
+abbrev pub jumped : Trail → Set → ℕ → ℕ → Trail
+jumped tr s l m = justified (keptTo m tr) l (opposite (valueAt tr l)) s ∷ keptTo m tr
+
+-- the trail kept to m, then the opposite of l as a decision
+abbrev pub flipped : Trail → ℕ → ℕ → Trail
+flipped tr l m = decision (keptTo m tr) l (opposite (valueAt tr l)) ∷ keptTo m tr
+
 module _ (ts : List ℕ) where
   -- ---- number 11: the term and the premises are rows
 
@@ -157,17 +175,11 @@ module _ (ts : List ℕ) where
   unfoldable pub deduce : Trail → ℕ → ℕ → ℕ → List ℕ → Answer
   deduce tr r l v ps = answer (deduceNumber tr r l v ps) (allowed (searching (justified tr l v (has ps) ∷ tr)))
 
-  -- clash: the opposite is there; premises and opposite refute the input at level 0, and are the conflict above it
+  -- clash: the opposite is there
   unfoldable pub clashNumber : Trail → ℕ → ℕ → ℕ → List ℕ → ℕ
   clashNumber tr r l v ps =
       inferenceNumber tr r l v ps (
       unless (assigned tr l (opposite v)) 16 0)
-
-  abbrev pub clashSet : ℕ → List ℕ → Set
-  clashSet l ps = has (l ∷ ps)
-
-  unfoldable pub clashed : Trail → Set → Answer
-  clashed tr E = cond (eqb (levelOf tr E) 0) refuted (allowed (conflict tr E))
 
   unfoldable pub clash : Trail → ℕ → ℕ → ℕ → List ℕ → Answer
   clash tr r l v ps = answer (clashNumber tr r l v ps) (clashed tr (clashSet l ps))
@@ -194,10 +206,6 @@ module _ (ts : List ℕ) where
   unfoldable pub clear : Trail → Set → ℕ → Answer
   clear tr E a = answer (clearNumber tr E a) (allowed (searching (keptTo (levelAt tr a - 1) tr)))
 
-  -- the trail kept to m, then l with the opposite of its value, which s justifies
-  abbrev pub jumped : Trail → Set → ℕ → ℕ → Trail
-  jumped tr s l m = justified (keptTo m tr) l (opposite (valueAt tr l)) s ∷ keptTo m tr
-
   -- jump: back to the level of the rest of E, which justifies the opposite of l
   unfoldable pub jumpNumber : Trail → Set → ℕ → ℕ
   jumpNumber tr E l =
@@ -207,10 +215,6 @@ module _ (ts : List ℕ) where
 
   unfoldable pub jump : Trail → Set → ℕ → Answer
   jump tr E l = answer (jumpNumber tr E l) (allowed (searching (jumped tr (remove E l) l (levelOf tr (remove E l)))))
-
-  -- the trail kept to m, then the opposite of l as a decision
-  abbrev pub flipped : Trail → ℕ → ℕ → Trail
-  flipped tr l m = decision (keptTo m tr) l (opposite (valueAt tr l)) ∷ keptTo m tr
 
   -- flip: l and k share a first-order decision at E's level; below that level the opposite of l is decided
   unfoldable pub flipNumber : Trail → Set → ℕ → ℕ → ℕ

@@ -1,0 +1,380 @@
+-- Every trail that a list of steps can reach: terms stand once, justifications stand earlier, and levels are those of Definition 5.
+use mathlib.Core.Path.{_≡_, refl, sym, ap, subst, _∙_}
+use mathlib.Core.Logic.{_≢_, _⊎_, inl, inr, ⊎-elim}
+use mathlib.Core.Bool.{Bool, true, false, not, _&&_, _||_, cond}
+use mathlib.Core.List.{List, [], _∷_, List·Memᴰ, List·Memᴰ·head, List·Memᴰ·tail}
+use Prim.Native.Nat.{ℕ, zero, suc, _+_, _-_, _*_, _≤_, _<_, max}
+use native.Mathlib.Omega.{arith}
+use lib.ListN.{length}
+use lib.Dec.{T, eqb, leb, ltb, eqb→eq, leb→le, ltb→lt, le→leb, eqb-refl, T-not}
+use Rattle.calculus.specs.declared.Step.{Step}
+use Rattle.calculus.specs.declared.Kind.{Kind}
+use Rattle.calculus.specs.declared.Kind.the-variants.{Decide, Deduce, Clash, Resolve, Clear, Jump, Flip, Unlisted}
+use Rattle.calculus.specs.Lists.{all, has, opposite}
+use Rattle.calculus.specs.Sheets.{Call, termRows, inputRows, stepRows, lengthNumber}
+use Rattle.calculus.specs.Sorts.{sortsNumber}
+use Rattle.calculus.specs.Terms.{prop, termsNumber}
+use Rattle.calculus.specs.Trail.{Set, Trail, Entry, empty, remove, union, intersection, on, entry, valueAt, levelAt, decidedAt, whyAt, assigned, holds, firstOrder, levelOf, topLevel, keptTo, decision, justified}
+use Rattle.calculus.specs.Inputs.{given, inputTerm, inputValue, inputTrail, inputNumber, inputsNumber}
+use Rattle.calculus.specs.Steps.{State, searching, conflict, trailOf, conflictOf, inConflict, Answer, allowed, refuted, refused, answer, stepAt, premises, shaped, ready, known, kindOf, decideNumber, decide, inferenceNumber, deduceNumber, deduce, clashNumber, clashSet, clashed, clash, resolveNumber, resolve, clearNumber, clear, jumped, jumpNumber, jump, flipped, flipNumber, flip, rowNumber, stepBy, step}
+use Rattle.calculus.specs.Run.{Ending, follow, run, sheetsNumber, callNumber, start, turnedAway, endingOf, ending}
+use Rattle.calculus.specs.Reached.{Within, Distinct, Below, Grounded, relevelled, Reached, ReachedState}
+use Rattle.calculus.proofs.Facts.{and-l, and-r, or-cases, T-true, T-false, true-T, false-T, is-or-not, true-or-false, both-true, one-true, none-true, cond-case, all-at, has-at, unless-ok, orElse-ok, first-ok, answer-case, facts}
+use Rattle.calculus.proofs.Entries.{on-entered, entered-on, entry-in, entry-here, entry-older, entry-off, level-ge, level-le, level-empty, kept-in, kept-out, kept-entry, kept-off, level-kept, level-at, holds-at}
+
+-- ---- one entry and the trail before it
+
+-- the level that Definition 5 gives an entry
+abbrev pub ruled : Entry → Trail → ℕ
+ruled e older = cond (e .decided) (1 + topLevel older) (levelOf older (e .why))
+
+pub record Placed (n : ℕ) (e : Entry) (older : Trail) : Type 0 where
+  pub new : on older (e .term) ≡ false
+  pub row : e .term < n
+  pub why : Within (e .why) older
+  pub low : (t : ℕ) → e .why t ≡ true → levelAt older t ≤ e .level
+  pub level : e .level ≡ ruled e older
+
+pub push-reached : {n : ℕ} (e : Entry) {older : Trail} → Placed n e older → Reached n older → Reached n (e ∷ older)
+unfolding Distinct Below Grounded relevelled
+push-reached e {older} p r = record {
+  distinct = (p .new, r .distinct);
+  below = (p .row, r .below);
+  grounded = (p .why, p .low, r .grounded);
+  levels = rw (r .levels) (λ i. record { term = e .term; value = e .value; level = sym (p .level) i; decided = e .decided; why = e .why } ∷ older);
+}
+
+pub none-reached : {n : ℕ} → Reached n []
+unfolding Distinct Below Grounded relevelled
+none-reached = record { distinct = tt; below = tt; grounded = tt; levels = refl }
+
+tail-of : Trail → Trail
+unfolding relevelled
+tail-of [] = []
+tail-of (e ∷ older) = older
+
+level-of-head : Trail → ℕ
+level-of-head [] = 0
+level-of-head (e ∷ older) = e .level
+
+-- the newest entry is placed on a reached trail
+pub newest : {n : ℕ} (e : Entry) (older : Trail) → Reached n (e ∷ older) → Placed n e older × Reached n older
+unfolding Distinct Below Grounded relevelled tail-of level-of-head
+newest e older r =
+    let q : relevelled older ≡ older = ap tail-of (r .levels) in (
+      record {
+        new = r .distinct .0;
+        row = r .below .0;
+        why = r .grounded .0;
+        low = r .grounded .1;
+        level = sym (ap level-of-head (r .levels)) ∙ rw q;
+      },
+      record { distinct = r .distinct .1; below = r .below .1; grounded = r .grounded .2; levels = q },
+    )
+
+-- ---- look-up on a reached trail
+
+-- a term that stands among the older entries is not the newest one's
+apart : (x : Entry) (older : Trail) (t : ℕ) → on older (x .term) ≡ false → on older t ≡ true → eqb (x .term) t ≡ false
+apart x older t new h = go (is-or-not (eqb (x .term) t))
+  where
+    go : (eqb (x .term) t ≡ true) ⊎ (eqb (x .term) t ≡ false) → eqb (x .term) t ≡ false
+    go (inl e) = absurd (true-or-false h (ap (on older) (sym (eqb→eq _ _ (true-T _ e))) ∙ new))
+    go (inr e) = e
+
+-- a term among the older entries is looked up there
+past-newest : {n : ℕ} (x : Entry) (older : Trail) (t : ℕ) → Placed n x older → on older t ≡ true → (on (x ∷ older) t ≡ true) × (entry (x ∷ older) t ≡ entry older t)
+unfolding on
+past-newest x older t p h = let e = apart x older t (p .new) h in (rw e h, entry-older x older t e)
+
+same-level : {e x : Entry} (l : ℕ) → e ≡ x → x .level ≤ l → e .level ≤ l
+same-level l q h = subst (λ (y : Entry). y .level ≤ l) (sym q) h
+
+-- the members of a justification stand on the trail, at levels not above the entry's
+pub why-reached : {n : ℕ} (tr : Trail) (a t : ℕ) → Reached n tr → whyAt tr a t ≡ true → (on tr t ≡ true) × (levelAt tr t ≤ levelAt tr a)
+unfolding entry
+why-reached [] a t r h = absurd (true-or-false h refl)
+why-reached {n} (x ∷ older) a t r h = let q = newest x older r in go (q .0) (λ k. why-reached older a t (q .1) k) (eqb (x .term) a) refl h
+  where
+    go : Placed n x older → (whyAt older a t ≡ true → (on older t ≡ true) × (levelAt older t ≤ levelAt older a)) → (b : Bool) → eqb (x .term) a ≡ b
+        → (cond b x (entry older a)) .why t ≡ true → (on (x ∷ older) t ≡ true) × (levelAt (x ∷ older) t ≤ (cond b x (entry older a)) .level)
+    go p k true e w = let y = past-newest x older t p (p .why t w) in (y .0, same-level _ (y .1) (p .low t w))
+    go p k false e w = let z = k w in let y = past-newest x older t p (z .0) in (y .0, same-level _ (y .1) (z .1))
+
+-- a decision is above level 0
+pub decided-high : {n : ℕ} (tr : Trail) (e : Entry) → Reached n tr → List·Memᴰ e tr → T (e .decided) → 0 < e .level
+decided-high [] e r m d = absurd (elim m [ ])
+decided-high (x ∷ older) e r (List·Memᴰ·head q) d =
+    let p = newest x older r .0 .level in
+    let h : e .level ≡ 1 + topLevel older = ap (λ (y : Entry). y .level) q ∙ p ∙ rw (T-true (x .decided) (rw q at d)) in
+    omega arith
+decided-high (x ∷ older) e r (List·Memᴰ·tail m) d = decided-high older e (newest x older r .1) m d
+
+-- two entries of one term are one
+pub one-entry : {n : ℕ} (tr : Trail) (e x : Entry) → Reached n tr → List·Memᴰ e tr → List·Memᴰ x tr → e .term ≡ x .term → e ≡ x
+one-entry [] e x r a b q = absurd (elim a [ ])
+one-entry (y ∷ older) e x r (List·Memᴰ·head a) (List·Memᴰ·head b) q = a ∙ sym b
+one-entry (y ∷ older) e x r (List·Memᴰ·head a) (List·Memᴰ·tail b) q =
+    absurd (true-or-false (T-true _ (entered-on older (y .term) x b (sym q ∙ ap (λ (z : Entry). z .term) a))) (newest y older r .0 .new))
+one-entry (y ∷ older) e x r (List·Memᴰ·tail a) (List·Memᴰ·head b) q =
+    absurd (true-or-false (T-true _ (entered-on older (y .term) e a (q ∙ ap (λ (z : Entry). z .term) b))) (newest y older r .0 .new))
+one-entry (y ∷ older) e x r (List·Memᴰ·tail a) (List·Memᴰ·tail b) q = one-entry older e x (newest y older r .1) a b q
+
+-- ---- what is kept is reached
+
+-- a term above level m is not kept
+pub off-kept : {n : ℕ} (m : ℕ) (tr : Trail) (t : ℕ) → Reached n tr → m < levelAt tr t → on (keptTo m tr) t ≡ false
+unfolding keptTo on entry
+off-kept m [] t r h = refl
+off-kept m (x ∷ older) t r h = let q = newest x older r in go (q .0 .new) (λ k. off-kept m older t (q .1) k) (leb (x .level) m) refl (eqb (x .term) t) refl h
+  where
+    go : on older (x .term) ≡ false → (m < levelAt older t → on (keptTo m older) t ≡ false) → (k : Bool) → leb (x .level) m ≡ k → (b : Bool) → eqb (x .term) t ≡ b
+        → m < (cond b x (entry older t)) .level → on (cond k (x ∷ keptTo m older) (keptTo m older)) t ≡ false
+    go new r true f true e h = let l : x .level ≤ m = leb→le _ _ (true-T _ f) in absurd (omega arith)
+    go new r false f true e h = kept-off m older t (ap (on older) (sym (eqb→eq _ _ (true-T _ e))) ∙ new)
+    go new r true f false e h = rw e (r h)
+    go new r false f false e h = r h
+
+-- a set of level at most m whose members stand on the trail stands on what is kept
+pub within-kept : (m : ℕ) (tr : Trail) (s : Set) → Within s tr → levelOf tr s ≤ m → Within s (keptTo m tr)
+within-kept m tr s h l t q = kept-entry m tr t (h t q) (let k = level-at tr s t (h t q) q in omega arith) .0
+
+pub kept-reached : {n : ℕ} (m : ℕ) (tr : Trail) → Reached n tr → Reached n (keptTo m tr)
+unfolding keptTo
+kept-reached m [] r = r
+kept-reached m (x ∷ older) r =
+    let q = newest x older r in
+    cond-case (Reached _) (leb (x .level) m) (x ∷ keptTo m older) (keptTo m older)
+    (λ h. push-reached x (placed (q .0) (leb→le _ _ (true-T _ h))) (kept-reached m older (q .1))) (λ h. kept-reached m older (q .1))
+  where
+    ruled-kept : (b : Bool) → x .level ≤ m → x .level ≡ cond b (1 + topLevel older) (levelOf older (x .why)) → x .level ≡ cond b (1 + topLevel (keptTo m older)) (levelOf (keptTo m older) (x .why))
+    ruled-kept true l e = let k : topLevel (keptTo m older) ≡ topLevel older = level-kept m older (λ u. true) (omega arith) in omega arith
+    ruled-kept false l e = let k : levelOf (keptTo m older) (x .why) ≡ levelOf older (x .why) = level-kept m older (x .why) (omega arith) in omega arith
+
+    placed : {n : ℕ} → Placed n x older → x .level ≤ m → Placed n x (keptTo m older)
+    placed p l =
+        let k : (t : ℕ) → x .why t ≡ true → (on (keptTo m older) t ≡ true) × (entry (keptTo m older) t ≡ entry older t)
+        = λ t w. kept-entry m older t (p .why t w) (let h = p .low t w in omega arith) in
+        record {
+          new = kept-off m older (x .term) (p .new);
+          row = p .row;
+          why = λ t w. k t w .0;
+          low = λ t w. same-level _ (k t w .1) (p .low t w);
+          level = ruled-kept (x .decided) l (p .level);
+        }
+
+-- ---- one entry more is reached
+
+pub decision-reached : {n : ℕ} (tr : Trail) (t v : ℕ) → Reached n tr → t < n → on tr t ≡ false → Reached n (decision tr t v ∷ tr)
+decision-reached tr t v r l h = push-reached (decision tr t v) (record { new = h; row = l; why = λ u w. absurd (true-or-false w refl); low = λ u w. absurd (true-or-false w refl); level = refl }) r
+
+pub justified-reached : {n : ℕ} (tr : Trail) (t v : ℕ) (s : Set) → Reached n tr → t < n → on tr t ≡ false → Within s tr → Reached n (justified tr t v s ∷ tr)
+justified-reached tr t v s r l h w = push-reached (justified tr t v s) (record { new = h; row = l; why = w; low = λ u q. level-at tr s u (w u q) q; level = refl }) r
+
+-- ---- every step keeps a reached state
+
+-- of an answer: the state after an allowed step is reached
+abbrev Kept : ℕ → Answer → Type 0
+Kept n (allowed s) = ReachedState n s
+Kept n refuted = Unit {0}
+Kept n (refused c) = Unit {0}
+
+-- a step's answer, by its number and its effect
+kept-answer : (n c : ℕ) (a : Answer) → (c ≡ 0 → Kept n a) → Kept n (answer c a)
+kept-answer n c a f = answer-case (Kept n) c a (λ k. tt) f
+
+module _ (ts : List ℕ) where
+  abbrev rows : ℕ
+  rows = termRows ts
+
+  decide-kept : (tr : Trail) (t v : ℕ) → Reached rows tr → t < rows → Kept rows (decide ts tr t v)
+  unfolding decide decideNumber ReachedState
+  decide-kept tr t v r l =
+      kept-answer rows _ _ (λ e.
+      let a = unless-ok _ 22 _ (omega arith) e in
+      let b = unless-ok _ 14 _ (omega arith) (a .1) in
+      decision-reached tr t v r l (T-false _ (b .0)))
+
+  -- the premises of an inference stand on the trail
+  inference-ok : (tr : Trail) (r l v : ℕ) (ps : List ℕ) (rest : ℕ) → inferenceNumber ts tr r l v ps rest ≡ 0 → Within (has ps) tr × (rest ≡ 0)
+  unfolding inferenceNumber
+  inference-ok tr r l v ps rest e =
+      let a = unless-ok _ 22 _ (omega arith) e in
+      let b = unless-ok _ 12 _ (omega arith) (a .1) in
+      let c = unless-ok _ 13 _ (omega arith) (b .1) in
+      ((λ t h. T-true _ (all-at (on tr) ps (b .0) (has-at ps (true-T _ h)))), c .1)
+
+  deduce-kept : (tr : Trail) (r l v : ℕ) (ps : List ℕ) → Reached rows tr → l < rows → Kept rows (deduce ts tr r l v ps)
+  unfolding deduce deduceNumber ReachedState
+  deduce-kept tr r l v ps i k =
+      kept-answer rows _ _ (λ e.
+      let a = inference-ok tr r l v ps _ e in
+      let b = unless-ok _ 14 _ (omega arith) (a .1) in
+      let c = unless-ok _ 15 _ (omega arith) (b .1) in
+      justified-reached tr l v (has ps) i k (T-false _ (c .0)) (a .0))
+
+  clash-kept : (tr : Trail) (r l v : ℕ) (ps : List ℕ) → Reached rows tr → Kept rows (clash ts tr r l v ps)
+  unfolding clash clashNumber clashed ReachedState
+  clash-kept tr r l v ps i =
+      kept-answer rows _ _ (λ e.
+      let a = inference-ok tr r l v ps _ e in
+      let b = unless-ok _ 16 _ (omega arith) (a .1) in
+      cond-case (Kept rows) (eqb (levelOf tr (clashSet l ps)) 0) refuted (allowed (conflict tr (clashSet l ps))) (λ _. tt)
+      (λ _. (i, λ t h. ⊎-elim (λ q. ap (on tr) (eqb→eq _ _ (true-T _ q)) ∙ T-true _ (and-l (on tr l) _ (b .0))) (λ q. a .0 t q) (one-true (eqb t l) (has ps t) h))))
+
+  module _ (tr : Trail) (E : Set) (i : Reached rows tr) (inside : Within E tr) where
+    resolve-kept : (a : ℕ) → Kept rows (resolve ts tr E a)
+    unfolding resolve ReachedState
+    resolve-kept a =
+        kept-answer rows _ _ (λ e.
+        (i, λ t h. ⊎-elim (λ q. inside t (both-true (E t) _ q .0)) (λ q. why-reached tr a t i q .0) (one-true (remove E a t) (whyAt tr a t) h)))
+
+    clear-kept : (a : ℕ) → Kept rows (clear ts tr E a)
+    unfolding clear ReachedState
+    clear-kept a = kept-answer rows _ _ (λ e. kept-reached _ tr i)
+
+    jump-kept : (l : ℕ) → l < rows → Kept rows (jump ts tr E l)
+    unfolding jump jumpNumber ReachedState
+    jump-kept l k =
+        kept-answer rows _ _ (λ e.
+        let a = unless-ok _ 17 _ (omega arith) e in
+        let b = unless-ok _ 22 _ (omega arith) (a .1) in
+        let c = unless-ok _ 21 _ (omega arith) (b .1) in
+        let m = levelOf tr (remove E l) in
+        justified-reached (keptTo m tr) l _ (remove E l) (kept-reached m tr i) k (off-kept m tr l i (ltb→lt _ _ (c .0)))
+        (within-kept m tr (remove E l) (λ t h. inside t (both-true (E t) _ h .0)) (omega arith)))
+
+    -- what shares a first-order decision at level m is not below m, and m is above 0
+    shared-high : (l k m : ℕ) → T (holds tr (intersection (whyAt tr l) (whyAt tr k)) (firstOrder ts m)) → (m ≤ levelAt tr l) × (0 < m)
+    shared-high l k m h =
+        let d = holds-at tr (intersection (whyAt tr l) (whyAt tr k)) (firstOrder ts m) h in
+        let x = d .0 in
+        let w : whyAt tr l (x .term) ≡ true = T-true _ (and-l (whyAt tr l (x .term)) _ (d .2)) in
+        let q = why-reached tr l (x .term) i w in
+        let y = entry-in tr (x .term) (true-T _ (q .0)) in
+        let s : entry tr (x .term) ≡ x = one-entry tr (entry tr (x .term)) x i (y .0) (d .1) (y .1) in
+        let u : levelAt tr (x .term) ≡ x .level = ap (λ (z : Entry). z .level) s in
+        let v : x .level ≡ m = eqb→eq _ _ (and-r (not (prop ts (x .term))) _ (and-r (x .decided) _ (d .3))) in
+        let z = decided-high tr x i (d .1) (and-l (x .decided) _ (d .3)) in
+        (omega (arith, q .1), omega arith)
+
+    flip-kept : (l k : ℕ) → l < rows → Kept rows (flip ts tr E l k)
+    unfolding flip flipNumber ReachedState
+    flip-kept l k j =
+        kept-answer rows _ _ (λ e.
+        let a = unless-ok _ 17 _ (omega arith) e in
+        let b = unless-ok _ 22 _ (omega arith) (a .1) in
+        let c = unless-ok _ 18 _ (omega arith) (b .1) in
+        let d = unless-ok _ 23 _ (omega arith) (c .1) in
+        let m = levelOf tr E in
+        let h = shared-high l k m (and-r (not (eqb l k)) _ (d .0)) in
+        decision-reached (keptTo (m - 1) tr) l _ (kept-reached (m - 1) tr i) j (off-kept (m - 1) tr l i (omega (arith, h .0, h .1))))
+
+  trail-reached : (s : State) → ReachedState rows s → Reached rows (trailOf s)
+  unfolding ReachedState
+  trail-reached (searching tr) r = r
+  trail-reached (conflict tr E) r = r .0
+
+  conflict-within : (s : State) → ReachedState rows s → Within (conflictOf s) (trailOf s)
+  unfolding ReachedState
+  conflict-within (searching tr) r = λ t h. absurd (true-or-false h refl)
+  conflict-within (conflict tr E) r = r .1
+
+  step-by-kept : (k : Kind) (s : State) (x : Step) → ReachedState rows s → x .term < rows → Kept rows (stepBy ts k s x)
+  unfolding stepBy
+  step-by-kept Decide s x r l = decide-kept (trailOf s) (x .term) (x .value) (trail-reached s r) l
+  step-by-kept Deduce s x r l = deduce-kept (trailOf s) (x .rule) (x .term) (x .value) (premises x) (trail-reached s r) l
+  step-by-kept Clash s x r l = clash-kept (trailOf s) (x .rule) (x .term) (x .value) (premises x) (trail-reached s r)
+  step-by-kept Resolve s x r l = resolve-kept (trailOf s) (conflictOf s) (trail-reached s r) (conflict-within s r) (x .term)
+  step-by-kept Clear s x r l = clear-kept (trailOf s) (conflictOf s) (trail-reached s r) (conflict-within s r) (x .term)
+  step-by-kept Jump s x r l = jump-kept (trailOf s) (conflictOf s) (trail-reached s r) (conflict-within s r) (x .term) l
+  step-by-kept Flip s x r l = flip-kept (trailOf s) (conflictOf s) (trail-reached s r) (conflict-within s r) (x .term) (x .p) l
+  step-by-kept Unlisted s x r l = tt
+
+  step-kept : (s : State) (x : Step) → ReachedState rows s → Kept rows (step ts s x)
+  unfolding step rowNumber known
+  step-kept s x r =
+      kept-answer rows _ _ (λ e.
+      let a = unless-ok _ 9 _ (omega arith) e in
+      let b = unless-ok _ 10 _ (omega arith) (a .1) in
+      let c = unless-ok _ 11 _ (omega arith) (b .1) in
+      step-by-kept (kindOf (x .step)) s x r (ltb→lt _ _ (and-l (ltb (x .term) (termRows ts)) _ (c .0))))
+
+  -- an allowed step leads from a reached state to a reached one
+  pub step-reached : (s s′ : State) (x : Step) → ReachedState rows s → step ts s x ≡ allowed s′ → ReachedState rows s′
+  step-reached s s′ x r e = subst (Kept rows) e (step-kept s x r)
+
+  run-reached : (log : List ℕ) (s : State) (n k : ℕ) → ReachedState rows s → ReachedState rows (run ts log s n k .state)
+  unfolding run follow
+  run-reached log s n zero r = r
+  run-reached log s n (suc k) r = go (λ s′ q. run-reached log s′ (suc n) k q) (step ts s (stepAt log n)) (step-kept s (stepAt log n) r)
+    where
+      go : ((s′ : State) → ReachedState rows s′ → ReachedState rows (run ts log s′ (suc n) k .state)) → (a : Answer) → Kept rows a
+          → ReachedState rows (follow (λ s′. run ts log s′ (suc n) k) s n a .state)
+      go f (allowed s′) q = f s′ q
+      go f refuted q = r
+      go f (refused c) q = r
+
+  -- the input's trail is reached where its rows are no trouble
+  pub input-reached : (is : List ℕ) (n : ℕ) → ((k : ℕ) → k < n → inputNumber ts is k ≡ 0) → Reached rows (inputTrail is n)
+  unfolding inputTrail inputNumber
+  input-reached is zero h = none-reached
+  input-reached is (suc n) h =
+      let a = unless-ok _ 6 _ (omega arith) (h n (omega arith)) in
+      let b = unless-ok _ 7 _ (omega arith) (a .1) in
+      let c = unless-ok _ 8 _ (omega arith) (b .1) in
+      push-reached (given (inputTerm is n) (inputValue is n))
+      (record {
+        new = T-false _ (c .0);
+        row = ltb→lt _ _ (a .0);
+        why = λ t w. absurd (true-or-false w refl);
+        low = λ t w. absurd (true-or-false w refl);
+        level = sym (level-empty (inputTrail is n));
+      })
+      (input-reached is n (λ k l. h k (omega arith)))
+
+-- the state that any call ends in, whatever its sheets hold, is reached
+pub call-reached : (x : Call) → ReachedState (termRows (x .terms)) (ending x .state)
+unfolding ending endingOf callNumber sheetsNumber inputsNumber ReachedState
+call-reached x = go (callNumber x) refl
+  where
+    go : (c : ℕ) → callNumber x ≡ c → ReachedState (termRows (x .terms)) (endingOf c x .state)
+    go zero e =
+        let a = orElse-ok (lengthNumber x) _ e in
+        let b = orElse-ok (sortsNumber (x .sorts)) _ (a .1) in
+        let c = orElse-ok (termsNumber (x .sorts) (x .terms)) _ (b .1) in
+        run-reached (x .terms) (x .steps) (start x) 0 (stepRows (x .steps))
+        (input-reached (x .terms) (x .inputs) (inputRows (x .inputs)) (λ k l. first-ok (inputRows (x .inputs)) (inputNumber (x .terms) (x .inputs)) k (c .1) l))
+    go (suc c) e = none-reached
+
+-- ---- levels are small
+
+-- a trail's greatest level is at most its length
+pub top-length : {n : ℕ} (tr : Trail) → Reached n tr → topLevel tr ≤ length tr
+unfolding levelOf
+top-length [] r = omega arith
+top-length (x ∷ older) r =
+    let q = newest x older r in
+    let h = top-length older (q .1) in
+    let k : levelOf older (x .why) ≤ topLevel older = level-le older (x .why) _ (λ e m w. level-ge older (λ u. true) e m tt) in
+    go (x .decided) h k (q .0 .level)
+  where
+    go : (b : Bool) → topLevel older ≤ length older → levelOf older (x .why) ≤ topLevel older → x .level ≡ cond b (1 + topLevel older) (levelOf older (x .why)) → max (topLevel older) (x .level) ≤ suc (length older)
+    go true h k e = omega arith
+    go false h k e = omega arith
+
+-- the level of a set with one member more
+pub level-more : (tr : Trail) (s : Set) (p : ℕ) → Distinct tr → levelOf tr (λ u. eqb u p || s u) ≡ max (levelAt tr p) (levelOf tr s)
+unfolding levelOf entry Distinct
+level-more [] s p d = refl
+level-more (x ∷ older) s p d = go (eqb (x .term) p) refl (level-more older s p (d .1)) (s (x .term))
+  where
+    gone : eqb (x .term) p ≡ true → levelAt older p ≡ 0
+    gone e = ap (λ (y : Entry). y .level) (entry-off older p (ap (on older) (sym (eqb→eq _ _ (true-T _ e))) ∙ d .0))
+
+    go : (b : Bool) → eqb (x .term) p ≡ b → levelOf older (λ u. eqb u p || s u) ≡ max (levelAt older p) (levelOf older s) → (c : Bool)
+        → max (levelOf older (λ u. eqb u p || s u)) (cond (b || c) (x .level) 0) ≡ max ((cond b x (entry older p)) .level) (max (levelOf older s) (cond c (x .level) 0))
+    go true e h true = let z = gone e in omega arith
+    go true e h false = let z = gone e in omega arith
+    go false e h true = omega arith
+    go false e h false = omega arith
