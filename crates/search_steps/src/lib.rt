@@ -8,8 +8,7 @@ ghost use Rattle.calculus.specs.Lists.{all, has};
 ghost use Rattle.calculus.specs.Terms.{prop, filled};
 ghost use Rattle.calculus.specs.Inputs.{valueSuits};
 ghost use Rattle.calculus.specs.Trail.{on, valueAt, levelOf};
-ghost use Rattle.calculus.specs.Steps.{premises, decideNumber, inferenceNumber, deduceNumber, clashNumber};
-ghost use Rattle.calculus.specs.Steps as steps;
+ghost use Rattle.calculus.specs.Steps.{premises, decideNumber, inferenceNumber, deduceNumber, clashNumber, clashSet, decide, deduce, clash};
 ghost use Rattle.rules.specs.Claims.{premisesOf, valued};
 ghost use Rattle.trail.specs.Words.{trailIn, Laid};
 ghost use Rattle.state.specs.States.{Held, Standing, Answers};
@@ -80,6 +79,16 @@ fn premises_level(work: &[u64], w: usize, n: usize, count: usize, x: Step) -> Le
     let r = more_level(work, w, n, count, x.r, s);
     let q = more_level(work, w, n, count, x.q, r);
     Level(more_level(work, w, n, count, x.p, q))
+}
+
+// The level of the premises and the term.
+fn clash_level(work: &[u64], w: usize, n: usize, count: usize, x: Step) -> u64
+    requires { ⌜ Laid w n (now work) count ⌝ }
+    ensures { λ r. ⌜ r ≡ levelOf (trailIn w n (now (work .entry)) count) (clashSet (x .term) (premises x)) ⌝ }
+{
+    let l = state::level_at(work, w, n, count, Row(x.term));
+    let p = premises_level(work, w, n, count, x);
+    trail::larger(l.0, p.0)
 }
 
 // A premise column with its value on the trail.
@@ -174,4 +183,62 @@ fn clash_number(terms: &[u16], work: &[u64], w: usize, n: usize, count: usize, x
         return 16;
     }
     0
+}
+
+// ---- the steps
+
+// decide: the term with its value as a decision.
+pub fn decide(terms: &[u16], work: &mut [u64], w: usize, n: usize, st: Status, t: Row, v: u16) -> Answer
+    requires { ⌜ Standing w n (now terms) (now work) st × (st .conflict ≡ false) × (t .0 < n) ⌝ }
+    ensures { λ r. ⌜ Answers w n (now (terms .entry)) (now (work .entry)) (now (work .exit)) (decide (now (terms .entry)) (trailIn w n (now (work .entry)) (st .count)) (t .0) v) r ⌝ }
+{
+    let c = decide_number(terms, work, w, n, st.count, t, v);
+    if c != 0 {
+        return Answer::Refused(c);
+    }
+    let kept = moves::decide(work, w, n, st.count, st.top, t, v);
+    Answer::Allowed(Status {
+        count: kept.count,
+        top: kept.top,
+        conflict: false,
+    })
+}
+
+// deduce: the premises justify the term's value.
+pub fn deduce(terms: &[u16], work: &mut [u64], w: usize, n: usize, st: Status, x: Step) -> Answer
+    requires { ⌜ Standing w n (now terms) (now work) st × (st .conflict ≡ false) × (x .term < n) ⌝ }
+    ensures { λ r. ⌜ Answers w n (now (terms .entry)) (now (work .entry)) (now (work .exit)) (deduce (now (terms .entry)) (trailIn w n (now (work .entry)) (st .count)) (x .rule) (x .term) (x .value) (premises x)) r ⌝ }
+{
+    let c = deduce_number(terms, work, w, n, st.count, x);
+    if c != 0 {
+        return Answer::Refused(c);
+    }
+    let ps = [x.p, x.q, x.r, x.s, x.t];
+    let kept = moves::propagate(work, w, n, st.count, st.top, Row(x.term), x.value, &ps);
+    Answer::Allowed(Status {
+        count: kept.count,
+        top: kept.top,
+        conflict: false,
+    })
+}
+
+// clash: premises and opposite refute the input at level 0, and are the conflict above it.
+pub fn clash(terms: &[u16], work: &mut [u64], w: usize, n: usize, st: Status, x: Step) -> Answer
+    requires { ⌜ Standing w n (now terms) (now work) st × (st .conflict ≡ false) × (x .term < n) ⌝ }
+    ensures { λ r. ⌜ Answers w n (now (terms .entry)) (now (work .entry)) (now (work .exit)) (clash (now (terms .entry)) (trailIn w n (now (work .entry)) (st .count)) (x .rule) (x .term) (x .value) (premises x)) r ⌝ }
+{
+    let c = clash_number(terms, work, w, n, st.count, x);
+    if c != 0 {
+        return Answer::Refused(c);
+    }
+    if clash_level(work, w, n, st.count, x) == 0 {
+        return Answer::Refuted;
+    }
+    let ps = [x.p, x.q, x.r, x.s, x.t];
+    moves::conflict(work, w, n, st.count, Row(x.term), &ps);
+    Answer::Allowed(Status {
+        count: st.count,
+        top: st.top,
+        conflict: true,
+    })
 }

@@ -1,0 +1,56 @@
+// The run of a step sheet, until it refutes the input, runs out or meets a step that no rule allows.
+ghost use mathlib.Core.Path.{_≡_};
+ghost use Prim.Native.Nat.{_≤_};
+ghost use Rattle.calculus.specs.Sheets.{stepRows};
+ghost use Rattle.calculus.specs.Run.{run};
+ghost use Rattle.state.specs.States.{stateIn, Standing};
+ghost use Rattle.run.specs.Ends.{Ends};
+use calculus::Verdict;
+use state::Answer;
+use state::Status;
+
+// How a run ended: the verdict, the steps allowed, the number of the refusal or 0, and where it stands.
+pub struct Ended {
+    pub verdict: Verdict,
+    pub steps: u16,
+    pub number: u16,
+    pub status: Status,
+}
+
+// The run of the step sheet from where it stands.
+pub fn run_steps(terms: &[u16], steps: &[u16], work: &mut [u64], w: usize, n: usize, st: Status) -> Ended
+    requires { ⌜ Standing w n (now terms) (now work) st × (stepRows (now steps) ≤ 65535) ⌝ }
+    ensures { λ r. ⌜ Ends w n (now (terms .entry)) (now (work .exit)) (run (now (terms .entry)) (now (steps .entry)) (stateIn w n (now (work .entry)) st) 0 (stepRows (now (steps .entry)))) r ⌝ }
+{
+    let rows = steps.len() / 9;
+    let mut here = st;
+    let mut k: usize = 0;
+    while k < rows {
+        let x = rows::step_at(steps, k);
+        let a = steps::step(terms, work, w, n, here, x);
+        let Answer::Allowed(next) = a else {
+            let Answer::Refused(number) = a else {
+                return Ended {
+                    verdict: Verdict::Refuted,
+                    steps: (k + 1) as u16,
+                    number: 0,
+                    status: here,
+                };
+            };
+            return Ended {
+                verdict: Verdict::Refused,
+                steps: k as u16,
+                number: number,
+                status: here,
+            };
+        };
+        here = next;
+        k += 1;
+    }
+    Ended {
+        verdict: Verdict::Open,
+        steps: k as u16,
+        number: 0,
+        status: here,
+    }
+}
