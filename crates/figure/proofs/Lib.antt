@@ -1,0 +1,3 @@
+-- The step definition is the paper's relation.
+pub mod Rows
+pub mod Rules

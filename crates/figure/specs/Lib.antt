@@ -1,0 +1,2 @@
+-- The paper's figure as relations: what gives what, and which step leads where.
+pub mod Inferences
