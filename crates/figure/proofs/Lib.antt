@@ -1,3 +1,4 @@
 -- The step definition is the paper's relation.
 pub mod Rows
 pub mod Rules
+pub mod Trails
