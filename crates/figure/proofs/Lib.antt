@@ -2,3 +2,5 @@
 pub mod Rows
 pub mod Rules
 pub mod Trails
+pub mod Truths
+pub mod Spelling

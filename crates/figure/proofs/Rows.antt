@@ -7,7 +7,7 @@ use Prim.Native.Nat.{ℕ, zero, suc, _+_, _*_, _≤_, _<_}
 use native.Mathlib.Omega.{arith}
 use native.Mathlib.Nat.{not-suc-le-zero, le-of-suc-le-suc}
 use lib.ListN.{length, getD}
-use lib.Dec.{T, eqb, leb, ltb, eqb→eq, leb→le, ltb→lt, eqb-refl, T-not}
+use lib.Dec.{T, eqb, leb, ltb, eqb→eq, leb→le, ltb→lt, eqb-refl, not-T, T-not}
 use Rattle.calculus.specs.declared.Head.{Head}
 use Rattle.calculus.specs.declared.Head.the-variants.{Equality, Negation, Conjunction, Disjunction, Select, Store, Free, Unlisted}
 use Rattle.calculus.specs.Lists.{all, eqList}
@@ -15,6 +15,14 @@ use Rattle.calculus.specs.Sheets.{blank, termRows}
 use Rattle.calculus.specs.Terms.{head, sort, cells, filled, leftFilled, args, arg, prop, headOf, eqHead, notHead, andHead, orHead, selectHead, storeHead, firstFree, earlier, suits, termNumber, termsNumber}
 use Rattle.calculus.proofs.Facts.{and-l, and-r, and-both, or-cases, all-at, facts, unless-ok, first-ok}
 use Rattle.figure.specs.Inferences.{Applied, FreeHead, FunctionHead, isSelect, isStore, isFree}
+
+-- ---- tests of equal numbers
+
+pub eqb-of : {m n : ℕ} → m ≡ n → T (eqb m n)
+eqb-of {m} e = subst (λ k. T (eqb m k)) e (eqb-refl m)
+
+pub neqb-of : {m n : ℕ} → m ≢ n → T (not (eqb m n))
+neqb-of {m} {n} h = not-T (eqb m n) (λ t. h (eqb→eq m n t))
 
 -- ---- lists
 

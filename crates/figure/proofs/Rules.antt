@@ -16,15 +16,7 @@ use Rattle.calculus.specs.Terms.{head, sort, args, arg, eqHead, notHead, andHea
 use Rattle.calculus.specs.Rules.{rowOf, valueOf, gives, bare, single, double, leading, notOf, andOf, orOf, evaluates, others, unitHere, unitAt, isHead, isEq, equates, pairs, connected, fits}
 use Rattle.calculus.proofs.Facts.{and-l, and-r, and-both, or-cases, or-l, or-r, neq, facts, all-at, all-of, any-at, any-of, has-at, has-of, T-true, T-false}
 use Rattle.figure.specs.Inferences.{assign, Opposite, oppositeOfTrue, oppositeOfFalse, Applied, Equation, FreeHead, FunctionHead, Settles, orByTrue, andByFalse, Evaluates, negation, settled, unsettled, Pointwise, noPosition, position, Infers, same, differ, reflexivity, symmetry, transitivity, negated, part, unit, evaluation, congruence, predicate, read, skip}
-use Rattle.figure.proofs.Rows.{eqList-eq, eqList-refl, arg-is, column, WellSorted, function-head, free-head, function-from, row-listed, Two, equation-row, select-row, store-row, not-row, not-props, and-props, or-props}
-
--- ---- tests of equal numbers
-
-eqb-of : {m n : ℕ} → m ≡ n → T (eqb m n)
-eqb-of {m} e = subst (λ k. T (eqb m k)) e (eqb-refl m)
-
-neqb-of : {m n : ℕ} → m ≢ n → T (not (eqb m n))
-neqb-of {m} {n} h = not-T (eqb m n) (λ t. h (eqb→eq m n t))
+use Rattle.figure.proofs.Rows.{eqb-of, neqb-of, eqList-eq, eqList-refl, arg-is, column, WellSorted, function-head, free-head, function-from, row-listed, Two, equation-row, select-row, store-row, not-row, not-props, and-props, or-props}
 
 -- ---- truth values
 

@@ -17,14 +17,7 @@ use Rattle.calculus.proofs.Facts.{and-l, and-r, and-both, or-cases, or-l, or-r,
 use Rattle.calculus.proofs.Entries.{on-entered, entered-on, entry-in, level-ge, level-le}
 use Rattle.calculus.proofs.Reached.{newest, one-entry}
 use Rattle.figure.specs.Transitions.{_∈_, Among, Assigned, Absent, FirstOrder, Level, Restricted, noEntry, kept, dropped}
-
--- ---- tests
-
-pub eqb-of : {m n : ℕ} → m ≡ n → T (eqb m n)
-eqb-of {m} e = subst (λ k. T (eqb m k)) e (eqb-refl m)
-
-pub neqb-of : {m n : ℕ} → m ≢ n → T (not (eqb m n))
-neqb-of {m} {n} h = not-T (eqb m n) (λ t. h (eqb→eq m n t))
+use Rattle.figure.proofs.Rows.{eqb-of, neqb-of}
 
 -- ---- levels
 
