@@ -4,3 +4,4 @@ pub mod Rules
 pub mod Trails
 pub mod Truths
 pub mod Spelling
+pub mod Forth

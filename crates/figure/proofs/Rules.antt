@@ -575,3 +575,8 @@ module _ {ss ts : List ℕ} (W : WellSorted ss ts) where
     fits-infers Read ps h = read-is ps h
     fits-infers Skip ps h = skip-is ps h
     fits-infers Unlisted ps h = absurd h
+
+-- an inference is by a listed rule
+pub infers-listed : {ts : List ℕ} {r : Rule} {J : List Premise} {l v : ℕ} → Infers ts r J l v → r ≢ Unlisted
+unfolding fits
+infers-listed {ts} {r} {J = ps} {l} {v} i e = subst (λ (k : Rule). T (fits ts k l v ps)) e (infers-fits i)
