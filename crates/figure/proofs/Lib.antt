@@ -5,3 +5,4 @@ pub mod Trails
 pub mod Truths
 pub mod Spelling
 pub mod Forth
+pub mod Back
