@@ -253,15 +253,16 @@ module _ (ts : List ℕ) where
           (holds-of tr (intersection (whyAt tr (l .term)) (whyAt tr (k .term))) (firstOrder ts (levelOf tr E)) d (dl .0, both) (first-order-of ts (levelOf tr E) d fo (e ∙ sym c)))) refl))))
           ∙ (λ i. allowed (searching (decisionAt (l .term) (v i) (1 + g i) ∷ t i)))
 
-    -- ---- rows of the sheet
+  -- ---- rows of the sheet
 
-    assigned-row : {t v : ℕ} → Assigned tr t v → t < termRows ts
-    assigned-row a = subst (λ t. t < termRows ts) (a .2) (below-row tr (a .0) R (a .1))
+  pub assigned-row : {tr : Trail} {t v : ℕ} → Reached (termRows ts) tr → Assigned tr t v → t < termRows ts
+  assigned-row {tr} R a = subst (λ t. t < termRows ts) (a .2) (below-row tr (a .0) R (a .1))
 
-    premise-rows : {r : Rule} {J : List Premise} {l v w : ℕ} → Inferred ts tr r J l v w → (p : ℕ) → List·Memᴰ p (map rowOf J) → p < termRows ts
-    premise-rows {J = ps} i p m =
-        let y = Memᴰ·of-map rowOf ps m in
-        subst (λ t. t < termRows ts) (y .2) (assigned-row (i .onTrail (y .0) (y .1)))
+  pub premise-rows : {tr : Trail} {r : Rule} {J : List Premise} {l v w : ℕ} → Reached (termRows ts) tr → Inferred ts tr r J l v w
+      → (p : ℕ) → List·Memᴰ p (map rowOf J) → p < termRows ts
+  premise-rows {J = ps} R i p m =
+      let y = Memᴰ·of-map rowOf ps m in
+      subst (λ t. t < termRows ts) (y .2) (assigned-row R (i .onTrail (y .0) (y .1)))
 
   no-rows : (p : ℕ) → List·Memᴰ p [] → p < termRows ts
   no-rows p m = absurd (List·Memᴰ·not-nil m)
@@ -285,20 +286,20 @@ module _ (ts : List ℕ) where
       ∙ decide-answer (h .reached) (h .truths) s a l
   forth h (Deduce {tr} {l = l} {v} b i n z) x (p) =
       let c = p .0 in
-      step-of (searching tr) x kinds.Deduce (c .kind) (inference-shaped x i c (p .1) (p .2)) tt (known-of c b (premise-rows (h .reached) (h .truths) i))
+      step-of (searching tr) x kinds.Deduce (c .kind) (inference-shaped x i c (p .1) (p .2)) tt (known-of c b (premise-rows (h .reached) i))
       ∙ (λ j. steps.deduce ts tr (x .rule) (c .subject .0 j) (p .2 .0 j) (premises-as c j))
       ∙ deduce-answer (h .reached) (h .truths) (x .rule) i (p .1) n z
   forth h (Fail {tr} i a z) x (p) =
       let c = p .0 in
       step-of (searching tr) x kinds.Clash (c .kind) (inference-shaped x i c (p .1) (p .2)) tt
-      (known-of c (assigned-row (h .reached) (h .truths) a) (premise-rows (h .reached) (h .truths) i))
+      (known-of c (assigned-row (h .reached) a) (premise-rows (h .reached) i))
       ∙ (λ j. steps.clash ts tr (x .rule) (c .subject .0 j) (p .2 .0 j) (premises-as c j))
       ∙ clash-answer (h .reached) (h .truths) (x .rule) i (p .1) a
       ∙ clash-fails (h .reached) (h .truths) z
   forth h (Conflict {tr} i a z m) x (p) =
       let c = p .0 in
       step-of (searching tr) x kinds.Clash (c .kind) (inference-shaped x i c (p .1) (p .2)) tt
-      (known-of c (assigned-row (h .reached) (h .truths) a) (premise-rows (h .reached) (h .truths) i))
+      (known-of c (assigned-row (h .reached) a) (premise-rows (h .reached) i))
       ∙ (λ j. steps.clash ts tr (x .rule) (c .subject .0 j) (p .2 .0 j) (premises-as c j))
       ∙ clash-answer (h .reached) (h .truths) (x .rule) i (p .1) a
       ∙ clash-opens (h .reached) (h .truths) z m

@@ -6,3 +6,4 @@ pub mod Truths
 pub mod Spelling
 pub mod Forth
 pub mod Back
+pub mod Theorem

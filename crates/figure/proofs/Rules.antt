@@ -5,7 +5,7 @@ use mathlib.Core.Bool.{Bool, true, false, not, _&&_, _||_}
 use mathlib.Core.List.{List, [], _∷_, _++_, map, List·Memᴰ, List·Memᴰ·head, List·Memᴰ·tail, List·Memᴰ·cases-cons, List·Memᴰ·not-nil, Memᴰ·map, Memᴰ·of-map}
 use Prim.Native.Nat.{ℕ, zero, suc, _+_, _*_, _≤_, _<_}
 use native.Mathlib.Omega.{arith}
-use lib.ListN.{length, getD}
+use lib.ListN.{length, getD, length-append, length-map}
 use lib.Dec.{T, eqb, leb, ltb, eqb→eq, leb→le, ltb→lt, le→leb, eqb-refl, not-T, T-not}
 use Rattle.calculus.specs.declared.Premise.{Premise}
 use Rattle.calculus.specs.declared.Rule.{Rule}
@@ -16,7 +16,7 @@ use Rattle.calculus.specs.Terms.{head, sort, args, arg, eqHead, notHead, andHea
 use Rattle.calculus.specs.Rules.{rowOf, valueOf, gives, bare, single, double, leading, notOf, andOf, orOf, evaluates, others, unitHere, unitAt, isHead, isEq, equates, pairs, connected, fits}
 use Rattle.calculus.proofs.Facts.{and-l, and-r, and-both, or-cases, or-l, or-r, neq, facts, all-at, all-of, any-at, any-of, has-at, has-of, T-true, T-false}
 use Rattle.figure.specs.Inferences.{assign, Opposite, oppositeOfTrue, oppositeOfFalse, Applied, Equation, FreeHead, FunctionHead, Settles, orByTrue, andByFalse, Evaluates, negation, settled, unsettled, Pointwise, noPosition, position, Infers, same, differ, reflexivity, symmetry, transitivity, negated, part, unit, evaluation, congruence, predicate, read, skip}
-use Rattle.figure.proofs.Rows.{eqb-of, neqb-of, eqList-eq, eqList-refl, arg-is, column, WellSorted, function-head, free-head, function-from, row-listed, Two, equation-row, select-row, store-row, not-row, not-props, and-props, or-props}
+use Rattle.figure.proofs.Rows.{eqb-of, neqb-of, eqList-eq, eqList-refl, args-short, column, WellSorted, function-head, free-head, function-from, row-listed, Two, equation-row, select-row, store-row, not-row, not-props, and-props, or-props}
 
 -- ---- truth values
 
@@ -580,3 +580,32 @@ module _ {ss ts : List ℕ} (W : WellSorted ss ts) where
 pub infers-listed : {ts : List ℕ} {r : Rule} {J : List Premise} {l v : ℕ} → Infers ts r J l v → r ≢ Unlisted
 unfolding fits
 infers-listed {ts} {r} {J = ps} {l} {v} i e = subst (λ (k : Rule). T (fits ts k l v ps)) e (infers-fits i)
+
+-- ---- no inference has more than five premises
+
+pointwise-length : {ts xs ys : List ℕ} {J : List Premise} → Pointwise ts xs ys J → length J ≡ length xs
+pointwise-length noPosition = refl
+pointwise-length (position q r) = ap suc (pointwise-length r)
+
+args-length : {ts : List ℕ} {t h : ℕ} {xs : List ℕ} → Applied ts t h xs → length xs ≤ 4
+args-length {ts} {t} q = subst (λ l. length l ≤ 4) (q .arguments) (args-short ts t)
+
+pub infers-short : {ts : List ℕ} {r : Rule} {J : List Premise} {l v : ℕ} → Infers ts r J l v → length J ≤ 5
+infers-short (same q) = omega arith
+infers-short (differ q n) = omega arith
+infers-short (reflexivity q) = omega arith
+infers-short (symmetry p q) = omega arith
+infers-short (transitivity p q r) = omega arith
+infers-short (negated q o) = omega arith
+infers-short (part s q m) = omega arith
+infers-short (unit {l} {u = u} xs ys s q) =
+    let a = args-length q in
+    let b = length-append xs (l ∷ ys) in
+    let c = length-append xs ys in
+    let d = length-map (xs ++ ys) (assign u) in
+    omega arith
+infers-short (evaluation {J = ps} q x) = let a = args-length q in let b = length-map ps rowOf in omega arith
+infers-short (congruence q a b k r) = let c = args-length a in let d = pointwise-length r in omega arith
+infers-short (predicate a b k r) = let c = args-length a in let d = pointwise-length r in omega arith
+infers-short (read q p r) = omega arith
+infers-short (skip q p c o z) = omega arith

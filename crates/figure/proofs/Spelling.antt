@@ -5,7 +5,8 @@ use mathlib.Core.Bool.{Bool, true, false, not, _&&_, cond}
 use mathlib.Core.List.{List, [], _∷_}
 use Prim.Native.Nat.{ℕ, zero, suc, _≤_, _<_}
 use native.Mathlib.Omega.{arith}
-use lib.ListN.{length, getD}
+use native.Mathlib.Decide.{decLt}
+use lib.ListN.{length, getD, List·getD-eq-default}
 use lib.Dec.{T, eqb, leb, ltb, eqb→eq, leb→le, ltb→lt, le→leb, lt→ltb, eqb-refl, not-T, T-not}
 use Rattle.calculus.specs.declared.Step.{Step}
 use Rattle.calculus.specs.declared.Rule.{Rule}
@@ -13,7 +14,7 @@ use Rattle.calculus.specs.declared.Rule.the-variants.{Same, Differ, Reflexivity
 use Rattle.calculus.specs.Lists.{all}
 use Rattle.calculus.specs.Sheets.{blank}
 use Rattle.calculus.specs.Terms.{filled, leftFilled}
-use Rattle.calculus.specs.Rules.{ruleOf, ruleListed}
+use Rattle.calculus.specs.Rules.{rules, ruleOf, ruleListed}
 use Rattle.calculus.specs.Steps.{premiseCells, isBlank, isFilled}
 use Rattle.calculus.proofs.Facts.{and-l, and-r, and-both, T-true, T-false, true-T, neq, facts}
 use Rattle.figure.specs.Spelling.{Filled, Blank, FromLeft, noColumn, blankColumn, filledColumn}
@@ -56,20 +57,11 @@ no-premise x h = all-blank (premiseCells x) h
 -- a number that names a rule is listed
 pub listed : (n : ℕ) → ruleOf n ≢ Unlisted → T (ruleListed n)
 unfolding ruleOf
-listed zero h = tt
-listed (suc zero) h = tt
-listed (suc (suc zero)) h = tt
-listed (suc (suc (suc zero))) h = tt
-listed (suc (suc (suc (suc zero)))) h = tt
-listed (suc (suc (suc (suc (suc zero))))) h = tt
-listed (suc (suc (suc (suc (suc (suc zero)))))) h = tt
-listed (suc (suc (suc (suc (suc (suc (suc zero))))))) h = tt
-listed (suc (suc (suc (suc (suc (suc (suc (suc zero)))))))) h = tt
-listed (suc (suc (suc (suc (suc (suc (suc (suc (suc zero))))))))) h = tt
-listed (suc (suc (suc (suc (suc (suc (suc (suc (suc (suc zero)))))))))) h = tt
-listed (suc (suc (suc (suc (suc (suc (suc (suc (suc (suc (suc zero))))))))))) h = tt
-listed (suc (suc (suc (suc (suc (suc (suc (suc (suc (suc (suc (suc zero)))))))))))) h = tt
-listed (suc (suc (suc (suc (suc (suc (suc (suc (suc (suc (suc (suc (suc n))))))))))))) h = absurd (h refl)
+listed n h = go (decLt n (length rules))
+  where
+    go : Dec (n < length rules) → T (ruleListed n)
+    go (yes l) = lt→ltb n (length rules) l
+    go (no l) = absurd (h (List·getD-eq-default rules Unlisted {n = n} (omega arith)))
 
 -- every rule has its number
 pub rule-number : (r : Rule) → (n : ℕ) × (ruleOf n ≡ r) × (n < blank)
