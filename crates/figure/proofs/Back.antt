@@ -1,32 +1,29 @@
 -- A row that is answered with a result spells an action with a transition to it.
 use mathlib.Core.Path.{_≡_, refl, sym, ap, subst, _∙_}
-use mathlib.Core.Logic.{_≢_, _⊎_, inl, inr}
-use mathlib.Core.Bool.{Bool, true, false, not, _&&_, _||_, cond}
-use mathlib.Core.List.{List, [], _∷_, map, List·Memᴰ, List·Memᴰ·head, List·Memᴰ·tail}
-use Prim.Native.Nat.{ℕ, zero, suc, _+_, _-_, _*_, _≤_, _<_}
+use mathlib.Core.Bool.{true, not, cond}
+use mathlib.Core.List.{List, [], _∷_, map}
+use Prim.Native.Nat.{ℕ, zero, suc, _+_, _-_, _≤_, _<_}
 use native.Mathlib.Omega.{arith}
-use lib.Dec.{T, eqb, leb, ltb, eqb→eq, leb→le, ltb→lt, eqb·suc-zero, not-T, T-not}
+use lib.Dec.{T, eqb, ltb, eqb→eq, ltb→lt, eqb·suc-zero, T-not}
 use Rattle.calculus.specs.declared.Step.{Step}
 use Rattle.calculus.specs.declared.Kind.{Kind}
 use Rattle.calculus.specs.declared.Kind.the-variants as kinds
-use Rattle.calculus.specs.declared.Premise.{Premise}
-use Rattle.calculus.specs.declared.Rule.{Rule}
 use Rattle.calculus.specs.Lists.{all, has, opposite}
 use Rattle.calculus.specs.Sheets.{blank, termRows}
-use Rattle.calculus.specs.Terms.{prop, sort, leftFilled}
-use Rattle.calculus.specs.Trail.{Set, Trail, Entry, everything, remove, union, intersection, on, entry, valueAt, levelAt, decidedAt, whyAt, assigned, premisesAt, holds, firstOrder, levelOf, topLevel, keptTo, decision, justified}
-use Rattle.calculus.specs.Rules.{rowOf, ruleOf, ruleListed, fits}
+use Rattle.calculus.specs.Terms.{sort, leftFilled}
+use Rattle.calculus.specs.Trail.{Set, Trail, Entry, everything, remove, union, intersection, entry, valueAt, levelAt, decidedAt, whyAt, premisesAt, holds, firstOrder, levelOf, keptTo}
+use Rattle.calculus.specs.Rules.{rowOf, ruleOf}
 use Rattle.calculus.specs.Reached.{Within, Reached, ReachedState}
 use Rattle.calculus.specs.Steps as steps
-use Rattle.calculus.specs.Steps.{State, searching, conflict, Answer, allowed, refuted, refused, answer, premiseCells, premises, kindOf, isBlank, isFilled, inferenceShaped, conflictShaped, shaped, ready, known, clashSet, clashed, inferenceNumber, rowNumber, stepBy, step}
-use Rattle.calculus.proofs.Facts.{and-l, and-r, and-both, T-true, T-false, true-T, is-or-not, neq, all-at, facts, unless-ok}
+use Rattle.calculus.specs.Steps.{State, searching, conflict, Answer, allowed, refuted, refused, answer, premiseCells, premises, kindOf, isBlank, isFilled, inferenceShaped, conflictShaped, shaped, ready, known, clashed, inferenceNumber, rowNumber, stepBy, step}
+use Rattle.calculus.proofs.Facts.{and-l, and-r, T-true, T-false, true-T, neq, facts, unless-ok}
 use Rattle.calculus.proofs.Entries.{entry-in, level-kept, holds-at}
 use Rattle.calculus.proofs.Reached.{decided-high}
-use Rattle.figure.specs.Inferences.{Opposite, oppositeOfTrue, oppositeOfFalse, Infers}
-use Rattle.figure.specs.Transitions.{_∈_, InBasis, Boolean, Suits, Among, Assigned, Absent, FirstOrder, decisionAt, justifiedAt, Level, Restricted, Inferred, Action, decide, deduce, clash, resolve, clear, jump, flip, Result, next, unsat, Transition, Decide, Deduce, Fail, Conflict, Resolve, Undo, Backjump, UndoDecide}
+use Rattle.figure.specs.Inferences.{Opposite, oppositeOfTrue, oppositeOfFalse}
+use Rattle.figure.specs.Transitions.{_∈_, Boolean, Suits, Assigned, justifiedAt, Level, Inferred, Action, decide, deduce, clash, resolve, clear, jump, flip, Result, next, unsat, Transition, Decide, Deduce, Fail, Conflict, Resolve, Undo, Backjump, UndoDecide}
 use Rattle.figure.specs.Spelling.{Filled, Blank, FromLeft, noColumn, blankColumn, filledColumn, Columns, Spells}
 use Rattle.figure.specs.Faithful.{answerOf, Reachable}
-use Rattle.figure.proofs.Rows.{eqb-of, WellSorted}
+use Rattle.figure.proofs.Rows.{WellSorted}
 use Rattle.figure.proofs.Rules.{Known, Truths, fits-infers}
 use Rattle.figure.proofs.Trails.{level-is, restricted-is, off-is, below-row, entry-of, assigned-is, one-value, premises-rows, premises-is, first-order-is, first-order-of, holds-of}
 use Rattle.figure.proofs.Truths.{value-suits}

@@ -1,31 +1,30 @@
 -- A row that spells an action with a transition is answered with the transition's result.
-use mathlib.Core.Path.{_≡_, refl, sym, ap, ap₂, subst, subst₂, _∙_}
+use mathlib.Core.Path.{_≡_, refl, sym, ap, subst, subst₂, _∙_}
 use mathlib.Core.Logic.{_≢_, _⊎_, inl, inr}
-use mathlib.Core.Bool.{Bool, true, false, not, _&&_, _||_, cond}
-use mathlib.Core.List.{List, [], _∷_, map, List·Memᴰ, List·Memᴰ·head, List·Memᴰ·tail, List·Memᴰ·not-nil, List·Memᴰ·eq-of-singleton, Memᴰ·of-map}
-use Prim.Native.Nat.{ℕ, zero, suc, _+_, _-_, _*_, _≤_, _<_}
+use mathlib.Core.Bool.{Bool, true, false, not, _||_}
+use mathlib.Core.List.{List, [], _∷_, map, List·Memᴰ, List·Memᴰ·not-nil, List·Memᴰ·eq-of-singleton, Memᴰ·of-map}
+use Prim.Native.Nat.{ℕ, zero, suc, _+_, _-_, _≤_, _<_}
 use native.Mathlib.Omega.{arith}
-use lib.Dec.{T, eqb, leb, ltb, eqb→eq, le→leb, lt→ltb, not-T, T-not}
+use lib.Dec.{T, eqb, leb, ltb, eqb→eq, le→leb, lt→ltb, not-T}
 use Rattle.calculus.specs.declared.Step.{Step}
 use Rattle.calculus.specs.declared.Kind.{Kind}
 use Rattle.calculus.specs.declared.Kind.the-variants as kinds
 use Rattle.calculus.specs.declared.Premise.{Premise}
 use Rattle.calculus.specs.declared.Rule.{Rule}
-use Rattle.calculus.specs.declared.Rule.the-variants.{Unlisted}
 use Rattle.calculus.specs.Lists.{all, has, opposite}
 use Rattle.calculus.specs.Numbers.{unless}
-use Rattle.calculus.specs.Sheets.{blank, termRows}
+use Rattle.calculus.specs.Sheets.{termRows}
 use Rattle.calculus.specs.Terms.{prop, sort}
-use Rattle.calculus.specs.Trail.{Set, Trail, Entry, everything, remove, union, intersection, on, entry, valueAt, levelAt, decidedAt, whyAt, assigned, premisesAt, holds, firstOrder, levelOf, topLevel, keptTo, decision, justified}
+use Rattle.calculus.specs.Trail.{Set, Trail, Entry, everything, remove, union, intersection, valueAt, levelAt, decidedAt, whyAt, assigned, holds, firstOrder, levelOf, topLevel, keptTo}
 use Rattle.calculus.specs.Inputs.{valueSuits}
 use Rattle.calculus.specs.Rules.{rowOf, ruleOf, ruleListed, fits}
 use Rattle.calculus.specs.Reached.{Reached, ReachedState}
 use Rattle.calculus.specs.Steps as steps
-use Rattle.calculus.specs.Steps.{State, searching, conflict, Answer, allowed, refuted, answer, premiseCells, premises, kindOf, isBlank, isFilled, inferenceShaped, conflictShaped, shaped, ready, known, clashSet, clashed, jumped, flipped, inferenceNumber, rowNumber, stepBy, step}
-use Rattle.calculus.proofs.Facts.{and-l, and-r, and-both, or-l, or-r, T-true, T-false, true-T, false-T, all-of, facts}
+use Rattle.calculus.specs.Steps.{State, searching, conflict, Answer, allowed, refuted, answer, premiseCells, premises, kindOf, isBlank, isFilled, inferenceShaped, conflictShaped, shaped, ready, known, clashed, inferenceNumber, rowNumber, stepBy, step}
+use Rattle.calculus.proofs.Facts.{and-l, and-r, and-both, T-true, T-false, true-T, false-T, all-of, facts}
 use Rattle.calculus.proofs.Entries.{level-kept, holds-at}
-use Rattle.figure.specs.Inferences.{Opposite, oppositeOfTrue, oppositeOfFalse, Infers}
-use Rattle.figure.specs.Transitions.{_∈_, InBasis, Boolean, Suits, Among, Assigned, Absent, FirstOrder, decisionAt, justifiedAt, Level, Restricted, Inferred, Action, Result, next, unsat, Transition, Decide, Deduce, Fail, Conflict, Resolve, Undo, Backjump, UndoDecide}
+use Rattle.figure.specs.Inferences.{Opposite, oppositeOfTrue, oppositeOfFalse}
+use Rattle.figure.specs.Transitions.{_∈_, Boolean, Suits, Among, Assigned, Absent, FirstOrder, decisionAt, justifiedAt, Level, Restricted, Inferred, Action, Result, Transition, Decide, Deduce, Fail, Conflict, Resolve, Undo, Backjump, UndoDecide}
 use Rattle.figure.specs.Spelling.{Filled, Blank, FromLeft, filledColumn, Columns, Spells}
 use Rattle.figure.specs.Faithful.{answerOf, Reachable}
 use Rattle.figure.proofs.Rows.{eqb-of, neqb-of}
@@ -283,44 +282,44 @@ module _ (ts : List ℕ) where
       (and-both (isFilled (x .term)) _ (filled-test (c .subject))
       (and-both (isFilled (x .value)) _ (filled-test (p .2)) (blanks-of (c .rows))))) tt (known-of c b no-rows)
       ∙ (λ i. steps.decide ts tr (c .subject .0 i) (p .2 .0 i))
-      ∙ decide-answer (h .reached) (h .truths) s a l
+      ∙ decide-answer (h .reached) (h .truths) (search) (search) (search)
   forth h (Deduce {tr} {l = l} {v} b i n z) x (p) =
       let c = p .0 in
       step-of (searching tr) x kinds.Deduce (c .kind) (inference-shaped x i c (p .1) (p .2)) tt (known-of c b (premise-rows (h .reached) i))
       ∙ (λ j. steps.deduce ts tr (x .rule) (c .subject .0 j) (p .2 .0 j) (premises-as c j))
-      ∙ deduce-answer (h .reached) (h .truths) (x .rule) i (p .1) n z
+      ∙ deduce-answer (h .reached) (h .truths) (x .rule) i (p .1) (search) (search)
   forth h (Fail {tr} i a z) x (p) =
       let c = p .0 in
       step-of (searching tr) x kinds.Clash (c .kind) (inference-shaped x i c (p .1) (p .2)) tt
       (known-of c (assigned-row (h .reached) a) (premise-rows (h .reached) i))
       ∙ (λ j. steps.clash ts tr (x .rule) (c .subject .0 j) (p .2 .0 j) (premises-as c j))
-      ∙ clash-answer (h .reached) (h .truths) (x .rule) i (p .1) a
-      ∙ clash-fails (h .reached) (h .truths) z
+      ∙ clash-answer (h .reached) (h .truths) (x .rule) i (p .1) (search)
+      ∙ clash-fails (h .reached) (h .truths) (search)
   forth h (Conflict {tr} i a z m) x (p) =
       let c = p .0 in
       step-of (searching tr) x kinds.Clash (c .kind) (inference-shaped x i c (p .1) (p .2)) tt
       (known-of c (assigned-row (h .reached) a) (premise-rows (h .reached) i))
       ∙ (λ j. steps.clash ts tr (x .rule) (c .subject .0 j) (p .2 .0 j) (premises-as c j))
-      ∙ clash-answer (h .reached) (h .truths) (x .rule) i (p .1) a
-      ∙ clash-opens (h .reached) (h .truths) z m
+      ∙ clash-answer (h .reached) (h .truths) (x .rule) i (p .1) (search)
+      ∙ clash-opens (h .reached) (h .truths) z (omega arith)
   forth h (Resolve {tr} {E} a j z f) x (p) =
       let c = p .0 in
       let R = h .reached .0 in
       step-of (conflict tr E) x kinds.Resolve (c .kind) (alone-shaped x (c .subject) (p .1) (p .2) (c .rows)) tt (known-of c (below-row tr _ R (a .0)) no-rows)
       ∙ (λ i. steps.resolve ts tr E (c .subject .0 i))
-      ∙ resolve-answer R (h .truths) E a j z f
+      ∙ resolve-answer R (h .truths) E a (search) z (search)
   forth h (Undo {tr} {E = E} a o e z l r) x (p) =
       let c = p .0 in
       let R = h .reached .0 in
       step-of (conflict tr E) x kinds.Clear (c .kind) (alone-shaped x (c .subject) (p .1) (p .2) (c .rows)) tt (known-of c (below-row tr _ R (a .0)) no-rows)
       ∙ (λ i. steps.clear ts tr E (c .subject .0 i))
-      ∙ clear-answer R (h .truths) E a o e z l r
+      ∙ clear-answer R (h .truths) E a (search) (omega arith) z (omega arith) r
   forth h (Backjump {tr} {E = E} a b o z l r) x (p) =
       let c = p .0 in
       let R = h .reached .0 in
       step-of (conflict tr E) x kinds.Jump (c .kind) (alone-shaped x (c .subject) (p .1) (p .2) (c .rows)) tt (known-of c (below-row tr _ R (a .0)) no-rows)
       ∙ (λ i. steps.jump ts tr E (c .subject .0 i))
-      ∙ jump-answer R (h .truths) E a b o z l r
+      ∙ jump-answer R (h .truths) E a (search) (search) (search) (omega arith) r
   forth h (UndoDecide {tr} {E = E} {k = k} hl jl b o hk jk ne dl dk fo e z r y) x (p) =
       let c = p .0 in
       let R = h .reached .0 in
@@ -328,4 +327,4 @@ module _ (ts : List ℕ) where
       step-of (conflict tr E) x kinds.Flip (c .kind) (conflict-shaped x (isFilled (x .p)) (c .subject) (p .1) (p .2) (filled-test (f .0)) (blanks-of (f .1))) tt
       (known-of c (below-row tr _ R (hl .0)) (λ t m. subst (λ t. t < termRows ts) (sym (List·Memᴰ·eq-of-singleton m)) (below-row tr _ R (hk .0))))
       ∙ (λ i. steps.flip ts tr E (c .subject .0 i) (f .0 .0 i))
-      ∙ flip-answer R (h .truths) E hl jl b o hk jk ne dl dk fo e z r y
+      ∙ flip-answer R (h .truths) E hl (search) (search) (search) hk (search) (search) dl dk (search) (omega arith) z r y

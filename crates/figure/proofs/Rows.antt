@@ -2,8 +2,8 @@
 use mathlib.Core.Path.{_≡_, refl, sym, ap, subst, _∙_}
 use mathlib.Core.Logic.{_≢_, _⊎_, inl, inr}
 use mathlib.Core.Bool.{Bool, true, false, not, _&&_, _||_, cond}
-use mathlib.Core.List.{List, [], _∷_, map, List·Memᴰ, List·Memᴰ·head, List·Memᴰ·tail, List·Memᴰ·cases-cons, List·Memᴰ·not-nil, Memᴰ·cast}
-use Prim.Native.Nat.{ℕ, zero, suc, _+_, _*_, _≤_, _<_}
+use mathlib.Core.List.{List, [], _∷_, List·Memᴰ, List·Memᴰ·head, List·Memᴰ·tail, List·Memᴰ·cases-cons, List·Memᴰ·not-nil, Memᴰ·cast}
+use Prim.Native.Nat.{ℕ, zero, suc, _≤_, _<_}
 use native.Mathlib.Omega.{arith}
 use native.Mathlib.Nat.{not-suc-le-zero, le-of-suc-le-suc}
 use lib.ListN.{length, getD}
@@ -120,20 +120,14 @@ well-sorted ss ts ok = record { row = λ t l. first-ok (termRows ts) (termNumber
 
 -- heads as numbers
 
-free-from : (h : ℕ) → firstFree ≤ h → ¬ (cond (leb firstFree h && ltb h blank) Free Unlisted ≡ Unlisted) → FreeHead h
-free-from h l n = go (ltb h blank) (ltb→lt h blank) (leb firstFree h) n
+free-listed : (h : ℕ) → ¬ (cond (leb firstFree h && ltb h blank) Free Unlisted ≡ Unlisted) → FreeHead h
+free-listed h n =
+    let t = go (leb firstFree h && ltb h blank) n in
+    record { fromFirst = leb→le _ _ (and-l (leb firstFree h) _ t); beforeBlank = ltb→lt _ _ (and-r (leb firstFree h) _ t) }
   where
-    go : (b : Bool) → (T b → h < blank) → (c : Bool) → ¬ (cond (c && b) Free Unlisted ≡ Unlisted) → FreeHead h
-    go true f c n = record { fromFirst = l; beforeBlank = f tt }
-    go false f true n = absurd (n refl)
-    go false f false n = absurd (n refl)
-
-few-from : (h : ℕ) → ¬ (cond (leb firstFree h && ltb h blank) Free Unlisted ≡ Unlisted) → FreeHead h
-few-from h n = go (leb firstFree h) (leb→le firstFree h) n
-  where
-    go : (c : Bool) → (T c → firstFree ≤ h) → ¬ (cond (c && ltb h blank) Free Unlisted ≡ Unlisted) → FreeHead h
-    go true f m = free-from h (f tt) n
-    go false f m = absurd (m refl)
+    go : (b : Bool) → ¬ (cond b Free Unlisted ≡ Unlisted) → T b
+    go true n = tt
+    go false n = n refl
 
 -- a listed head from select on is a function's, and one from 16 on is free
 pub function-head : (h : ℕ) → selectHead ≤ h → ¬ (headOf h ≡ Unlisted) → FunctionHead h
@@ -143,7 +137,7 @@ function-head (suc (suc zero)) l n = absurd (omega arith)
 function-head (suc (suc (suc zero))) l n = absurd (omega arith)
 function-head (suc (suc (suc (suc zero)))) l n = isSelect
 function-head (suc (suc (suc (suc (suc zero))))) l n = isStore
-function-head (suc (suc (suc (suc (suc (suc k)))))) l n = isFree (few-from (suc (suc (suc (suc (suc (suc k)))))) n)
+function-head (suc (suc (suc (suc (suc (suc k)))))) l n = isFree (free-listed (suc (suc (suc (suc (suc (suc k)))))) n)
 
 pub free-head : (h : ℕ) → firstFree ≤ h → ¬ (headOf h ≡ Unlisted) → FreeHead h
 free-head zero l n = absurd (omega arith)
@@ -152,7 +146,7 @@ free-head (suc (suc zero)) l n = absurd (omega arith)
 free-head (suc (suc (suc zero))) l n = absurd (omega arith)
 free-head (suc (suc (suc (suc zero)))) l n = absurd (omega arith)
 free-head (suc (suc (suc (suc (suc zero))))) l n = absurd (omega arith)
-free-head (suc (suc (suc (suc (suc (suc k)))))) l n = few-from (suc (suc (suc (suc (suc (suc k)))))) n
+free-head (suc (suc (suc (suc (suc (suc k)))))) l n = free-listed (suc (suc (suc (suc (suc (suc k)))))) n
 
 pub function-from : {h : ℕ} → FunctionHead h → selectHead ≤ h
 function-from isSelect = omega arith

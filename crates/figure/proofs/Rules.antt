@@ -3,20 +3,20 @@ use mathlib.Core.Path.{_≡_, refl, sym, ap, subst, subst₂, _∙_}
 use mathlib.Core.Logic.{_≢_, _⊎_, inl, inr}
 use mathlib.Core.Bool.{Bool, true, false, not, _&&_, _||_}
 use mathlib.Core.List.{List, [], _∷_, _++_, map, List·Memᴰ, List·Memᴰ·head, List·Memᴰ·tail, List·Memᴰ·cases-cons, List·Memᴰ·not-nil, Memᴰ·map, Memᴰ·of-map}
-use Prim.Native.Nat.{ℕ, zero, suc, _+_, _*_, _≤_, _<_}
+use Prim.Native.Nat.{ℕ, zero, suc, _+_, _≤_, _<_}
 use native.Mathlib.Omega.{arith}
-use lib.ListN.{length, getD, length-append, length-map}
-use lib.Dec.{T, eqb, leb, ltb, eqb→eq, leb→le, ltb→lt, le→leb, eqb-refl, not-T, T-not}
+use lib.ListN.{length, length-append, length-map}
+use lib.Dec.{T, eqb, leb, eqb→eq, le→leb, eqb-refl}
 use Rattle.calculus.specs.declared.Premise.{Premise}
 use Rattle.calculus.specs.declared.Rule.{Rule}
 use Rattle.calculus.specs.declared.Rule.the-variants.{Same, Differ, Reflexivity, Symmetry, Transitivity, Negated, Part, Unit, Evaluation, Congruence, Predicate, Read, Skip, Unlisted}
-use Rattle.calculus.specs.Lists.{all, any, has, eqList, num, isTrue}
-use Rattle.calculus.specs.Sheets.{blank, termRows}
+use Rattle.calculus.specs.Lists.{has, eqList, num, isTrue}
+use Rattle.calculus.specs.Sheets.{termRows}
 use Rattle.calculus.specs.Terms.{head, sort, args, arg, eqHead, notHead, andHead, orHead, selectHead, storeHead, firstFree}
 use Rattle.calculus.specs.Rules.{rowOf, valueOf, gives, bare, single, double, leading, notOf, andOf, orOf, evaluates, others, unitHere, unitAt, isHead, isEq, equates, pairs, connected, fits}
-use Rattle.calculus.proofs.Facts.{and-l, and-r, and-both, or-cases, or-l, or-r, neq, facts, all-at, all-of, any-at, any-of, has-at, has-of, T-true, T-false}
-use Rattle.figure.specs.Inferences.{assign, Opposite, oppositeOfTrue, oppositeOfFalse, Applied, Equation, FreeHead, FunctionHead, Settles, orByTrue, andByFalse, Evaluates, negation, settled, unsettled, Pointwise, noPosition, position, Infers, same, differ, reflexivity, symmetry, transitivity, negated, part, unit, evaluation, congruence, predicate, read, skip}
-use Rattle.figure.proofs.Rows.{eqb-of, neqb-of, eqList-eq, eqList-refl, args-short, column, WellSorted, function-head, free-head, function-from, row-listed, Two, equation-row, select-row, store-row, not-row, not-props, and-props, or-props}
+use Rattle.calculus.proofs.Facts.{and-l, and-r, and-both, or-cases, or-l, or-r, facts, all-at, all-of, any-at, any-of, has-at, has-of}
+use Rattle.figure.specs.Inferences.{assign, Opposite, oppositeOfTrue, oppositeOfFalse, Applied, Equation, orByTrue, andByFalse, Evaluates, negation, settled, unsettled, Pointwise, noPosition, position, Infers, same, differ, reflexivity, symmetry, transitivity, negated, part, unit, evaluation, congruence, predicate, read, skip}
+use Rattle.figure.proofs.Rows.{eqb-of, neqb-of, eqList-eq, eqList-refl, args-short, column, WellSorted, function-head, free-head, function-from, row-listed, equation-row, select-row, store-row, not-row, not-props, and-props, or-props}
 
 -- ---- truth values
 

@@ -1,13 +1,13 @@
 -- A row's shape by the definitions is what the row spells.
-use mathlib.Core.Path.{_≡_, refl, sym, ap, subst, _∙_}
-use mathlib.Core.Logic.{_≢_, _⊎_, inl, inr}
-use mathlib.Core.Bool.{Bool, true, false, not, _&&_, cond}
+use mathlib.Core.Path.{_≡_, refl, sym, subst, _∙_}
+use mathlib.Core.Logic.{_≢_}
+use mathlib.Core.Bool.{Bool, true, false, cond}
 use mathlib.Core.List.{List, [], _∷_}
-use Prim.Native.Nat.{ℕ, zero, suc, _≤_, _<_}
+use Prim.Native.Nat.{ℕ, _<_}
 use native.Mathlib.Omega.{arith}
 use native.Mathlib.Decide.{decLt}
-use lib.ListN.{length, getD, List·getD-eq-default}
-use lib.Dec.{T, eqb, leb, ltb, eqb→eq, leb→le, ltb→lt, le→leb, lt→ltb, eqb-refl, not-T, T-not}
+use lib.ListN.{length, List·getD-eq-default}
+use lib.Dec.{T, eqb, eqb→eq, lt→ltb}
 use Rattle.calculus.specs.declared.Step.{Step}
 use Rattle.calculus.specs.declared.Rule.{Rule}
 use Rattle.calculus.specs.declared.Rule.the-variants.{Same, Differ, Reflexivity, Symmetry, Transitivity, Negated, Part, Unit, Evaluation, Congruence, Predicate, Read, Skip, Unlisted}
@@ -15,9 +15,9 @@ use Rattle.calculus.specs.Lists.{all}
 use Rattle.calculus.specs.Sheets.{blank}
 use Rattle.calculus.specs.Terms.{filled, leftFilled}
 use Rattle.calculus.specs.Rules.{rules, ruleOf, ruleListed}
-use Rattle.calculus.specs.Steps.{premiseCells, isBlank, isFilled}
-use Rattle.calculus.proofs.Facts.{and-l, and-r, and-both, T-true, T-false, true-T, neq, facts}
-use Rattle.figure.specs.Spelling.{Filled, Blank, FromLeft, noColumn, blankColumn, filledColumn}
+use Rattle.calculus.specs.Steps.{premiseCells, isBlank}
+use Rattle.calculus.proofs.Facts.{and-l, and-r, and-both, T-true, T-false, true-T}
+use Rattle.figure.specs.Spelling.{FromLeft, noColumn, blankColumn, filledColumn}
 use Rattle.figure.proofs.Rows.{eqb-of, neqb-of}
 
 -- ---- premises from the left

@@ -1,30 +1,28 @@
 -- The step definition is the paper's relation: at every state that a list of steps can reach, over every sheet that passes its checks.
-use mathlib.Core.Path.{_≡_, refl, sym, ap, subst, _∙_}
+use mathlib.Core.Path.{_≡_, refl, ap, _∙_}
 use mathlib.Core.List.{List, [], _∷_, map, List·Memᴰ, List·Memᴰ·head, List·Memᴰ·tail, List·Memᴰ·not-nil, List·Memᴰ·eq-of-singleton}
-use mathlib.Core.Bool.{_&&_}
-use Prim.Native.Nat.{ℕ, zero, suc, _+_, _≤_, _<_}
+use Prim.Native.Nat.{ℕ, zero, suc, _≤_, _<_}
 use native.Mathlib.Omega.{arith}
 use lib.ListN.{length, getD, length-map}
-use lib.Dec.{T, eqb, leb, leb→le}
 use Rattle.calculus.specs.declared.Step.{Step}
 use Rattle.calculus.specs.declared.Kind.{Kind}
 use Rattle.calculus.specs.declared.Kind.the-variants as kinds
 use Rattle.calculus.specs.declared.Premise.{Premise}
 use Rattle.calculus.specs.declared.Rule.{Rule}
-use Rattle.calculus.specs.Sheets.{Call, blank, sortRows, termRows, inputRows, stepRows, whole, within, roomy, lengthNumber}
+use Rattle.calculus.specs.Sheets.{Call, blank, termRows, lengthNumber}
 use Rattle.calculus.specs.Sorts.{sortsNumber}
 use Rattle.calculus.specs.Terms.{termsNumber}
-use Rattle.calculus.specs.Trail.{Entry, Trail}
+use Rattle.calculus.specs.Trail.{Trail}
 use Rattle.calculus.specs.Rules.{rowOf, ruleOf}
 use Rattle.calculus.specs.Reached.{Reached, ReachedState}
-use Rattle.calculus.specs.Steps.{State, searching, conflict, kindOf, premiseCells, step}
+use Rattle.calculus.specs.Steps.{State, kindOf, step}
 use Rattle.calculus.specs.Run.{sheetsNumber, callNumber, ending}
-use Rattle.calculus.proofs.Facts.{and-l, and-r, unless-ok, orElse-ok, facts}
+use Rattle.calculus.proofs.Facts.{unless-ok, orElse-ok, facts}
 use Rattle.figure.specs.Inferences.{Opposite, oppositeOfTrue, oppositeOfFalse}
-use Rattle.figure.specs.Transitions.{_∈_, Among, Assigned, Inferred, Action, decide, deduce, clash, resolve, clear, jump, flip, Result, Transition, Decide, Deduce, Fail, Conflict, Resolve, Undo, Backjump, UndoDecide}
-use Rattle.figure.specs.Spelling.{Filled, Blank, FromLeft, noColumn, blankColumn, filledColumn, Columns, Spells, Sheet, Writable}
-use Rattle.figure.specs.Faithful.{answerOf, Reachable, Faithful}
-use Rattle.figure.proofs.Rows.{WellSorted, well-sorted}
+use Rattle.figure.specs.Transitions.{Inferred, Action, Result, Transition, Decide, Deduce, Fail, Conflict, Resolve, Undo, Backjump, UndoDecide}
+use Rattle.figure.specs.Spelling.{Filled, FromLeft, noColumn, blankColumn, filledColumn, Columns, Spells, SixteenBits, Writable}
+use Rattle.figure.specs.Faithful.{Reachable, Faithful}
+use Rattle.figure.proofs.Rows.{well-sorted}
 use Rattle.figure.proofs.Rules.{infers-short, opposite-sum}
 use Rattle.figure.proofs.Trails.{below-row}
 use Rattle.figure.proofs.Truths.{call-reachable}
@@ -60,7 +58,7 @@ cell-small (p ∷ ps) (suc k) s = cell-small ps k (λ q m. s q (List·Memᴰ·ta
 -- a row with these columns, each of 16 bits
 record Written (k : Kind) (n t v : ℕ) (ps : List ℕ) : Type 0 where
   pub row : Step
-  pub sheet : Sheet row
+  pub sheet : SixteenBits row
   pub cols : Columns row k t ps
   pub rule : row .rule ≡ n
   pub value : row .value ≡ v
@@ -88,7 +86,7 @@ write k n t v ps i j l m f s =
 
 module _ (ts : List ℕ) (short : termRows ts ≤ 256) where
   abbrev Row : Action → Type 0
-  Row a = (x : Step) × Sheet x × Spells x a
+  Row a = (x : Step) × SixteenBits x × Spells x a
 
   no-premises : Small []
   no-premises p m = absurd (List·Memᴰ·not-nil m)

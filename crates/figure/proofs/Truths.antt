@@ -1,24 +1,22 @@
 -- On every trail that a list of steps can reach, props have truth values.
-use mathlib.Core.Path.{_≡_, refl, sym, ap, subst, _∙_}
+use mathlib.Core.Path.{_≡_, refl, sym, subst}
 use mathlib.Core.Logic.{_⊎_, inl, inr}
-use mathlib.Core.Bool.{Bool, true, false, not, _&&_, _||_, cond}
+use mathlib.Core.Bool.{not}
 use mathlib.Core.List.{List, [], _∷_, List·Memᴰ, List·Memᴰ·cases-cons, List·Memᴰ·not-nil}
-use Prim.Native.Nat.{ℕ, zero, suc, _+_, _-_, _*_, _≤_, _<_}
+use Prim.Native.Nat.{ℕ, zero, suc, _≤_, _<_}
 use native.Mathlib.Omega.{arith}
-use lib.Dec.{T, eqb, leb, ltb, leb→le, T-not}
+use lib.Dec.{T, eqb, leb, leb→le, T-not}
 use Rattle.calculus.specs.declared.Step.{Step}
 use Rattle.calculus.specs.declared.Kind.{Kind}
 use Rattle.calculus.specs.declared.Kind.the-variants.{Decide, Deduce, Clash, Resolve, Clear, Jump, Flip, Unlisted}
-use Rattle.calculus.specs.Lists.{opposite}
 use Rattle.calculus.specs.Sheets.{Call, blank, inputRows, stepRows, lengthNumber}
 use Rattle.calculus.specs.Sorts.{sortsNumber}
-use Rattle.calculus.specs.Terms.{prop, leftFilled, termsNumber}
-use Rattle.calculus.specs.Trail.{Set, Trail, Entry, on, remove, levelOf, keptTo, decision, justified}
+use Rattle.calculus.specs.Terms.{prop, termsNumber}
+use Rattle.calculus.specs.Trail.{Trail, Entry, levelOf, keptTo, decision}
 use Rattle.calculus.specs.Inputs.{given, inputTerm, inputValue, inputTrail, valueSuits, inputNumber, inputsNumber}
-use Rattle.calculus.specs.Rules.{ruleListed}
-use Rattle.calculus.specs.Steps.{State, searching, conflict, trailOf, conflictOf, Answer, allowed, refuted, refused, answer, stepAt, premiseCells, premises, kindOf, isFilled, shaped, decideNumber, decide, deduce, clashed, clashSet, clash, resolve, clear, jump, flip, rowNumber, stepBy, step}
-use Rattle.calculus.specs.Run.{Ending, follow, run, sheetsNumber, callNumber, start, endingOf, ending}
-use Rattle.calculus.proofs.Facts.{and-l, and-r, or-cases, facts, cond-case, unless-ok, orElse-ok, first-ok, answer-case}
+use Rattle.calculus.specs.Steps.{State, conflict, trailOf, Answer, allowed, refuted, refused, answer, stepAt, premises, kindOf, shaped, decideNumber, decide, deduce, clashed, clashSet, clash, resolve, clear, jump, flip, rowNumber, stepBy, step}
+use Rattle.calculus.specs.Run.{follow, run, sheetsNumber, callNumber, start, endingOf, ending}
+use Rattle.calculus.proofs.Facts.{and-r, or-cases, facts, cond-case, unless-ok, orElse-ok, first-ok, answer-case}
 use Rattle.calculus.proofs.Entries.{kept-out}
 use Rattle.calculus.proofs.Reached.{call-reached, step-reached}
 use Rattle.figure.specs.Transitions.{_∈_, Suits}

@@ -2,14 +2,14 @@
 use mathlib.Core.Path.{_≡_}
 use mathlib.Core.Logic.{_↔_}
 use mathlib.Core.List.{List}
-use Prim.Native.Nat.{ℕ, _≤_}
+use Prim.Native.Nat.{ℕ}
 use Rattle.calculus.specs.declared.Step.{Step}
 use Rattle.calculus.specs.Sheets.{termRows}
-use Rattle.calculus.specs.Trail.{Entry, Trail}
+use Rattle.calculus.specs.Trail.{Entry}
 use Rattle.calculus.specs.Reached.{ReachedState}
 use Rattle.calculus.specs.Steps.{State, trailOf, Answer, allowed, refuted, step}
 use Rattle.figure.specs.Transitions.{_∈_, Suits, Action, Result, next, unsat, Transition}
-use Rattle.figure.specs.Spelling.{Spells, Sheet, Writable}
+use Rattle.figure.specs.Spelling.{Spells, SixteenBits, Writable}
 
 -- the step definition's answer for a transition's result
 abbrev pub answerOf : Result → Answer
@@ -25,4 +25,4 @@ pub record Faithful (ts : List ℕ) (s : State) : Type 0 where
   -- a row has this result just when it spells an action with a transition to it
   pub exact : (x : Step) (r : Result) → (step ts s x ≡ answerOf r) ↔ ((a : Action) × Spells x a × Transition ts s a r)
   -- every transition is spelled by a row, and the row has the transition's result
-  pub complete : (a : Action) (r : Result) → Writable a → Transition ts s a r → (x : Step) × Sheet x × Spells x a × (step ts s x ≡ answerOf r)
+  pub complete : (a : Action) (r : Result) → Writable a → Transition ts s a r → (x : Step) × SixteenBits x × Spells x a × (step ts s x ≡ answerOf r)

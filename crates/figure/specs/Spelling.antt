@@ -40,7 +40,7 @@ Spells x (jump l) = Columns x Jump l [] × Blank (x .rule) × Blank (x .value)
 Spells x (flip l k) = Columns x Flip l (k ∷ []) × Blank (x .rule) × Blank (x .value)
 
 -- what a column can hold: a number of 16 bits
-pub record Sheet (x : Step) : Type 0 where
+pub record SixteenBits (x : Step) : Type 0 where
   pub step : x .step ≤ blank
   pub rule : x .rule ≤ blank
   pub term : x .term ≤ blank
