@@ -1,5 +1,6 @@
 -- A row that is answered with a result spells an action with a transition to it.
 use mathlib.Core.Path.{_≡_, refl, sym, ap, subst, _∙_}
+use mathlib.Core.Logic.{_≢_}
 use mathlib.Core.Bool.{true, not, cond}
 use mathlib.Core.List.{List, [], _∷_, map}
 use Prim.Native.Nat.{ℕ, zero, suc, _+_, _-_, _≤_, _<_}
@@ -67,7 +68,8 @@ module _ (ts : List ℕ) where
         let a = answer-ok _ _ r h in
         let b = unless-ok _ 22 _ (omega arith) (a .0) in
         let c = unless-ok _ 14 _ (omega arith) (b .1) in
-        settle _ r (a .1) (Decide l (value-suits ts t v (b .0)) (off-is tr t (c .0)) (level-is tr everything))
+        let off = off-is tr t (c .0) in
+        settle _ r (a .1) (Decide l (value-suits ts t v (b .0)) (search) (level-is tr everything))
 
     -- a rule's guards
     inferred-is : (n l v : ℕ) (ps : List ℕ) (rest : ℕ) → l < termRows ts → v ≤ 1 → inferenceNumber ts tr n l v ps rest ≡ 0
@@ -193,6 +195,7 @@ module _ (ts : List ℕ) where
           let d = unless-ok _ 18 _ (omega arith) (c .1) in
           let e = unless-ok _ 23 _ (omega arith) (d .1) in
           let boolean : Boolean ts (l .term) = eqb→eq _ _ (c .0) in
+          let different : l .term ≢ k .term = neq _ _ (and-l (not (eqb (l .term) (k .term))) _ (e .0)) in
           let S = intersection (whyAt tr (l .term)) (whyAt tr (k .term)) in
           let y = holds-at tr S (firstOrder ts (levelOf tr E)) (and-r (not (eqb (l .term) (k .term))) _ (e .0)) in
           let x = y .0 in
@@ -204,7 +207,7 @@ module _ (ts : List ℕ) where
           (ml, T-true _ (and-l (E (l .term)) _ (b .0))) (sym dl ∙ T-false _ (and-l (not (decidedAt tr (l .term))) _ (d .0))) boolean
           (subst (λ n. Opposite (l .value) (opposite n)) (sym u) (opposite-small (l .value) (N l ml boolean)))
           (mk, T-true _ (and-r (E (l .term)) _ (b .0))) (sym dk ∙ T-false _ (and-r (not (decidedAt tr (l .term))) _ (d .0)))
-          (neq _ _ (and-l (not (eqb (l .term) (k .term))) _ (e .0)))
+          (omega arith)
           (y .1, ap (λ (w : Entry). w .why (x .term)) (sym ql) ∙ T-true _ (and-l (whyAt tr (l .term) (x .term)) _ (y .2)))
           (y .1, ap (λ (w : Entry). w .why (x .term)) (sym qk) ∙ T-true _ (and-r (whyAt tr (l .term) (x .term)) _ (y .2)))
           (o .0) (o .1 ∙ z) (subst (Level tr E) z (level-is tr E)) (restricted-is (levelOf tr E - 1) tr) (level-is (keptTo (levelOf tr E - 1) tr) everything))

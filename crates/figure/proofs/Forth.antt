@@ -327,4 +327,4 @@ module _ (ts : List ℕ) where
       step-of (conflict tr E) x kinds.Flip (c .kind) (conflict-shaped x (isFilled (x .p)) (c .subject) (p .1) (p .2) (filled-test (f .0)) (blanks-of (f .1))) tt
       (known-of c (below-row tr _ R (hl .0)) (λ t m. subst (λ t. t < termRows ts) (sym (List·Memᴰ·eq-of-singleton m)) (below-row tr _ R (hk .0))))
       ∙ (λ i. steps.flip ts tr E (c .subject .0 i) (f .0 .0 i))
-      ∙ flip-answer R (h .truths) E hl (search) (search) (search) hk (search) (search) dl dk (search) (omega arith) z r y
+      ∙ flip-answer R (h .truths) E hl (search) (search) (search) hk (search) (omega arith) dl dk (search) (omega arith) z r y
