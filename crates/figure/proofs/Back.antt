@@ -82,14 +82,16 @@ module _ (ts : List ℕ) where
         let on-trail = premises-is tr ps (b .0) in
         let rows : Known ts (premisesAt tr ps) = λ p m. (let y = on-trail p m in subst (λ t. t < termRows ts) (y .2) (below-row tr (y .0) R (y .1))) in
         let truths : Truths ts (premisesAt tr ps) = λ p m z.
-        (let y = on-trail p m in subst (λ u. u ≤ 1) (y .3) (N (y .0) (y .1) (ap (sort ts) (y .2) ∙ z))) in
-        (λ new. record {
-          onTrail = on-trail;
-          inference = fits-infers W l v k (ruleOf n) (premisesAt tr ps) (c .0) rows truths;
-          boolean = eqb→eq _ _ (a .0);
-          other = opposite-small v small;
-          new = new;
-        }, c .1)
+        (let y = on-trail p m in subst (λ u. u ≤ 1) (y .3) (N (y .0) (y .1) (ap (sort ts) (y .2) ∙ z))) in (
+          λ new. record {
+            onTrail = on-trail;
+            inference = fits-infers W l v k (ruleOf n) (premisesAt tr ps) (c .0) rows truths;
+            boolean = eqb→eq _ _ (a .0);
+            other = opposite-small v small;
+            new = new;
+          },
+          c .1,
+        )
 
     deduce-back : (n l v : ℕ) (ps : List ℕ) → l < termRows ts → v ≤ 1 → steps.deduce ts tr n l v ps ≡ answerOf r → Transition ts (searching tr) (deduce (ruleOf n) l v ps) r
     unfolding steps.deduce steps.deduceNumber
@@ -308,14 +310,18 @@ module _ (ts : List ℕ) {ss : List ℕ} (W : WellSorted ss ts) (x : Step) (r : 
       (decide (x .term) (x .value), decision-spelled x e p, decide-back ts W (h .reached) (h .truths) r (x .term) (x .value) l z)
   by-kind kinds.Decide (conflict tr E) e h p g l z = absurd g
   by-kind kinds.Deduce (searching tr) e h p g l z =
-      let i = inference-spelled x kinds.Deduce e p in
-      (deduce (ruleOf (x .rule)) (x .term) (x .value) (premises x), (i .cols, refl, i .full),
-      deduce-back ts W (h .reached) (h .truths) r (x .rule) (x .term) (x .value) (premises x) l (i .small) z)
+      let i = inference-spelled x kinds.Deduce e p in (
+        deduce (ruleOf (x .rule)) (x .term) (x .value) (premises x),
+        (i .cols, refl, i .full),
+        deduce-back ts W (h .reached) (h .truths) r (x .rule) (x .term) (x .value) (premises x) l (i .small) z,
+      )
   by-kind kinds.Deduce (conflict tr E) e h p g l z = absurd g
   by-kind kinds.Clash (searching tr) e h p g l z =
-      let i = inference-spelled x kinds.Clash e p in
-      (clash (ruleOf (x .rule)) (x .term) (x .value) (premises x), (i .cols, refl, i .full),
-      clash-back ts W (h .reached) (h .truths) r (x .rule) (x .term) (x .value) (premises x) l (i .small) z)
+      let i = inference-spelled x kinds.Clash e p in (
+        clash (ruleOf (x .rule)) (x .term) (x .value) (premises x),
+        (i .cols, refl, i .full),
+        clash-back ts W (h .reached) (h .truths) r (x .rule) (x .term) (x .value) (premises x) l (i .small) z,
+      )
   by-kind kinds.Clash (conflict tr E) e h p g l z = absurd g
   by-kind kinds.Resolve (searching tr) e h p g l z = absurd g
   by-kind kinds.Resolve (conflict tr E) e h p g l z =

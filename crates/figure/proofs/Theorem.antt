@@ -16,16 +16,16 @@ use Rattle.calculus.specs.Trail.{Trail}
 use Rattle.calculus.specs.Rules.{rowOf, ruleOf}
 use Rattle.calculus.specs.Reached.{Reached, ReachedState}
 use Rattle.calculus.specs.Steps.{State, kindOf, step}
-use Rattle.calculus.specs.Run.{sheetsNumber, callNumber, ending}
-use Rattle.calculus.proofs.Facts.{unless-ok, orElse-ok, facts}
+use Rattle.calculus.specs.Run.{run, start, sheetsNumber, callNumber}
+use Rattle.calculus.proofs.Facts.{true-T, T-true, unless-ok, orElse-ok, facts}
 use Rattle.figure.specs.Inferences.{Opposite, oppositeOfTrue, oppositeOfFalse}
 use Rattle.figure.specs.Transitions.{Inferred, Action, Result, Transition, Decide, Deduce, Fail, Conflict, Resolve, Undo, Backjump, UndoDecide}
 use Rattle.figure.specs.Spelling.{Filled, FromLeft, noColumn, blankColumn, filledColumn, Columns, Spells, SixteenBits, Writable}
-use Rattle.figure.specs.Faithful.{Reachable, Faithful}
+use Rattle.figure.specs.Faithful.{Reachable, RulesFaithful, Faithful}
 use Rattle.figure.proofs.Rows.{well-sorted}
-use Rattle.figure.proofs.Rules.{infers-short, opposite-sum}
+use Rattle.figure.proofs.Rules.{fits-infers, infers-fits, infers-short, opposite-sum}
 use Rattle.figure.proofs.Trails.{below-row}
-use Rattle.figure.proofs.Truths.{call-reachable}
+use Rattle.figure.proofs.Truths.{run-reachable, start-reachable}
 use Rattle.figure.proofs.Spelling.{rule-number}
 use Rattle.figure.proofs.Forth.{forth, assigned-row, premise-rows}
 use Rattle.figure.proofs.Back.{back}
@@ -140,6 +140,10 @@ module _ (ts : List ℕ) (short : termRows ts ≤ 256) where
 
   -- ---- the theorem
 
+  pub rules-faithful : (ss : List ℕ) → termsNumber ss ts ≡ 0 → RulesFaithful ts
+  rules-faithful ss ok r J l v k rows truths =
+      (λ h. fits-infers (well-sorted ss ts ok) l v k r J (true-T _ h) rows truths, λ i. T-true _ (infers-fits i))
+
   pub faithful : (ss : List ℕ) → termsNumber ss ts ≡ 0 → (s : State) → Reachable ts s → Faithful ts s
   faithful ss ok s h =
       record {
@@ -147,10 +151,10 @@ module _ (ts : List ℕ) (short : termRows ts ≤ 256) where
         complete = λ a r w t. (let y = row-of h w t in (y .0, y .1, y .2, forth ts h t (y .0) (y .2)));
       }
 
--- at the state that a call's list of steps reaches, where its sheets get no number
-pub call-faithful : (x : Call) → callNumber x ≡ 0 → Faithful (x .terms) (ending x .state)
+-- over the sheets of a call that get no number, at every state that a list of steps can reach: after the first k rows of a log, whatever it holds
+pub call-faithful : (x : Call) → callNumber x ≡ 0 → (log : List ℕ) (k : ℕ) → Faithful (x .terms) (run (x .terms) log (start x) 0 k .state)
 unfolding callNumber sheetsNumber lengthNumber
-call-faithful x e =
+call-faithful x e log k =
     let a = orElse-ok (lengthNumber x) _ e in
     let b = orElse-ok (sortsNumber (x .sorts)) _ (a .1) in
     let c = orElse-ok (termsNumber (x .sorts) (x .terms)) _ (b .1) in
@@ -158,4 +162,4 @@ call-faithful x e =
     let f = unless-ok _ 30 _ (omega arith) (d .1) in
     let g = f .0 in
     let short : termRows (x .terms) ≤ 256 = search facts in
-    faithful (x .terms) short (x .sorts) (c .0) (ending x .state) (call-reachable x)
+    faithful (x .terms) short (x .sorts) (c .0) _ (run-reachable (x .terms) log (start x) 0 k (start-reachable (x .terms) (x .inputs) (c .1)))

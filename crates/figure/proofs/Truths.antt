@@ -9,16 +9,16 @@ use lib.Dec.{T, eqb, leb, leb→le, T-not}
 use Rattle.calculus.specs.declared.Step.{Step}
 use Rattle.calculus.specs.declared.Kind.{Kind}
 use Rattle.calculus.specs.declared.Kind.the-variants.{Decide, Deduce, Clash, Resolve, Clear, Jump, Flip, Unlisted}
-use Rattle.calculus.specs.Sheets.{Call, blank, inputRows, stepRows, lengthNumber}
-use Rattle.calculus.specs.Sorts.{sortsNumber}
-use Rattle.calculus.specs.Terms.{prop, termsNumber}
+use Rattle.calculus.specs.Sheets.{blank, inputRows}
+use Rattle.calculus.specs.Terms.{prop}
 use Rattle.calculus.specs.Trail.{Trail, Entry, levelOf, keptTo, decision}
 use Rattle.calculus.specs.Inputs.{given, inputTerm, inputValue, inputTrail, valueSuits, inputNumber, inputsNumber}
-use Rattle.calculus.specs.Steps.{State, conflict, trailOf, Answer, allowed, refuted, refused, answer, stepAt, premises, kindOf, shaped, decideNumber, decide, deduce, clashed, clashSet, clash, resolve, clear, jump, flip, rowNumber, stepBy, step}
-use Rattle.calculus.specs.Run.{follow, run, sheetsNumber, callNumber, start, endingOf, ending}
-use Rattle.calculus.proofs.Facts.{and-r, or-cases, facts, cond-case, unless-ok, orElse-ok, first-ok, answer-case}
+use Rattle.calculus.specs.Steps.{State, searching, conflict, trailOf, Answer, allowed, refuted, refused, answer, stepAt, premises, kindOf, shaped, decideNumber, decide, deduce, clashed, clashSet, clash, resolve, clear, jump, flip, rowNumber, stepBy, step}
+use Rattle.calculus.specs.Reached.{ReachedState}
+use Rattle.calculus.specs.Run.{follow, run}
+use Rattle.calculus.proofs.Facts.{and-r, or-cases, facts, cond-case, unless-ok, first-ok, answer-case}
 use Rattle.calculus.proofs.Entries.{kept-out}
-use Rattle.calculus.proofs.Reached.{call-reached, step-reached}
+use Rattle.calculus.proofs.Reached.{input-reached, step-reached}
 use Rattle.figure.specs.Transitions.{_∈_, Suits}
 use Rattle.figure.specs.Faithful.{Reachable}
 use Rattle.figure.proofs.Rows.{eqb-of}
@@ -85,16 +85,16 @@ module _ (ts : List ℕ) where
   step-reachable s s′ x h e =
       record { reached = step-reached ts s s′ x (h .reached) e; truths = subst After e (step-truthful s x (h .truths)) }
 
-  run-truthful : (log : List ℕ) (s : State) (n k : ℕ) → Truthful (trailOf s) → Truthful (trailOf (run ts log s n k .state))
+  pub run-reachable : (log : List ℕ) (s : State) (n k : ℕ) → Reachable ts s → Reachable ts (run ts log s n k .state)
   unfolding run follow
-  run-truthful log s n zero h = h
-  run-truthful log s n (suc k) h = go (λ s′ q. run-truthful log s′ (suc n) k q) (step ts s (stepAt log n)) (step-truthful s (stepAt log n) h)
+  run-reachable log s n zero h = h
+  run-reachable log s n (suc k) h = go (λ s′ q. run-reachable log s′ (suc n) k q) (step ts s (stepAt log n)) refl
     where
-      go : ((s′ : State) → Truthful (trailOf s′) → Truthful (trailOf (run ts log s′ (suc n) k .state))) → (a : Answer) → After a
-          → Truthful (trailOf (follow (λ s′. run ts log s′ (suc n) k) s n a .state))
-      go f (allowed s′) q = f s′ q
-      go f refuted q = h
-      go f (refused c) q = h
+      go : ((s′ : State) → Reachable ts s′ → Reachable ts (run ts log s′ (suc n) k .state)) → (a : Answer) → step ts s (stepAt log n) ≡ a
+          → Reachable ts (follow (λ s′. run ts log s′ (suc n) k) s n a .state)
+      go f (allowed s′) e = f s′ (step-reachable s s′ (stepAt log n) h e)
+      go f refuted e = h
+      go f (refused c) e = h
 
   input-truthful : (is : List ℕ) (n : ℕ) → ((k : ℕ) → k < n → inputNumber ts is k ≡ 0) → Truthful (inputTrail is n)
   unfolding inputTrail inputNumber
@@ -105,19 +105,9 @@ module _ (ts : List ℕ) where
       push-truthful (given (inputTerm is n) (inputValue is n)) (inputTrail is n)
       (value-suits (inputTerm is n) (inputValue is n) (and-r (not (eqb (inputValue is n) blank)) _ (b .0))) (input-truthful is n (λ k l. h k (omega arith)))
 
-call-truthful : (x : Call) → (e : Entry) → e ∈ trailOf (ending x .state) → Suits (x .terms) (e .term) (e .value)
-unfolding ending endingOf callNumber sheetsNumber inputsNumber
-call-truthful x = go (callNumber x) refl
-  where
-    go : (c : ℕ) → callNumber x ≡ c → (e : Entry) → e ∈ trailOf (endingOf c x .state) → Suits (x .terms) (e .term) (e .value)
-    go zero e =
-        let a = orElse-ok (lengthNumber x) _ e in
-        let b = orElse-ok (sortsNumber (x .sorts)) _ (a .1) in
-        let c = orElse-ok (termsNumber (x .sorts) (x .terms)) _ (b .1) in
-        run-truthful (x .terms) (x .steps) (start x) 0 (stepRows (x .steps))
-        (input-truthful (x .terms) (x .inputs) (inputRows (x .inputs)) (λ k l. first-ok (inputRows (x .inputs)) (inputNumber (x .terms) (x .inputs)) k (c .1) l))
-    go (suc c) e = none-truthful (x .terms)
-
--- the state that any call ends in is reachable
-pub call-reachable : (x : Call) → Reachable (x .terms) (ending x .state)
-call-reachable x = record { reached = call-reached x; truths = call-truthful x }
+  -- the input's trail is reachable where its rows get no number
+  pub start-reachable : (is : List ℕ) → inputsNumber ts is ≡ 0 → Reachable ts (searching (inputTrail is (inputRows is)))
+  unfolding inputsNumber ReachedState
+  start-reachable is ok =
+      let h : (k : ℕ) → k < inputRows is → inputNumber ts is k ≡ 0 = λ k l. first-ok (inputRows is) (inputNumber ts is) k ok l in
+      record { reached = input-reached ts is (inputRows is) h; truths = input-truthful is (inputRows is) h }

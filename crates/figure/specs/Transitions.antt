@@ -31,7 +31,6 @@ Suits ts t v = Boolean ts t → v ≤ 1
 -- ---- the trail
 
 infix 40 _∈_
-
 -- e stands on the trail
 abbrev pub _∈_ : Entry → Trail → Type 0
 e ∈ tr = List·Memᴰ e tr
