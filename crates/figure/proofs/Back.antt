@@ -41,10 +41,10 @@ unfolding answer
 answer-ok zero a r e = (refl, e)
 answer-ok (suc c) a r e = absurd (not-refused (suc c) r e)
 
-opposite-small : (v : ℕ) → v ≤ 1 → Opposite v (opposite v)
-opposite-small zero l = oppositeOfFalse
-opposite-small (suc zero) l = oppositeOfTrue
-opposite-small (suc (suc v)) l = absurd (omega arith)
+opposite-there : (v : ℕ) → v ≤ 1 → Opposite v (opposite v)
+opposite-there zero l = oppositeOfFalse
+opposite-there (suc zero) l = oppositeOfTrue
+opposite-there (suc (suc v)) l = absurd (omega arith)
 
 filled-is : {c : ℕ} → T (isFilled c) → Filled c c
 filled-is {c} h = (refl, neq c blank h)
@@ -87,7 +87,7 @@ module _ (ts : List ℕ) where
             onTrail = on-trail;
             inference = fits-infers W l v k (ruleOf n) (premisesAt tr ps) (c .0) rows truths;
             boolean = eqb→eq _ _ (a .0);
-            other = opposite-small v small;
+            other = opposite-there v small;
             new = new;
           },
           c .1,
@@ -180,7 +180,7 @@ module _ (ts : List ℕ) where
           settle _ r (b .1)
           (subst (λ n. Transition ts (conflict tr E) (jump (l .term)) (next (searching (justifiedAt (l .term) (opposite (valueAt tr (l .term))) n S ∷ keptTo (levelOf tr S) tr)))) (sym g)
           (Backjump (m, T-true _ (c .0)) boolean
-          (subst (λ x. Opposite (l .value) (opposite x)) (sym u) (opposite-small (l .value) (N l m boolean)))
+          (subst (λ x. Opposite (l .value) (opposite x)) (sym u) (opposite-there (l .value) (N l m boolean)))
           (level-is tr S) (omega arith) (restricted-is (levelOf tr S) tr)))
 
       flip-back : (l k : Entry) → l ∈ tr → k ∈ tr → steps.flip ts tr E (l .term) (k .term) ≡ answerOf r → Transition ts (conflict tr E) (flip (l .term) (k .term)) r
@@ -207,7 +207,7 @@ module _ (ts : List ℕ) where
           settle _ r (a .1)
           (UndoDecide
           (ml, T-true _ (and-l (E (l .term)) _ (b .0))) (sym dl ∙ T-false _ (and-l (not (decidedAt tr (l .term))) _ (d .0))) boolean
-          (subst (λ n. Opposite (l .value) (opposite n)) (sym u) (opposite-small (l .value) (N l ml boolean)))
+          (subst (λ n. Opposite (l .value) (opposite n)) (sym u) (opposite-there (l .value) (N l ml boolean)))
           (mk, T-true _ (and-r (E (l .term)) _ (b .0))) (sym dk ∙ T-false _ (and-r (not (decidedAt tr (l .term))) _ (d .0)))
           (omega arith)
           (y .1, ap (λ (w : Entry). w .why (x .term)) (sym ql) ∙ T-true _ (and-l (whyAt tr (l .term) (x .term)) _ (y .2)))

@@ -28,7 +28,7 @@ use Rattle.figure.specs.Transitions.{_∈_, Boolean, Suits, Among, Assig
 use Rattle.figure.specs.Spelling.{Filled, Blank, FromLeft, filledColumn, Columns, Spells}
 use Rattle.figure.specs.Faithful.{answerOf, Reachable}
 use Rattle.figure.proofs.Rows.{eqb-of, neqb-of}
-use Rattle.figure.proofs.Rules.{infers-fits, infers-listed}
+use Rattle.figure.proofs.Rules.{opposite-sum, infers-fits, infers-listed}
 use Rattle.figure.proofs.Trails.{level-of, restricted-of, off-of, below-row, entry-of, assigned-of, assigned-is, premises-of, first-order-is, first-order-of, holds-of}
 use Rattle.figure.proofs.Spelling.{blanks-of, filled-of, left-of, listed}
 
@@ -75,8 +75,7 @@ opposite-is oppositeOfTrue = refl
 opposite-is oppositeOfFalse = refl
 
 opposite-small : {v w : ℕ} → Opposite v w → v ≤ 1
-opposite-small oppositeOfTrue = omega arith
-opposite-small oppositeOfFalse = omega arith
+opposite-small o = let e = opposite-sum o in omega arith
 
 one-of-both : {v w : ℕ} → Opposite v w → (u : ℕ) → u ≤ 1 → (u ≡ v) ⊎ (u ≡ w)
 one-of-both oppositeOfTrue zero l = inr refl

@@ -18,7 +18,6 @@ use Rattle.calculus.specs.Reached.{Reached, ReachedState}
 use Rattle.calculus.specs.Steps.{State, kindOf, step}
 use Rattle.calculus.specs.Run.{run, start, sheetsNumber, callNumber}
 use Rattle.calculus.proofs.Facts.{true-T, T-true, unless-ok, orElse-ok, facts}
-use Rattle.figure.specs.Inferences.{Opposite, oppositeOfTrue, oppositeOfFalse}
 use Rattle.figure.specs.Transitions.{Inferred, Action, Result, Transition, Decide, Deduce, Fail, Conflict, Resolve, Undo, Backjump, UndoDecide}
 use Rattle.figure.specs.Spelling.{Filled, FromLeft, noColumn, blankColumn, filledColumn, Columns, Spells, SixteenBits, Writable}
 use Rattle.figure.specs.Faithful.{Reachable, RulesFaithful, Faithful}
@@ -104,10 +103,6 @@ module _ (ts : List ℕ) (short : termRows ts ≤ 256) where
       let n = rule-number r .2 in
       write k (rule-number r .0) l v (map rowOf ps) i (omega arith) (omega arith) (omega arith) (omega arith) (λ p q. let z = premise-rows ts R h p q in omega arith)
 
-  small-opposite : {v w : ℕ} → Opposite v w → v < blank
-  small-opposite oppositeOfTrue = omega arith
-  small-opposite oppositeOfFalse = omega arith
-
   row-of : {s : State} {a : Action} {r : Result} → Reachable ts s → Writable a → Transition ts s a r → Row a
   unfolding ReachedState kindOf
   row-of h w (Decide {t = t} {v} b s a l) =
@@ -115,13 +110,13 @@ module _ (ts : List ℕ) (short : termRows ts ≤ 256) where
       (y .row, y .sheet, (y .cols, y .rule, (y .value, λ q. omega arith)))
   row-of h w (Deduce {r = r} b i n z) =
       let y = inference-row 1 (omega arith) (h .reached) b i in
-      (y .row, y .sheet, (y .cols, ap ruleOf (y .rule) ∙ rule-number r .1, (y .value, full _ (small-opposite (i .other)) .1)))
+      (y .row, y .sheet, (y .cols, ap ruleOf (y .rule) ∙ rule-number r .1, (y .value, λ q. let o = opposite-sum (i .other) in omega arith)))
   row-of h w (Fail {r = r} i a z) =
       let y = inference-row 2 (omega arith) (h .reached) (assigned-row ts (h .reached) a) i in
-      (y .row, y .sheet, (y .cols, ap ruleOf (y .rule) ∙ rule-number r .1, (y .value, full _ (small-opposite (i .other)) .1)))
+      (y .row, y .sheet, (y .cols, ap ruleOf (y .rule) ∙ rule-number r .1, (y .value, λ q. let o = opposite-sum (i .other) in omega arith)))
   row-of h w (Conflict {r = r} i a z m) =
       let y = inference-row 2 (omega arith) (h .reached) (assigned-row ts (h .reached) a) i in
-      (y .row, y .sheet, (y .cols, ap ruleOf (y .rule) ∙ rule-number r .1, (y .value, full _ (small-opposite (i .other)) .1)))
+      (y .row, y .sheet, (y .cols, ap ruleOf (y .rule) ∙ rule-number r .1, (y .value, λ q. let o = opposite-sum (i .other) in omega arith)))
   row-of h w (Resolve {tr} a j z f) =
       let y = alone 3 _ (omega arith) (below-row tr _ (h .reached .0) (a .0)) in
       (y .row, y .sheet, (y .cols, y .rule, y .value))

@@ -94,6 +94,8 @@ pub data Result : Type 0 where
 
 -- ---- the transitions
 
+-- the rows xs as a set are has xs
+
 -- what Deduce, Fail and ConflictSolve share: J stands on the trail and gives the Boolean l the value v, which the trail does not; w is the other value
 pub record Inferred (ts : List ℕ) (tr : Trail) (r : Rule) (J : List Premise) (l v w : ℕ) : Type 0 where
   pub onTrail : (p : Premise) → List·Memᴰ p J → Assigned tr (p .row) (p .value)
@@ -103,39 +105,46 @@ pub record Inferred (ts : List ℕ) (tr : Trail) (r : Rule) (J : List Premise) (
   pub new : ¬ Assigned tr l v
 
 pub data Transition (ts : List ℕ) : State → Action → Result → Type 0 where
-  -- search rules
+  -- ---- search rules
+  -- the term with its value as a decision, one level above the trail
   Decide : {tr : Trail} {t v m : ℕ}
       → InBasis ts t → Suits ts t v → Absent tr t
       → Level tr everything m
       → Transition ts (searching tr) (decide t v) (next (searching (decisionAt t v (1 + m) ∷ tr)))
+  -- the premises, as a set, justify l, of which the trail has neither value
   Deduce : {tr : Trail} {r : Rule} {J : List Premise} {l v w m : ℕ}
       → InBasis ts l → Inferred ts tr r J l v w → ¬ Assigned tr l w
       → Level tr (has (map rowOf J)) m
       → Transition ts (searching tr) (deduce r l v (map rowOf J)) (next (searching (justifiedAt l v m (has (map rowOf J)) ∷ tr)))
+  -- premises and opposite are all at level 0
   Fail : {tr : Trail} {r : Rule} {J : List Premise} {l v w : ℕ}
       → Inferred ts tr r J l v w → Assigned tr l w
       → Level tr (has (l ∷ map rowOf J)) 0
       → Transition ts (searching tr) (clash r l v (map rowOf J)) unsat
-  -- the opening of ConflictSolve
+  -- the opening of ConflictSolve: premises and opposite, not all at level 0, become the conflict
   Conflict : {tr : Trail} {r : Rule} {J : List Premise} {l v w m : ℕ}
       → Inferred ts tr r J l v w → Assigned tr l w
       → Level tr (has (l ∷ map rowOf J)) m → 0 < m
       → Transition ts (searching tr) (clash r l v (map rowOf J)) (next (conflict tr (has (l ∷ map rowOf J))))
-  -- conflict resolution rules
+  -- ---- conflict resolution rules; E is the conflict
+  -- a's justification, which holds no first-order decision at the conflict's level, takes the place of a
   Resolve : {tr : Trail} {E : Set} {a : Entry} {m : ℕ}
       → Among tr E a → Justified a
       → Level tr E m → ((d : Entry) → Among tr (a .why) d → FirstOrder ts d → d .level ≢ m)
       → Transition ts (conflict tr E) (resolve (a .term)) (next (conflict tr (union (remove E (a .term)) (a .why))))
+  -- a first-order decision above the rest of the conflict is undone, with all of its level and above
   Undo : {tr rest : Trail} {E : Set} {a : Entry} {m n : ℕ}
       → Among tr E a → FirstOrder ts a
       → a .level ≡ 1 + m → Level tr (remove E (a .term)) n → n < a .level
       → Restricted m tr rest
       → Transition ts (conflict tr E) (clear (a .term)) (next (searching rest))
+  -- back to the level of the rest of the conflict, which justifies the opposite of l
   Backjump : {tr rest : Trail} {E : Set} {l : Entry} {m w : ℕ}
       → Among tr E l → Boolean ts (l .term) → Opposite (l .value) w
       → Level tr (remove E (l .term)) m → m < l .level
       → Restricted m tr rest
       → Transition ts (conflict tr E) (jump (l .term)) (next (searching (justifiedAt (l .term) w m (remove E (l .term)) ∷ rest)))
+  -- l and k, two members, rest on one first-order decision at the conflict's level; below that level the opposite of l is decided
   UndoDecide : {tr rest : Trail} {E : Set} {l k d : Entry} {m n w : ℕ}
       → Among tr E l → Justified l → Boolean ts (l .term) → Opposite (l .value) w
       → Among tr E k → Justified k → l .term ≢ k .term
