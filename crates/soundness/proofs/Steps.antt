@@ -21,7 +21,7 @@ use Rattle.calculus.specs.Steps.{State, searching, conflict, trailOf, conflictO
 use Rattle.calculus.specs.Reached.{Within, Reached, ReachedState}
 use Rattle.calculus.proofs.Facts.{and-l, and-r, or-l, or-r, or-cases, T-true, true-T, T-false, true-or-false, is-or-not, cond-case, all-at, has-of, facts, neq, unless-ok, answer-case}
 use Rattle.calculus.proofs.Entries.{entry-in}
-use Rattle.calculus.proofs.Reached.{one-entry, kept-reached}
+use Rattle.calculus.proofs.Reached.{one-entry, kept-reached, trail-reached, conflict-within}
 use Rattle.soundness.specs.Interpretation.{Interpretation, value, Assignments, Endorses}
 use Rattle.soundness.specs.Claim.{OnTrail, Together}
 use Rattle.soundness.proofs.Rows.{WellSorted}
@@ -36,17 +36,6 @@ value-small ts t v h z = go (or-cases (not (prop ts t)) _ h)
     go : T (not (prop ts t)) ⊎ T (leb v 1) → v ≤ 1
     go (inl a) = absurd (neq _ _ a z)
     go (inr a) = leb→le _ _ a
-
--- what a state that a list of steps can reach says of its trail and of its conflict
-trail-reached : (n : ℕ) (s : State) → ReachedState n s → Reached n (trailOf s)
-unfolding ReachedState
-trail-reached n (searching tr) r = r
-trail-reached n (conflict tr E) r = r .0
-
-conflict-within : (n : ℕ) (s : State) → ReachedState n s → Within (conflictOf s) (trailOf s)
-unfolding ReachedState
-conflict-within n (searching tr) r = λ t h. absurd (true-or-false h refl)
-conflict-within n (conflict tr E) r = r .1
 
 module _ {ss ts : List ℕ} (W : WellSorted ss ts) (Input : Assignments) where
   -- ---- good states and good answers
