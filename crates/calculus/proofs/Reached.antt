@@ -208,7 +208,7 @@ module _ (ts : List ℕ) where
       decision-reached tr t v r l (T-false _ (b .0)))
 
   -- the premises of an inference stand on the trail
-  inference-ok : (tr : Trail) (r l v : ℕ) (ps : List ℕ) (rest : ℕ) → inferenceNumber ts tr r l v ps rest ≡ 0 → Within (has ps) tr × (rest ≡ 0)
+  pub inference-ok : (tr : Trail) (r l v : ℕ) (ps : List ℕ) (rest : ℕ) → inferenceNumber ts tr r l v ps rest ≡ 0 → Within (has ps) tr × (rest ≡ 0)
   unfolding inferenceNumber
   inference-ok tr r l v ps rest e =
       let a = unless-ok _ 22 _ (omega arith) e in

@@ -1,26 +1,37 @@
 -- Premises column by column, and the numbers of the steps of the search.
-use mathlib.Core.Path.{_≡_, refl, sym, _∙_}
+use mathlib.Core.Path.{_≡_, refl, sym, ap, _∙_}
 use mathlib.Core.Bool.{Bool, true, false, _&&_}
 use mathlib.Core.List.{List, _∷_}
-use Prim.Native.Nat.{ℕ, zero, suc, max}
+use Prim.Native.Nat.{ℕ, zero, suc, _<_, max}
 use native.Mathlib.Omega.{arith}
 use lib.Dec.{eqb}
+use borrow.Author.Tests.{ne-eqb}
 use Rattle.calculus.specs.declared.Fit.{Fit}
 use Rattle.calculus.specs.declared.Fit.the-variants.{Fits, Unfit}
 use Rattle.calculus.specs.declared.Rule.{Rule}
 use Rattle.calculus.specs.declared.Step.{Step}
 use Rattle.calculus.specs.Lists.{all, has}
 use Rattle.calculus.specs.Numbers.{unless, orElse}
-use Rattle.calculus.specs.Sheets.{blank}
+use Rattle.calculus.specs.Sheets.{blank, termRows}
 use Rattle.calculus.specs.Terms.{prop, filled}
-use Rattle.calculus.specs.Trail.{Trail, on, levelAt, levelOf, premisesAt}
-use Rattle.calculus.specs.Reached.{Distinct}
+use Rattle.calculus.specs.Trail.{Set, Trail, topLevel, on, levelAt, levelOf, premisesAt}
+use Rattle.calculus.specs.Reached.{Within, Distinct}
 use Rattle.calculus.specs.Rules.{fits, fitOf, ruleOf}
-use Rattle.calculus.specs.Steps.{premises, inferenceNumber}
+use Rattle.calculus.specs.Steps as calculus
+use Rattle.calculus.specs.Steps.{premises, decideNumber, inferenceNumber, deduceNumber, clashNumber}
 use Rattle.calculus.proofs.Entries.{level-empty}
-use Rattle.calculus.proofs.Reached.{level-more}
+use Rattle.calculus.proofs.Facts.{T-false, unless-ok}
+use Rattle.calculus.proofs.Reached.{level-more, top-length, inference-ok}
 use Rattle.rules.specs.declared.Claim.{Claim}
 use Rattle.rules.specs.Claims.{premisesOf}
+use Rattle.trail.specs.Words.{trailIn}
+use Rattle.trail.proofs.Abstract.{room-more}
+use Rattle.trail.proofs.Laws.{trail-length}
+use Rattle.moves.specs.Post.{Stands, Conflicts}
+use Rattle.state.specs.declared.Status.{Status}
+use Rattle.state.specs.declared.Answer.the-variants.{Allowed}
+use Rattle.state.specs.States.{Standing, Answers}
+use Rattle.state.proofs.States.{in-search, in-conflict, trail-reached}
 use Rattle.search_steps.specs.Claims.{Claims}
 
 -- ---- premises
@@ -78,3 +89,63 @@ fits-false {b = false} e = refl
 pub tested : (ts : List ℕ) (tr : Trail) (x : Step) {y : Claim} {k : Rule} {f : Fit} → f ≡ fitOf (fits ts k (y .term) (y .value) (premisesOf y))
     → k ≡ ruleOf (x .rule) → Claims tr x y → f ≡ fitOf (fits ts (ruleOf (x .rule)) (x .term) (x .value) (premisesAt tr (premises x)))
 tested ts tr x e q c = e ∙ rw (q, c .term, c .value, c .premises)
+
+-- ---- an allowed step
+
+-- a search state in the words answers with it
+pub landed : (w n : ℕ) (ts ws vs : List ℕ) (st : Status) {tr : Trail} {a : calculus.Answer} → st .conflict ≡ false → n ≡ termRows ts
+    → Stands w n vs (st .count) (st .top .0) tr → a ≡ calculus.allowed (calculus.searching tr) → Answers w n ts ws vs a (Allowed st)
+unfolding Answers
+landed w n ts ws vs st e r s q = (
+  q ∙ ap (λ t. calculus.allowed (calculus.searching t)) (sym (s .trail)) ∙ ap calculus.allowed (sym (in-search w n vs st e)),
+  record { rows = r; laid = s .laid; top = s .greatest ∙ ap topLevel (sym (s .trail)) },
+)
+
+-- and so does a conflict
+pub opened : (w n : ℕ) (ts ws vs : List ℕ) (st : Status) {tr : Trail} {E : Set} {a : calculus.Answer} → st .conflict ≡ true → n ≡ termRows ts
+    → st .top .0 ≡ topLevel tr → Conflicts w n vs (st .count) tr E → a ≡ calculus.allowed (calculus.conflict tr E) → Answers w n ts ws vs a (Allowed st)
+unfolding Answers
+opened w n ts ws vs st {tr} {E} e r l s q = (
+  q ∙ (λ i. calculus.allowed (calculus.conflict (sym (s .trail) i) (sym (s .conflict) i))) ∙ ap calculus.allowed (sym (in-conflict w n vs st e)),
+  record { rows = r; laid = s .laid; top = l ∙ ap topLevel (sym (s .trail)) },
+)
+
+-- a level fits where a row is still off the trail
+pub top-small : (w n : ℕ) (ts ws : List ℕ) (st : Status) (t : ℕ) → Standing w n ts ws st → t < n → on (trailIn w n ws (st .count)) t ≡ false → st .top .0 < 65536
+top-small w n ts ws st t s l h =
+    let d = s .held .laid in
+    let a = top-length (trailIn w n ws (st .count)) (trail-reached w n ws st (s .reached)) in
+    let c = trail-length w n ws (st .count) in
+    let b = room-more n t (trailIn w n ws (st .count)) (d .distinct) (d .below) l h in
+    omega (arith, s .held .top, d .wide, d .narrow)
+
+-- ---- what the number 0 says
+
+pub decide-new : (ts : List ℕ) (tr : Trail) (t v : ℕ) → decideNumber ts tr t v ≡ 0 → on tr t ≡ false
+unfolding decideNumber
+decide-new ts tr t v e =
+    let a = unless-ok _ 22 _ (omega arith) e in
+    let b = unless-ok _ 14 _ (omega arith) (a .1) in
+    T-false _ (b .0)
+
+pub deduce-new : (ts : List ℕ) (tr : Trail) (r l v : ℕ) (ps : List ℕ) → deduceNumber ts tr r l v ps ≡ 0 → Within (has ps) tr × (on tr l ≡ false)
+unfolding deduceNumber
+deduce-new ts tr r l v ps e =
+    let a = inference-ok ts tr r l v ps _ e in
+    let b = unless-ok _ 14 _ (omega arith) (a .1) in
+    let c = unless-ok _ 15 _ (omega arith) (b .1) in
+    (a .0, T-false _ (c .0))
+
+pub clash-on : (ts : List ℕ) (tr : Trail) (r l v : ℕ) (ps : List ℕ) → clashNumber ts tr r l v ps ≡ 0 → Within (has ps) tr
+unfolding clashNumber
+clash-on ts tr r l v ps e = inference-ok ts tr r l v ps _ e .0
+
+-- ---- the level of a clash
+
+pub clashed-low : (tr : Trail) (E : Set) → levelOf tr E ≡ 0 → calculus.clashed tr E ≡ calculus.refuted
+unfolding calculus.clashed
+clashed-low tr E e = rw e
+
+pub clashed-high : (tr : Trail) (E : Set) → (levelOf tr E ≡ 0 → ⊥) → calculus.clashed tr E ≡ calculus.allowed (calculus.conflict tr E)
+unfolding calculus.clashed
+clashed-high tr E h = rw (ne-eqb _ _ h)

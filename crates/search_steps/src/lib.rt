@@ -3,15 +3,14 @@ ghost use mathlib.Core.Path.{_≡_};
 ghost use mathlib.Core.Bool.{false};
 ghost use mathlib.Core.List.{List, _∷_};
 ghost use Prim.Native.Nat.{ℕ, _<_};
-ghost use lib.Dec.{eqb};
 ghost use Rattle.calculus.specs.Lists.{all, has};
-ghost use Rattle.calculus.specs.Terms.{prop, filled};
+ghost use Rattle.calculus.specs.Terms.{filled};
 ghost use Rattle.calculus.specs.Inputs.{valueSuits};
 ghost use Rattle.calculus.specs.Trail.{on, valueAt, levelOf};
 ghost use Rattle.calculus.specs.Steps.{premises, decideNumber, inferenceNumber, deduceNumber, clashNumber, clashSet, decide, deduce, clash};
-ghost use Rattle.rules.specs.Claims.{premisesOf, valued};
+ghost use Rattle.rules.specs.Claims.{valued};
 ghost use Rattle.trail.specs.Words.{trailIn, Laid};
-ghost use Rattle.state.specs.States.{Held, Standing, Answers};
+ghost use Rattle.state.specs.States.{Standing, Answers};
 ghost use Rattle.search_steps.specs.Claims.{Claims};
 use calculus::Fit;
 use calculus::Level;
@@ -121,7 +120,15 @@ fn claim(work: &[u64], w: usize, n: usize, count: usize, x: Step) -> Claim
 // ---- the numbers
 
 // Numbers 22 and 14.
-fn decide_number(terms: &[u16], work: &[u64], w: usize, n: usize, count: usize, t: Row, v: u16) -> u16
+fn decide_number(
+    terms: &[u16],
+    work: &[u64],
+    w: usize,
+    n: usize,
+    count: usize,
+    t: Row,
+    v: u16,
+) -> u16
     requires { ⌜ Laid w n (now work) count ⌝ }
     ensures { λ r. ⌜ r ≡ decideNumber (now (terms .entry)) (trailIn w n (now (work .entry)) count) (t .0) v ⌝ }
 {
@@ -188,7 +195,15 @@ fn clash_number(terms: &[u16], work: &[u64], w: usize, n: usize, count: usize, x
 // ---- the steps
 
 // decide: the term with its value as a decision.
-pub fn decide(terms: &[u16], work: &mut [u64], w: usize, n: usize, st: Status, t: Row, v: u16) -> Answer
+pub fn decide(
+    terms: &[u16],
+    work: &mut [u64],
+    w: usize,
+    n: usize,
+    st: Status,
+    t: Row,
+    v: u16,
+) -> Answer
     requires { ⌜ Standing w n (now terms) (now work) st × (st .conflict ≡ false) × (t .0 < n) ⌝ }
     ensures { λ r. ⌜ Answers w n (now (terms .entry)) (now (work .entry)) (now (work .exit)) (decide (now (terms .entry)) (trailIn w n (now (work .entry)) (st .count)) (t .0) v) r ⌝ }
 {
@@ -197,9 +212,10 @@ pub fn decide(terms: &[u16], work: &mut [u64], w: usize, n: usize, st: Status, t
         return Answer::Refused(c);
     }
     let kept = moves::decide(work, w, n, st.count, st.top, t, v);
+    let top = kept.top;
     Answer::Allowed(Status {
         count: kept.count,
-        top: kept.top,
+        top: top,
         conflict: false,
     })
 }
@@ -215,9 +231,10 @@ pub fn deduce(terms: &[u16], work: &mut [u64], w: usize, n: usize, st: Status, x
     }
     let ps = [x.p, x.q, x.r, x.s, x.t];
     let kept = moves::propagate(work, w, n, st.count, st.top, Row(x.term), x.value, &ps);
+    let top = kept.top;
     Answer::Allowed(Status {
         count: kept.count,
-        top: kept.top,
+        top: top,
         conflict: false,
     })
 }
@@ -236,9 +253,10 @@ pub fn clash(terms: &[u16], work: &mut [u64], w: usize, n: usize, st: Status, x:
     }
     let ps = [x.p, x.q, x.r, x.s, x.t];
     moves::conflict(work, w, n, st.count, Row(x.term), &ps);
+    let top = st.top;
     Answer::Allowed(Status {
         count: st.count,
-        top: st.top,
+        top: top,
         conflict: true,
     })
 }

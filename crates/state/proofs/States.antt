@@ -3,24 +3,22 @@ use mathlib.Core.Path.{_≡_, refl, sym, ap, subst, _∙_}
 use mathlib.Core.Logic.{_⊎_, inl, inr}
 use mathlib.Core.Bool.{Bool, true, false, cond}
 use mathlib.Core.List.{List, [], _∷_}
-use Prim.Native.Nat.{ℕ, zero, suc, _+_, _≤_, _<_}
+use Prim.Native.Nat.{ℕ, zero, suc, _≤_}
 use native.Mathlib.Omega.{arith}
-use lib.ListN.{length}
 use lib.Dec.{eqb, eqb→eq}
 use Rattle.calculus.specs.Sheets.{blank}
-use Rattle.calculus.specs.Trail.{Set, Trail, Entry, on, valueAt, levelAt, topLevel}
+use Rattle.calculus.specs.Trail.{Set, Trail, Entry, on, valueAt, levelAt}
 use Rattle.calculus.specs.Steps as calculus
 use Rattle.calculus.specs.Steps.{answer}
-use Rattle.calculus.specs.Reached.{Within, Distinct, Below, Reached, ReachedState}
+use Rattle.calculus.specs.Reached.{Within, Below, Reached, ReachedState}
 use Rattle.calculus.proofs.Facts.{is-or-not, true-T}
 use Rattle.calculus.proofs.Entries.{entry-off}
 use Rattle.bitset.specs.Windows.{setAt}
 use Rattle.trail.specs.Words
-use Rattle.trail.specs.Words.{trailIn, Laid}
+use Rattle.trail.specs.Words.{trailIn}
 use Rattle.state.specs.declared.Status.{Status}
 use Rattle.state.specs.declared.Answer.{Answer}
-use Rattle.state.specs.declared.Answer.the-variants.{Allowed, Refuted, Refused}
-use Rattle.state.specs.States.{stateIn, Held, Standing, Answers}
+use Rattle.state.specs.States.{stateIn}
 
 -- ---- the state
 

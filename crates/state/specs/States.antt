@@ -1,10 +1,10 @@
 -- The state of a run in the workspace, and what a step's answer says of it.
 use mathlib.Core.Path.{_≡_}
-use mathlib.Core.Bool.{Bool, true, false, cond}
+use mathlib.Core.Bool.{cond}
 use mathlib.Core.List.{List}
-use Prim.Native.Nat.{ℕ, _≤_}
+use Prim.Native.Nat.{ℕ}
 use Rattle.calculus.specs.Sheets.{termRows}
-use Rattle.calculus.specs.Trail.{Trail, topLevel}
+use Rattle.calculus.specs.Trail.{topLevel}
 use Rattle.calculus.specs.Steps as calculus
 use Rattle.calculus.specs.Reached.{ReachedState}
 use Rattle.bitset.specs.Windows.{setAt}

@@ -1,3 +1,4 @@
+-- `search_steps::clash_number` meets its contract.
 use Rattle.calculus.specs.Steps.{clashNumber}
 use Rattle.calculus.specs.Trail.{assigned}
 use Rattle.search_steps.proofs.Laws.{inference-rest, inference-first, inference-past}
@@ -7,35 +8,24 @@ use mathlib.Core.Path.{sym, ap, _∙_}
 use borrow.Author.Needs.{needs}
 use Rattle.search_steps.proofs.clash_number.Statement.{statement}
 use Rattle.search_steps.proofs.clash_number.Tie as tie
-use Rattle.search_steps.proofs.clash_number.Reads as reads
-use Rattle.search_steps.proofs.clash_number.Lts as lts
-use Rattle.search_steps.proofs.inference_number.Reads as inference-number-reads
-use Rattle.state.proofs.has_value.Reads as has-value-reads
-use Rattle.state.proofs.opposite.Reads as opposite-reads
 
--- src/lib.rt:169:9
 inference-number-requires : tie.Need-inference-number-requires
 inference-number-requires c κs = search needs
 
--- src/lib.rt:171:9
 returns : tie.Need-returns
 unfolding clashNumber
 returns c = inference-first _ (c .before .inference-number .ensures) (c .if1 .taken) ∙ sym (inference-rest _ _ (c .before .before .before .before .args .x .rule) (c .before .before .before .before .args .x .term) (c .before .before .before .before .args .x .value) _ _)
 
--- src/lib.rt:173:58
 opposite-requires : tie.Need-opposite-requires
 opposite-requires c κs = search needs
 
--- src/lib.rt:173:9
 has-value-requires : tie.Need-has-value-requires
 has-value-requires c κs = search needs
 
--- src/lib.rt:174:9
 returns-2 : tie.Need-returns-2
 unfolding clashNumber
 returns-2 c = sym (inference-rest _ _ (c .before .before .before .before .before .before .before .args .x .rule) (c .before .before .before .before .before .before .before .args .x .term) (c .before .before .before .before .before .before .before .args .x .value) _ _ ∙ inference-past _ (c .before .before .before .before .inference-number .ensures) (c .before .before .before .if1 .left) ∙ unless-no _ _ (sym (c .before .has-value .ensures ∙ ap (assigned _ _) (c .before .before .opposite .ensures)) ∙ not-true _ (c .if2 .taken)))
 
--- src/lib.rt:165:1
 returns-3 : tie.Need-returns-3
 unfolding clashNumber
 returns-3 c = sym (inference-rest _ _ (c .before .before .before .before .before .before .before .args .x .rule) (c .before .before .before .before .before .before .before .args .x .term) (c .before .before .before .before .before .before .before .args .x .value) _ _ ∙ inference-past _ (c .before .before .before .before .inference-number .ensures) (c .before .before .before .if1 .left) ∙ unless-yes _ _ (sym (c .before .has-value .ensures ∙ ap (assigned _ _) (c .before .before .opposite .ensures)) ∙ not-false _ (c .if2 .left)))

@@ -1,3 +1,4 @@
+-- `search_steps::deduce_number` meets its contract.
 use Rattle.calculus.specs.Steps.{deduceNumber}
 use mathlib.Core.Bool.{not}
 use Rattle.search_steps.proofs.Laws.{inference-rest, inference-first, inference-past}
@@ -6,40 +7,28 @@ use mathlib.Core.Path.{sym, ap, _∙_}
 use borrow.Author.Needs.{needs}
 use Rattle.search_steps.proofs.deduce_number.Statement.{statement}
 use Rattle.search_steps.proofs.deduce_number.Tie as tie
-use Rattle.search_steps.proofs.deduce_number.Reads as reads
-use Rattle.search_steps.proofs.deduce_number.Lts as lts
-use Rattle.search_steps.proofs.inference_number.Reads as inference-number-reads
-use Rattle.state.proofs.has_value.Reads as has-value-reads
-use Rattle.state.proofs.stands.Reads as stands-reads
 
--- src/lib.rt:151:9
 inference-number-requires : tie.Need-inference-number-requires
 inference-number-requires c κs = search needs
 
--- src/lib.rt:153:9
 returns : tie.Need-returns
 unfolding deduceNumber
 returns c = inference-first _ (c .before .inference-number .ensures) (c .if1 .taken) ∙ sym (inference-rest _ _ (c .before .before .before .before .args .x .rule) (c .before .before .before .before .args .x .term) (c .before .before .before .before .args .x .value) _ _)
 
--- src/lib.rt:155:8
 has-value-requires : tie.Need-has-value-requires
 has-value-requires c κs = search needs
 
--- src/lib.rt:156:9
 returns-2 : tie.Need-returns-2
 unfolding deduceNumber
 returns-2 c = sym (inference-rest _ _ (c .before .before .before .before .before .before .args .x .rule) (c .before .before .before .before .before .before .args .x .term) (c .before .before .before .before .before .before .args .x .value) _ _ ∙ inference-past _ (c .before .before .before .inference-number .ensures) (c .before .before .if1 .left) ∙ unless-no _ _ (ap not (sym (c .before .has-value .ensures) ∙ c .if2 .taken)))
 
--- src/lib.rt:158:8
 stands-requires : tie.Need-stands-requires
 stands-requires c κs = search needs
 
--- src/lib.rt:159:9
 returns-3 : tie.Need-returns-3
 unfolding deduceNumber
 returns-3 c = sym (inference-rest _ _ (c .before .before .before .before .before .before .before .before .args .x .rule) (c .before .before .before .before .before .before .before .before .args .x .term) (c .before .before .before .before .before .before .before .before .args .x .value) _ _ ∙ inference-past _ (c .before .before .before .before .before .inference-number .ensures) (c .before .before .before .before .if1 .left) ∙ unless-yes _ _ (ap not (sym (c .before .before .before .has-value .ensures) ∙ c .before .before .if2 .left)) ∙ unless-no _ _ (ap not (sym (c .before .stands .ensures) ∙ c .if3 .taken)))
 
--- src/lib.rt:147:1
 returns-4 : tie.Need-returns-4
 unfolding deduceNumber
 returns-4 c = sym (inference-rest _ _ (c .before .before .before .before .before .before .before .before .args .x .rule) (c .before .before .before .before .before .before .before .before .args .x .term) (c .before .before .before .before .before .before .before .before .args .x .value) _ _ ∙ inference-past _ (c .before .before .before .before .before .inference-number .ensures) (c .before .before .before .before .if1 .left) ∙ unless-yes _ _ (ap not (sym (c .before .before .before .has-value .ensures) ∙ c .before .before .if2 .left)) ∙ unless-yes _ _ (ap not (sym (c .before .stands .ensures) ∙ c .if3 .left)))

@@ -1,27 +1,20 @@
+-- `search_steps::more_level` meets its contract.
 use borrow.Author.Tests.{eq-eqb, ne-eqb}
 use Rattle.search_steps.proofs.Laws.{level-blank, level-filled}
-use mathlib.Core.Path.{sym, ap, _∙_}
+use mathlib.Core.Path.{sym}
 use borrow.Author.Needs.{needs}
 use Rattle.search_steps.proofs.more_level.Statement.{statement}
 use Rattle.search_steps.proofs.more_level.Tie as tie
-use Rattle.search_steps.proofs.more_level.Reads as reads
-use Rattle.search_steps.proofs.more_level.Lts as lts
-use Rattle.state.proofs.level_at.Reads as level-at-reads
-use Rattle.trail.proofs.larger.Reads as larger-reads
 
--- src/lib.rt:67:9
 returns : tie.Need-returns
 returns c = λ xs e. sym (level-blank _ (c .before .before .args .p) xs (eq-eqb _ _ (c .if1 .taken)))
 
--- src/lib.rt:69:9
 level-at-requires : tie.Need-level-at-requires
 level-at-requires c κs = search needs
 
--- src/lib.rt:70:5
 larger-requires : tie.Need-larger-requires
 larger-requires c κs = search needs
 
--- src/lib.rt:62:1
 returns-2 : tie.Need-returns-2
 returns-2 c = λ xs e. rw (c .larger .ensures, c .before .level-at .ensures, e) (sym (level-filled _ (c .before .before .before .before .args .p) xs (c .before .before .before .before .pre .distinct) (ne-eqb _ _ (c .before .before .if1 .left))))
 

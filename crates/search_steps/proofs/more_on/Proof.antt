@@ -1,22 +1,17 @@
+-- `search_steps::more_on` meets its contract.
 use borrow.Author.Tests.{eq-eqb, ne-eqb}
 use Rattle.search_steps.proofs.Laws.{all-blank, all-more}
-use mathlib.Core.Path.{sym, ap, _∙_}
+use mathlib.Core.Path.{sym}
 use borrow.Author.Needs.{needs}
 use Rattle.search_steps.proofs.more_on.Statement.{statement}
 use Rattle.search_steps.proofs.more_on.Tie as tie
-use Rattle.search_steps.proofs.more_on.Reads as reads
-use Rattle.search_steps.proofs.more_on.Lts as lts
-use Rattle.state.proofs.stands.Reads as stands-reads
 
--- src/lib.rt:44:9
 returns : tie.Need-returns
 returns c = λ xs e. sym (all-blank _ (c .before .before .args .p) xs (eq-eqb _ _ (c .if1 .taken)))
 
--- src/lib.rt:46:9
 stands-requires : tie.Need-stands-requires
 stands-requires c κs = search needs
 
--- src/lib.rt:39:1
 returns-2 : tie.Need-returns-2
 returns-2 c = λ xs e. rw (c .stands .ensures, e) (sym (all-more _ (c .before .before .before .args .p) xs (ne-eqb _ _ (c .before .if1 .left))))
 

@@ -1,0 +1,45 @@
+-- `search_steps::deduce` meets its contract.
+use Rattle.state.specs.States.{Answers}
+use Rattle.calculus.specs.Steps.{premises, deduce}
+use Rattle.search_steps.proofs.Laws.{landed, deduce-new}
+use Rattle.state.proofs.States.{refused-by, passed-by}
+use mathlib.Core.Path.{sym, _∙_, refl}
+use borrow.Author.Needs.{needs}
+use Rattle.search_steps.proofs.deduce.Statement.{statement}
+use Rattle.search_steps.proofs.deduce.Tie as tie
+
+deduce-number-requires : tie.Need-deduce-number-requires
+deduce-number-requires c κs = search needs
+
+same-length : tie.Need-same-length
+same-length c = search needs
+
+returns : tie.Need-returns
+unfolding Answers deduce
+returns c = (refused-by _ (c .before .deduce-number .ensures) (c .if1 .taken), refl)
+
+slice-aggregate-propagate : tie.Need-slice-aggregate-propagate
+slice-aggregate-propagate c = search needs
+
+propagate-requires : tie.Need-propagate-requires
+unfolding premises
+propagate-requires c κs = let h = deduce-new _ _ (c .before .before .before .before .before .before .before .args .x .rule) (c .before .before .before .before .before .before .before .args .x .term) (c .before .before .before .before .before .before .before .args .x .value) _ (sym (c .before .before .before .deduce-number .ensures) ∙ c .before .before .if1 .left) in (search needs, search needs, h .1, c .before .before .before .before .before .before .before .pre .0 .held .top, h .0)
+
+same-length-2 : tie.Need-same-length-2
+same-length-2 c = search needs
+
+returns-2 : tie.Need-returns-2
+unfolding deduce premises
+returns-2 c = landed _ _ _ _ _ _ refl (c .before .before .before .before .before .before .before .before .before .before .before .pre .0 .held .rows) (c .before .before .before .propagate .ensures) (passed-by _ (c .before .before .before .before .before .before .before .deduce-number .ensures) (c .before .before .before .before .before .before .if1 .left))
+
+pub deduce-spec : {M : Type 1} → statement M
+deduce-spec =
+    tie.close
+    (tie.spec
+    deduce-number-requires
+    same-length
+    returns
+    slice-aggregate-propagate
+    propagate-requires
+    same-length-2
+    returns-2)
