@@ -121,6 +121,16 @@ below-at (suc n) p k h l = go (λ q. below-at n p k (and-l (below n p) _ h) q) (
     go r (yes q) = r q
     go r (no q) = let e : n ≡ k = omega arith in subst (λ j. T (p j)) e (and-r (below n p) _ h)
 
+-- ---- the first trouble
+
+pub unless-yes : {b : Bool} (c r : ℕ) → b ≡ true → unless b c r ≡ r
+unfolding unless
+unless-yes c r e = rw e
+
+pub unless-no : {b : Bool} (c r : ℕ) → b ≡ false → unless b c r ≡ c
+unfolding unless
+unless-no c r e = rw e
+
 -- ---- no trouble
 
 pub unless-ok : (b : Bool) (c r : ℕ) → 0 < c → unless b c r ≡ 0 → T b × (r ≡ 0)
