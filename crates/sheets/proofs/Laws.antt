@@ -40,11 +40,11 @@ pub first-more : (f : ℕ → ℕ) (t : ℕ) → firstNumber t f ≡ 0 → check
 unfolding firstNumber orElse
 first-more f t a b = rw (add-one, a, passed-zero (f t) b)
 
-or-else-none : (x : ℕ) → orElse 0 x ≡ x
+pub or-else-none : (x : ℕ) → orElse 0 x ≡ x
 unfolding orElse
 or-else-none x = refl
 
-or-else-some : (x r : ℕ) → (x ≡ 0 → ⊥) → orElse x r ≡ x
+pub or-else-some : (x r : ℕ) → (x ≡ 0 → ⊥) → orElse x r ≡ x
 unfolding orElse
 or-else-some zero r d = absurd (d refl)
 or-else-some (suc x) r d = refl
