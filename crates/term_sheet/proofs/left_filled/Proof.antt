@@ -1,0 +1,13 @@
+use Rattle.term_sheet.proofs.Laws.{left-flat}
+use mathlib.Core.Path.{_≡_, refl, sym, ap, _∙_}
+use Rattle.term_sheet.proofs.left_filled.Statement.{statement}
+use Rattle.term_sheet.proofs.left_filled.Tie as tie
+use Rattle.term_sheet.proofs.left_filled.Reads as reads
+use Rattle.term_sheet.proofs.left_filled.Lts as lts
+
+-- src/lib.rt:215:1
+returns : tie.Need-returns
+returns c = let e = c .before .before .before .before .args .e in sym (left-flat (e .a) (e .b) (e .c) (e .d))
+
+pub left-filled-spec : {M : Type 1} → statement M
+left-filled-spec = tie.close (tie.spec returns)

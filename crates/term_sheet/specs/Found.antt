@@ -1,0 +1,44 @@
+-- The first row that repeats an earlier one, what is known of the rows before a row, and a row's number by what is known of it.
+use mathlib.Core.Path.{_≡_}
+use mathlib.Core.Bool.{Bool, true, false, not, _&&_, cond}
+use mathlib.Core.List.{List}
+use Prim.Native.Nat.{ℕ, zero, suc, _+_, _*_, _-_, _≤_, _<_}
+use lib.ListN.{length, getD}
+use lib.Dec.{eqb, leb, ltb}
+use Rattle.calculus.specs.Lists.{below}
+use Rattle.calculus.specs.Numbers.{unless}
+use Rattle.calculus.specs.Terms.{head, cells, leftFilled, headOf, earlier, suits, fresh}
+
+-- the most numbers that a term sheet has: 256 rows of six
+abbrev pub mostNumbers : ℕ
+mostNumbers = 1536
+
+-- r is the first of the first n rows that is not fresh; n, if all are
+pub record FirstRepeat (ts : List ℕ) (n r : ℕ) : Type 0 where
+  pub low : r ≤ n
+  pub before : below r (fresh ts) ≡ true
+  pub found : r < n → fresh ts r ≡ false
+
+-- the columns that two rows are compared by, in the order of the search: the head, then the arguments from the last
+abbrev pub column : ℕ → ℕ
+column k = cond (eqb k 0) 0 (6 - k)
+
+-- rows t and u agree in the k-th of these
+abbrev pub agree : List ℕ → ℕ → ℕ → ℕ → Bool
+agree ts t u k = eqb (getD ts (t * 6 + column k) 0) (getD ts (u * 6 + column k) 0)
+
+-- the greater of two numbers
+abbrev pub greater : ℕ → ℕ → ℕ
+greater a b = cond (ltb a b) b a
+
+-- row t is whole, and no earlier row's head is above top
+pub record Ahead (ts : List ℕ) (t top : ℕ) : Type 0 where
+  pub row : t * 6 + 6 ≤ length ts
+  pub heads : below t (λ u. leb (head ts u) top) ≡ true
+
+-- a row's number, where g says whether it is fresh
+unfoldable pub rowNumber : List ℕ → List ℕ → ℕ → Bool → ℕ
+rowNumber ss ts t g =
+    unless (earlier ts t) 3 (
+    unless (leftFilled (cells ts t) && suits ss ts t (headOf (head ts t))) 4 (
+    unless g 5 0))
