@@ -5,8 +5,9 @@ use mathlib.Core.List.{List, [], _∷_, map}
 use Prim.Native.Nat.{ℕ, zero, suc, _+_, _*_, _-_, _≤_, _<_}
 use native.Mathlib.Omega.{arith}
 use native.Mathlib.Nat.{not-suc-le-zero}
-use native.Mathlib.Numerals.{add-one}
-use lib.ListN.{length, getD}
+use native.Mathlib.Numerals.{add-one, unary-clauses}
+use lib.ListN.{length, getD, set, length-set}
+use lib.Seq.{getD-set-same, getD-set-other}
 use lib.Dec.{eqb, leb, ltb}
 use borrow.Author.Tests.{leb-true, leb-false, ltb-true, ltb-false, eqb-true, eqb-false, ne-eqb, eq-eqb, lt-ltb, le-ltb, le-leb, not-true, not-false}
 use Rattle.calculus.specs.declared.Check.the-variants.{Passed, Refused}
@@ -18,7 +19,7 @@ use Rattle.calculus.specs.Numbers.{unless, checkOf}
 use Rattle.calculus.specs.Sheets.{blank}
 use Rattle.calculus.specs.Terms.{head, sort, cells, filled, leftFilled, args, termAt, cellsOf, headOf, earlier, suits, sameUse, firstUse, twins, fresh, termNumber}
 use Rattle.sheets.proofs.Laws.{passed-zero}
-use Rattle.term_sheet.specs.Found.{FirstRepeat, column, agree, greater, rowNumber}
+use Rattle.term_sheet.specs.Found.{FirstRepeat, Noted, noted, slot, smaller, column, agree, rowNumber}
 
 -- ---- arguments, one more column in front
 
@@ -80,11 +81,9 @@ below-not p (suc n) k h e = go (leb n k) refl (λ l. below-not p n k l e)
 below-is : (p : ℕ → Bool) (n k : ℕ) → below n p ≡ true → k < n → p k ≡ true
 below-is p n k e h = T-true (p k) (below-at n p k (true-T (below n p) e) h)
 
-below-weaker : (p q : ℕ → Bool) (n : ℕ) → ((k : ℕ) → p k ≡ true → q k ≡ true) → below n p ≡ true → below n q ≡ true
-below-weaker p q zero f e = refl
-below-weaker p q (suc n) f e =
-    let b = both-true (below n p) (p n) e in
-    rw (below-weaker p q n f (b .0), f n (b .1))
+below-of : (p : ℕ → Bool) (n : ℕ) → ((k : ℕ) → k < n → p k ≡ true) → below n p ≡ true
+below-of p zero f = refl
+below-of p (suc n) f = rw (below-of p n (λ k h. f k (omega arith)), f n (omega arith))
 
 -- ---- the first number of which a test holds
 
@@ -108,6 +107,30 @@ where-found p (suc n) k e a h = go (leb n k) refl (λ l. where-found p n k e a l
         let l : k < n = omega (arith, leb-false) in
         rw (r l, lt-ltb k n l)
 
+pub where-low : (p : ℕ → Bool) (n : ℕ) → firstWhere n p ≤ n
+unfolding firstWhere
+where-low p zero = omega arith
+where-low p (suc n) = go (ltb (firstWhere n p) n) refl (p n)
+  where
+    go : (g : Bool) → ltb (firstWhere n p) n ≡ g → (b : Bool) → cond g (firstWhere n p) (cond b n (suc n)) ≤ suc n
+    go true e b = let l : firstWhere n p < n = ltb-true (firstWhere n p) n e in omega arith
+    go false e true = omega arith
+    go false e false = omega arith
+
+pub where-before : (p : ℕ → Bool) (n : ℕ) → below (firstWhere n p) (λ k. not (p k)) ≡ true
+unfolding firstWhere
+where-before p zero = refl
+where-before p (suc n) = go (ltb (firstWhere n p) n) refl (p n) refl (where-before p n) (where-low p n)
+  where
+    go : (g : Bool) → ltb (firstWhere n p) n ≡ g → (b : Bool) → p n ≡ b → below (firstWhere n p) (λ k. not (p k)) ≡ true → firstWhere n p ≤ n
+        → below (cond g (firstWhere n p) (cond b n (suc n))) (λ k. not (p k)) ≡ true
+    go true e b d h l = h
+    go false e true d h l = let s : firstWhere n p ≡ n = omega (arith, ltb-false (firstWhere n p) n e) in rw s at h
+    go false e false d h l =
+        let s : firstWhere n p ≡ n = omega (arith, ltb-false (firstWhere n p) n e) in
+        let r : below n (λ k. not (p k)) ≡ true = rw s at h in
+        rw (r, d)
+
 -- ---- the use of a head
 
 eqlist-self : (xs : List ℕ) → eqList xs xs ≡ true
@@ -122,41 +145,76 @@ same-self ts u t e = rw (e, eq-eqb (sort ts t) (sort ts t) refl, eqlist-self (ma
 abbrev pub otherHead : List ℕ → ℕ → ℕ → Bool
 otherHead ts t u = not (eqb (head ts u) (head ts t))
 
-pub use-new : (ts : List ℕ) (t top : ℕ) → below t (λ u. leb (head ts u) top) ≡ true → top < head ts t → t ≡ firstUse ts t
+pub use-found : (ts : List ℕ) (t u : ℕ) → u < t → below u (otherHead ts t) ≡ true → head ts u ≡ head ts t → u ≡ firstUse ts t
 unfolding firstUse
-use-new ts t top e h =
-    sym (where-none (λ u. eqb (head ts u) (head ts t)) t (below-weaker (λ u. leb (head ts u) top) (otherHead ts t) t other e))
+use-found ts t u l e h = sym (where-found (λ v. eqb (head ts v) (head ts t)) t u e (eq-eqb (head ts u) (head ts t) h) l)
+
+-- rows before the one in the slot of row t's head have another head
+others : (ts xs : List ℕ) (t v : ℕ) → Noted ts t xs → v ≤ getD xs (slot (head ts t)) 0 → v ≤ t → below v (otherHead ts t) ≡ true
+others ts xs t v N l m = below-of (otherHead ts t) v other
   where
-    other : (u : ℕ) → leb (head ts u) top ≡ true → otherHead ts t u ≡ true
-    other u q =
-        let l : head ts u ≤ top = leb-true (head ts u) top q in
-        ap not (ne-eqb (head ts u) (head ts t) (λ s. omega arith))
+    other : (u : ℕ) → u < v → otherHead ts t u ≡ true
+    other u h = ap not (ne-eqb (head ts u) (head ts t) (λ e. let r = N .rows u (omega arith) in let q = ap (λ x. getD xs (slot x) 0) e in omega arith))
+
+pub use-new : (ts xs : List ℕ) (t : ℕ) → Noted ts t xs → t ≤ getD xs (slot (head ts t)) 0 → t ≡ firstUse ts t
+unfolding firstUse
+use-new ts xs t N h = sym (where-none (λ u. eqb (head ts u) (head ts t)) t (others ts xs t t N h (omega arith)))
+
+pub use-slot : (ts xs : List ℕ) (t v : ℕ) → Noted ts t xs → v ≡ getD xs (slot (head ts t)) 0 → v < t → head ts v ≡ head ts t → v ≡ firstUse ts t
+use-slot ts xs t v N q l h = use-found ts t v l (others ts xs t v N (omega arith) (omega arith)) h
 
 pub use-none : (ts : List ℕ) (t u : ℕ) → u ≡ t → below u (otherHead ts t) ≡ true → t ≡ firstUse ts t
 unfolding firstUse
 use-none ts t u s e = sym (where-none (λ v. eqb (head ts v) (head ts t)) t (rw s at e))
 
-pub use-found : (ts : List ℕ) (t u : ℕ) → u < t → below u (otherHead ts t) ≡ true → head ts u ≡ head ts t → u ≡ firstUse ts t
-unfolding firstUse
-use-found ts t u l e h = sym (where-found (λ v. eqb (head ts v) (head ts t)) t u e (eq-eqb (head ts u) (head ts t) h) l)
-
 pub use-other : (ts : List ℕ) (t u : ℕ) → below u (otherHead ts t) ≡ true → (head ts u ≡ head ts t → ⊥) → below (u + 1) (otherHead ts t) ≡ true
 use-other ts t u e d = below-more (otherHead ts t) u e (ap not (ne-eqb (head ts u) (head ts t) d))
 
--- the greatest head of one row more
-pub heads-more : (ts : List ℕ) (t top r : ℕ) → r ≡ greater top (head ts t) → below t (λ u. leb (head ts u) top) ≡ true → below (t + 1) (λ u. leb (head ts u) r) ≡ true
-heads-more ts t top r g e =
-    below-more (λ u. leb (head ts u) r) t (below-weaker (λ u. leb (head ts u) top) (λ u. leb (head ts u) r) t over e) (le-leb (head ts t) r (b .1))
+pub use-low : (ts : List ℕ) (t : ℕ) → firstUse ts t ≤ t
+unfolding firstUse
+use-low ts t = where-low (λ u. eqb (head ts u) (head ts t)) t
+
+-- one row more is noted
+pub note-none : (ts xs : List ℕ) → length xs ≡ 1024 → Noted ts 0 xs
+note-none ts xs e = record { size = e; rows = λ u h. absurd (not-suc-le-zero h) }
+
+pub note-more : (ts xs ys : List ℕ) (t : ℕ) → Noted ts t xs → ys ≡ noted xs (head ts t) t → Noted ts (t + 1) ys
+unfolding noted
+note-more ts xs ys t N e =
+    record { size = rw e (simp length-set (N .size)); rows = λ u h. rw e (go u h (eqb (slot (head ts u)) (slot (head ts t))) refl) }
   where
-    bound : (x : Bool) → ltb top (head ts t) ≡ x → r ≡ cond x (head ts t) top → (top ≤ r) × (head ts t ≤ r)
-    bound true q s = let l : top < head ts t = ltb-true top (head ts t) q in (omega arith, omega arith)
-    bound false q s = let l : head ts t ≤ top = ltb-false top (head ts t) q in (omega arith, omega arith)
+    least : (a b : ℕ) → (smaller a b ≤ a) × (smaller a b ≤ b)
+    least a b = pick (ltb b a) refl
+      where
+        pick : (g : Bool) → ltb b a ≡ g → (cond g b a ≤ a) × (cond g b a ≤ b)
+        pick true q = let l : b < a = ltb-true b a q in (omega arith, omega arith)
+        pick false q = let l : a ≤ b = ltb-false b a q in (omega arith, omega arith)
 
-    b : (top ≤ r) × (head ts t ≤ r)
-    b = bound (ltb top (head ts t)) refl g
+    -- a row of the same slot, row t among them
+    under : (u : ℕ) → u < t + 1 → slot (head ts u) ≡ slot (head ts t) → (g : Bool) → leb t u ≡ g → smaller (getD xs (slot (head ts t)) 0) t ≤ u
+    under u h s true q = let l : t ≤ u = leb-true t u q in omega (arith, least (getD xs (slot (head ts t)) 0) t .1)
+    under u h s false q =
+        let l : u < t = leb-false t u q in
+        let r : getD xs (slot (head ts t)) 0 ≤ u = rw s at (N .rows u l) in
+        omega (arith, least (getD xs (slot (head ts t)) 0) t .0)
 
-    over : (u : ℕ) → leb (head ts u) top ≡ true → leb (head ts u) r ≡ true
-    over u q = let l : head ts u ≤ top = leb-true (head ts u) top q in let m = b .0 in le-leb (head ts u) r (omega arith)
+    -- a row of another slot is not row t
+    earlier-row : (u : ℕ) → u < t + 1 → (slot (head ts u) ≡ slot (head ts t) → ⊥) → u < t
+    earlier-row u h d = close (leb t u) refl
+      where
+        close : (g : Bool) → leb t u ≡ g → u < t
+        close true q = let l : t ≤ u = leb-true t u q in let e : u ≡ t = omega arith in absurd (d (ap (λ x. slot (head ts x)) e))
+        close false q = leb-false t u q
+
+    go : (u : ℕ) → u < t + 1 → (g : Bool) → eqb (slot (head ts u)) (slot (head ts t)) ≡ g
+        → getD (set xs (slot (head ts t)) (smaller (getD xs (slot (head ts t)) 0) t)) (slot (head ts u)) 0 ≤ u
+    go u h true q =
+        let s : slot (head ts u) ≡ slot (head ts t) = eqb-true (slot (head ts u)) (slot (head ts t)) q in
+        let i : slot (head ts t) < length xs = omega (arith, N .size) in
+        rw (s, getD-set-same xs (slot (head ts t)) (smaller (getD xs (slot (head ts t)) 0) t) 0 i) (under u h s (leb t u) refl)
+    go u h false q =
+        let d = eqb-false (slot (head ts u)) (slot (head ts t)) q in
+        rw (getD-set-other xs (slot (head ts t)) (slot (head ts u)) (smaller (getD xs (slot (head ts t)) 0) t) 0 d) (N .rows u (earlier-row u h d))
 
 -- ---- the search for a row like row t
 
@@ -183,13 +241,29 @@ pub like : (ts : List ℕ) (t u k : ℕ) → k ≡ 5 → below k (agree ts t u) 
 unfolding twins
 like ts t u k h e = ap not (turned (agree ts t u 0) (agree ts t u 1) (agree ts t u 2) (agree ts t u 3) (agree ts t u 4) (rw h at e))
   where
-    turned : (h d c b a : Bool) → (((((true && h) && d) && c) && b) && a) ≡ true → ((((((true && (false || h)) && true) && a) && b) && c) && d) ≡ true
+    turned : (d c b a h : Bool) → (((((true && d) && c) && b) && a) && h) ≡ true → ((((((true && (false || h)) && true) && a) && b) && c) && d) ≡ true
     turned true true true true true e = refl
     turned true true true true false e = absurd (true≢false (sym e))
-    turned true true true false a e = absurd (true≢false (sym e))
-    turned true true false b a e = absurd (true≢false (sym e))
-    turned true false c b a e = absurd (true≢false (sym e))
-    turned false d c b a e = absurd (true≢false (sym e))
+    turned true true true false h e = absurd (true≢false (sym e))
+    turned true true false a h e = absurd (true≢false (sym e))
+    turned true false b a h e = absurd (true≢false (sym e))
+    turned false c b a h e = absurd (true≢false (sym e))
+
+-- rows before the first use of row t's head are unlike row t
+pub before-use : (ts : List ℕ) (t : ℕ) → below (firstUse ts t) (unlike ts t) ≡ true
+unfolding firstUse
+before-use ts t = below-of (unlike ts t) n other
+  where
+    p : ℕ → Bool
+    p u = eqb (head ts u) (head ts t)
+
+    n : ℕ
+    n = firstWhere t p
+
+    other : (u : ℕ) → u < n → unlike ts t u ≡ true
+    other u h =
+        let d = eqb-false (head ts u) (head ts t) (not-true (p u) (below-is (λ k. not (p k)) n u (where-before p t) h)) in
+        unlike-here ts t u 4 (omega arith) (ap not (ne-eqb (getD ts (t * 6 + 0) 0) (getD ts (u * 6 + 0) 0) (λ s. d (sym (simp unary-clauses at s)))))
 
 pub fresh-row : (ts : List ℕ) (t u : ℕ) → u ≡ t → below u (unlike ts t) ≡ true → fresh ts t ≡ true
 unfolding fresh

@@ -9,7 +9,7 @@ ghost use Rattle.calculus.specs.Lists.{all, eqList};
 ghost use Rattle.calculus.specs.Numbers.{checkOf};
 ghost use Rattle.calculus.specs.Sheets.{blank};
 ghost use Rattle.calculus.specs.Terms.{sort, prop, filled, leftFilled, cellsOf, argsOf, sameUse, firstUse, suits, termsNumber};
-ghost use Rattle.term_sheet.specs.Found.{FirstRepeat, Ahead, mostNumbers, column, agree, greater, rowNumber};
+ghost use Rattle.term_sheet.specs.Found.{FirstRepeat, Whole, Noted, noted, smaller, mostNumbers, column, agree, rowNumber};
 use calculus::Check;
 use calculus::Head;
 use calculus::Row;
@@ -101,24 +101,59 @@ fn same_use(terms: &[u16], u: Row, t: Row) -> bool
     (e.sort == g.sort) & a
 }
 
-// The first row with the head of row t. A head above every earlier one is new, so that nothing has to be looked through.
-fn first_use(terms: &[u16], t: Row, top: u16) -> Row
-    requires { ⌜ Ahead (now terms) (t .0) top ⌝ }
-    ensures { λ r. ⌜ r .0 ≡ firstUse (now (terms .entry)) (t .0) ⌝ }
+// A row number as an index.
+fn wide(x: u16) -> usize
+    ensures { λ r. ⌜ r ≡ x ⌝ }
 {
-    let n = t.0 as usize;
-    let h = terms[n * 6];
-    if top < h {
-        return t;
-    }
+    x as usize
+}
+
+// The lesser of a and b.
+fn smaller_of(a: u16, b: usize) -> u16
+    ensures { λ r. ⌜ r ≡ smaller a b ⌝ }
+{
+    if b < a as usize { b as u16 } else { a }
+}
+
+// Row t, whose head is h, is noted in the head's slot.
+fn note(slots: &mut [u16; 1024], h: u16, t: usize)
+    ensures { λ r. ⌜ now (slots .exit) ≡ noted (now (slots .entry)) h t ⌝ }
+{
+    let s = (h % 1024) as usize;
+    slots[s] = smaller_of(slots[s], t);
+}
+
+// The first row with the head of row t, row after row.
+fn scan_use(terms: &[u16], t: usize) -> usize
+    requires { ⌜ Whole (now terms) t ⌝ }
+    ensures { λ r. ⌜ r ≡ firstUse (now (terms .entry)) t ⌝ }
+{
+    let h = terms[t * 6];
     let mut u: usize = 0;
-    while u < n {
+    while u < t {
         if terms[u * 6] == h {
-            return Row(u as u16);
+            return u;
         }
         u += 1;
     }
     t
+}
+
+// The same, by the slots: no row before the one in the head's slot has that head, so that only heads that share a slot are scanned for.
+fn first_use(terms: &[u16], t: usize, slots: &[u16; 1024]) -> usize
+    requires { ⌜ Whole (now terms) t × Noted (now terms) t (now slots) ⌝ }
+    ensures { λ r. ⌜ r ≡ firstUse (now (terms .entry)) t ⌝ }
+{
+    let h = terms[t * 6];
+    let s = (h % 1024) as usize;
+    let v = wide(slots[s]);
+    if t <= v {
+        return t;
+    }
+    if terms[v * 6] == h {
+        return v;
+    }
+    scan_use(terms, t)
 }
 
 // ---- a row's head, sort and arguments
@@ -171,21 +206,20 @@ fn suits_store(sorts: &[u16], terms: &[u16], t: Row) -> bool
     (n == 3) & y & (a.0 == e.sort) & (b.0 == i) & (c.0 == v)
 }
 
-// Whether row t suits its free head.
-fn suits_free(sorts: &[u16], terms: &[u16], t: Row, top: u16) -> bool
-    requires { ⌜ Ahead (now terms) (t .0) top ⌝ }
+// Whether row t suits its free head, which row u is the first to use.
+fn suits_free(sorts: &[u16], terms: &[u16], t: Row, u: Row) -> bool
+    requires { ⌜ u .0 ≡ firstUse (now terms) (t .0) ⌝ }
     ensures { λ r. ⌜ r ≡ suits (now (sorts .entry)) (now (terms .entry)) (t .0) Head.Free ⌝ }
 {
     let e = rows::term_at(terms, t);
     let p = all_plain(terms, e);
-    let u = first_use(terms, t, top);
     let s = same_use(terms, u, t);
     (e.sort as usize <= sorts.len() / 2) & p & s
 }
 
-// Whether row t suits its head.
-fn suits_head(sorts: &[u16], terms: &[u16], t: Row, k: Head, top: u16) -> bool
-    requires { ⌜ Ahead (now terms) (t .0) top ⌝ }
+// Whether row t suits its head, which row u is the first to use.
+fn suits_head(sorts: &[u16], terms: &[u16], t: Row, k: Head, u: Row) -> bool
+    requires { ⌜ u .0 ≡ firstUse (now terms) (t .0) ⌝ }
     ensures { λ r. ⌜ r ≡ suits (now (sorts .entry)) (now (terms .entry)) (t .0) k ⌝ }
 {
     let e = rows::term_at(terms, t);
@@ -197,7 +231,7 @@ fn suits_head(sorts: &[u16], terms: &[u16], t: Row, k: Head, top: u16) -> bool
         Head::Disjunction => connective(terms, e, 2 <= n),
         Head::Select => suits_select(sorts, terms, t),
         Head::Store => suits_store(sorts, terms, t),
-        Head::Free => suits_free(sorts, terms, t, top),
+        Head::Free => suits_free(sorts, terms, t, u),
         Head::Unlisted => false,
     }
 }
@@ -224,12 +258,12 @@ fn left_filled(e: Term) -> bool
 
 // ---- the first row that repeats an earlier one
 
-// The k-th column that rows are compared by: the head, where most rows differ, then the arguments from the last.
+// The k-th column that rows are compared by: the arguments from the last, then the head.
 fn column_of(k: usize) -> usize
     requires { ⌜ k < 5 ⌝ }
     ensures { λ r. ⌜ r ≡ column k ⌝ }
 {
-    if k == 0 { 0 } else { 6 - k }
+    if k == 4 { 0 } else { 5 - k }
 }
 
 // Whether rows t and u differ in the k-th of these columns.
@@ -246,9 +280,12 @@ pub fn first_repeat(terms: &[u16], n: usize) -> usize
     requires { ⌜ n * 6 ≤ length (now terms) ⌝ }
     ensures { λ r. ⌜ FirstRepeat (now (terms .entry)) n r ⌝ }
 {
+    let mut slots = [BLANK; 1024];
     let mut t: usize = 0;
     'rows: while t < n {
-        let mut u: usize = 0;
+        // Rows before the first use of the head have another one.
+        let mut u = first_use(terms, t, &slots);
+        note(&mut slots, terms[t * 6], t);
         'pairs: while u < t {
             let mut k: usize = 0;
             while k < 5 {
@@ -267,9 +304,9 @@ pub fn first_repeat(terms: &[u16], n: usize) -> usize
 
 // ---- numbers 3, 4, 5
 
-// The number of row t, where `twin` is the first row that repeats an earlier one.
-fn check_term(sorts: &[u16], terms: &[u16], t: Row, top: u16, twin: usize) -> Check
-    requires { ⌜ Ahead (now terms) (t .0) top ⌝ }
+// The number of row t, where row u is the first to use its head and `twin` is the first row that repeats an earlier one.
+fn check_term(sorts: &[u16], terms: &[u16], t: Row, u: Row, twin: usize) -> Check
+    requires { ⌜ u .0 ≡ firstUse (now terms) (t .0) ⌝ }
     ensures { λ r. ⌜ r ≡ checkOf (rowNumber (now (sorts .entry)) (now (terms .entry)) (t .0) (not (eqb (t .0) twin))) ⌝ }
 {
     let e = rows::term_at(terms, t);
@@ -277,7 +314,7 @@ fn check_term(sorts: &[u16], terms: &[u16], t: Row, top: u16, twin: usize) -> Ch
         return Check::Refused(3);
     }
     let k = rows::head_of(e.head);
-    let s = suits_head(sorts, terms, t, k, top);
+    let s = suits_head(sorts, terms, t, k, u);
     let f = left_filled(e);
     if !(f & s) {
         return Check::Refused(4);
@@ -289,13 +326,6 @@ fn check_term(sorts: &[u16], terms: &[u16], t: Row, top: u16, twin: usize) -> Ch
     Check::Passed
 }
 
-// The greater of two numbers.
-fn greater_of(a: u16, b: u16) -> u16
-    ensures { λ r. ⌜ r ≡ greater a b ⌝ }
-{
-    if a < b { b } else { a }
-}
-
 // Numbers 3, 4, 5: the first term row in trouble decides.
 pub fn check_terms(sorts: &[u16], terms: &[u16]) -> Check
     requires { ⌜ length (now terms) ≤ mostNumbers ⌝ }
@@ -303,17 +333,17 @@ pub fn check_terms(sorts: &[u16], terms: &[u16]) -> Check
 {
     let n = terms.len() / 6;
     let twin = first_repeat(terms, n);
+    let mut slots = [BLANK; 1024];
     let mut t: u16 = 0;
-    // The greatest head so far.
-    let mut top: u16 = 0;
     while (t as usize) < n {
-        let c = check_term(sorts, terms, Row(t), top, twin);
+        let u = first_use(terms, t as usize, &slots);
+        let c = check_term(sorts, terms, Row(t), Row(u as u16), twin);
         match c {
             Check::Refused(number) => {
                 return Check::Refused(number);
             }
             Check::Passed => {
-                top = greater_of(top, terms[t as usize * 6]);
+                note(&mut slots, terms[t as usize * 6], t as usize);
                 t += 1;
             }
         }
