@@ -1,26 +1,22 @@
 -- The first trouble among rows that are checked one after the other.
 use mathlib.Core.Path.{_≡_, refl, sym, ap, _∙_}
-use mathlib.Core.Bool.{Bool, true, false, not, true≢false}
-use Prim.Native.Nat.{ℕ, zero, suc, _+_, _≤_, _<_}
+use mathlib.Core.Bool.{Bool, true, false, not}
+use Prim.Native.Nat.{ℕ, zero, suc, _+_, _<_}
 use native.Mathlib.Omega.{arith}
 use native.Mathlib.Nat.{not-suc-le-zero}
 use native.Mathlib.Numerals.{add-one}
 use lib.Dec.{leb}
-use borrow.Author.Tests.{leb-true, leb-false}
-use Rattle.calculus.specs.declared.Check.{Check}
+use borrow.Author.Tests.{leb-true, leb-false, not-true, not-false}
 use Rattle.calculus.specs.declared.Check.the-variants.{Passed, Refused}
+use Rattle.calculus.proofs.Facts.{unless-yes, unless-no}
 use Rattle.calculus.specs.Numbers.{unless, orElse, firstNumber, checkOf}
 
 -- a test that fails gives its number, and one that passes the rest
 pub stop : (a : Bool) (n r : ℕ) → not a ≡ true → n ≡ unless a n r
-unfolding unless
-stop true n r e = absurd (true≢false (sym e))
-stop false n r e = refl
+stop a n r e = sym (unless-no n r (not-true a e))
 
 pub pass : (a : Bool) (n r x : ℕ) → not a ≡ false → x ≡ r → x ≡ unless a n r
-unfolding unless
-pass true n r x e q = q
-pass false n r x e q = absurd (true≢false e)
+pass a n r x e q = q ∙ sym (unless-yes n r (not-false a e))
 
 -- a check that passes is that of 0, and one that refuses is not
 pub passed-zero : (x : ℕ) → checkOf x ≡ Passed → x ≡ 0

@@ -27,14 +27,12 @@ pub fn check_lengths(
     ensures { λ r. ⌜ r ≡ checkOf (lengthNumber (record { sorts = now (sorts .entry); terms = now (terms .entry); inputs = now (inputs .entry); steps = now (steps .entry); work = now (work .entry); trail = now (trail .entry) })) ⌝ }
 {
     if !((sorts.len() % 2 == 0)
-        & ((terms.len() % 6 == 0) & ((inputs.len() % 2 == 0) & (steps.len() % 9 == 0))))
-    {
+        & ((terms.len() % 6 == 0) & ((inputs.len() % 2 == 0) & (steps.len() % 9 == 0)))) {
         return Check::Refused(31);
     }
     let n = terms.len() / 6;
     if !((sorts.len() / 2 <= 32)
-        & ((n <= 256) & ((inputs.len() / 2 <= 256) & (steps.len() / 9 <= 65535))))
-    {
+        & ((n <= 256) & ((inputs.len() / 2 <= 256) & (steps.len() / 9 <= 65535)))) {
         return Check::Refused(30);
     }
     if !((n * 8 + 12 <= work.len()) & (4 * n <= trail.len())) {

@@ -2,18 +2,18 @@
 use mathlib.Core.Path.{_≡_, refl, sym, ap, _∙_}
 use mathlib.Core.Bool.{Bool, true, false, not, _&&_, _||_, cond, true≢false}
 use mathlib.Core.List.{List, [], _∷_, map}
-use Prim.Native.Nat.{ℕ, zero, suc, _+_, _*_, _-_, _≤_, _<_}
+use Prim.Native.Nat.{ℕ, zero, suc, _+_, _*_, _≤_, _<_}
 use native.Mathlib.Omega.{arith}
 use native.Mathlib.Nat.{not-suc-le-zero}
 use native.Mathlib.Numerals.{add-one, unary-clauses}
 use lib.ListN.{length, getD, set, length-set}
 use lib.Seq.{getD-set-same, getD-set-other}
 use lib.Dec.{eqb, leb, ltb}
-use borrow.Author.Tests.{leb-true, leb-false, ltb-true, ltb-false, eqb-true, eqb-false, ne-eqb, eq-eqb, lt-ltb, le-ltb, le-leb, not-true, not-false}
-use Rattle.calculus.specs.declared.Check.the-variants.{Passed, Refused}
+use borrow.Author.Tests.{leb-true, leb-false, ltb-true, ltb-false, eqb-true, eqb-false, ne-eqb, eq-eqb, lt-ltb, le-ltb, not-true}
+use Rattle.calculus.specs.declared.Check.the-variants.{Passed}
 use Rattle.calculus.specs.declared.Term.{Term}
 use Rattle.calculus.specs.declared.Head.{Head}
-use Rattle.calculus.proofs.Facts.{both-true, true-or-false, T-true, true-T, below-at}
+use Rattle.calculus.proofs.Facts.{both-true, T-true, true-T, below-at}
 use Rattle.calculus.specs.Lists.{all, below, eqList, firstWhere}
 use Rattle.calculus.specs.Numbers.{unless, checkOf}
 use Rattle.calculus.specs.Sheets.{blank}
@@ -41,6 +41,15 @@ sorts-more f x y xs ys = go (eqb x blank) (eqb y blank)
     go true false = refl
     go false true = refl
     go false false = refl
+
+-- one term on both sides
+pub sorts-same : (f : ℕ → ℕ) (x y : ℕ) (xs ys : List ℕ) → x ≡ y
+    → eqList (map f (filled (x ∷ xs))) (map f (filled (y ∷ ys))) ≡ (eqb x blank || eqList (map f (filled xs)) (map f (filled ys)))
+sorts-same f x y xs ys e = rw (← e) (go (eqb x blank))
+  where
+    go : (g : Bool) → eqList (map f (cond g [] (x ∷ filled xs))) (map f (cond g [] (x ∷ filled ys))) ≡ (g || eqList (map f (filled xs)) (map f (filled ys)))
+    go true = refl
+    go false = rw (eq-eqb (f x) (f x) refl)
 
 pub left-flat : (x y z w : ℕ) → leftFilled (x ∷ y ∷ z ∷ w ∷ [])
     ≡ ((eqb x blank && (eqb y blank && (eqb z blank && eqb w blank)))

@@ -1,10 +1,10 @@
 -- The first row that repeats an earlier one, what is known of the rows before a row, and a row's number by what is known of it.
 use mathlib.Core.Path.{_≡_}
-use mathlib.Core.Bool.{Bool, true, false, not, _&&_, cond}
+use mathlib.Core.Bool.{Bool, true, false, _&&_, cond}
 use mathlib.Core.List.{List}
-use Prim.Native.Nat.{ℕ, zero, suc, _+_, _*_, _-_, _%_, _≤_, _<_}
+use Prim.Native.Nat.{ℕ, _+_, _*_, _-_, _%_, _≤_, _<_}
 use lib.ListN.{length, getD, set}
-use lib.Dec.{eqb, leb, ltb}
+use lib.Dec.{eqb, ltb}
 use Rattle.calculus.specs.Lists.{below}
 use Rattle.calculus.specs.Numbers.{unless}
 use Rattle.calculus.specs.Terms.{head, cells, leftFilled, headOf, earlier, suits, fresh}

@@ -78,6 +78,9 @@ fn all_plain(terms: &[u16], e: Term) -> bool
 fn more_sort(terms: &[u16], x: u16, y: u16, rest: bool) -> bool
     ensures { λ r. ⌜ ((xs ys : List ℕ) → rest ≡ eqList (map (sort (now (terms .entry))) (filled xs)) (map (sort (now (terms .entry))) (filled ys)) → r ≡ eqList (map (sort (now (terms .entry))) (filled (x ∷ xs))) (map (sort (now (terms .entry))) (filled (y ∷ ys)))) ⌝ }
 {
+    if x == y {
+        return (x == BLANK) | rest;
+    }
     let s = sheets::sort_of(terms, Row(x));
     let t = sheets::sort_of(terms, Row(y));
     ((x == BLANK) & (y == BLANK)) | (!(x == BLANK) & (!(y == BLANK) & ((s.0 == t.0) & rest)))

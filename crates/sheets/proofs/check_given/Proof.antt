@@ -1,16 +1,13 @@
+-- `sheets::check_given` meets its contract.
 use Rattle.calculus.specs.Numbers.{unless}
 use Rattle.sheets.specs.Rows.{givenNumber}
 use Rattle.sheets.proofs.check_given.Statement.{statement}
 use Rattle.sheets.proofs.check_given.Tie as tie
-use Rattle.sheets.proofs.check_given.Reads as reads
-use Rattle.sheets.proofs.check_given.Lts as lts
 
--- src/lib.rt:152:9
 returns : tie.Need-returns
 unfolding givenNumber unless
 returns c = rw (c .if1 .taken)
 
--- src/lib.rt:148:1
 returns-2 : tie.Need-returns-2
 unfolding givenNumber unless
 returns-2 c = rw (c .if1 .left)

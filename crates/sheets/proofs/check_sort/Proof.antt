@@ -1,36 +1,26 @@
-use mathlib.Core.Path.{_≡_, refl, sym, ap, _∙_}
+-- `sheets::check_sort` meets its contract.
+use mathlib.Core.Path.{refl, ap}
 use Rattle.calculus.specs.Numbers.{checkOf}
 use Rattle.sheets.proofs.Laws.{stop, pass}
 use native.Mathlib.Numerals.{add-one}
-use borrow.Author.Tests.{not-true, not-false, ltb-true, ltb-false}
-use Rattle.calculus.specs.Numbers.{unless}
 use Rattle.calculus.specs.Sorts.{sortNumber}
 use borrow.Author.Needs.{needs}
 use Rattle.sheets.proofs.check_sort.Statement.{statement}
 use Rattle.sheets.proofs.check_sort.Tie as tie
-use Rattle.sheets.proofs.check_sort.Reads as reads
-use Rattle.sheets.proofs.check_sort.Lts as lts
-use Rattle.sheets.proofs.is_array.Reads as is-array-reads
-use Rattle.sheets.proofs.is_plain.Reads as is-plain-reads
 
--- src/lib.rt:92:18
 add-t6 : tie.Need-add-t6
 add-t6 c = search needs
 
--- src/lib.rt:93:9
 is-array-requires : tie.Need-is-array-requires
 is-array-requires c κs = search needs
 
--- src/lib.rt:94:9
 is-plain-requires : tie.Need-is-plain-requires
 is-plain-requires c κs = search needs
 
--- src/lib.rt:96:9
 returns : tie.Need-returns
 unfolding sortNumber
 returns c = rw (← add-one (c .before .before .before .before .args .k), ← c .before .before .is-array .ensures, ← c .before .is-plain .ensures) (ap checkOf (stop _ 1 _ (c .if1 .taken)))
 
--- src/lib.rt:88:1
 returns-2 : tie.Need-returns-2
 unfolding sortNumber
 returns-2 c = rw (← add-one (c .before .before .before .before .args .k), ← c .before .before .is-array .ensures, ← c .before .is-plain .ensures) (ap checkOf (pass _ 1 _ _ (c .if1 .left) refl))

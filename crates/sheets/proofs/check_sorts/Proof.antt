@@ -1,18 +1,16 @@
+-- `sheets::check_sorts` meets its contract.
 use lib.ListN.{length}
 use Rattle.calculus.specs.Numbers.{checkOf}
 use Rattle.sheets.proofs.Laws.{first-none, first-more, first-found}
 use borrow.Author.Needs.{needs}
 use Rattle.calculus.specs.Sorts.{sortNumber, sortsNumber}
 use Rattle.calculus.specs.Numbers.{firstNumber}
-use Prim.Native.Nat.{ℕ, _≤_, _<_, _-_, _/_}
+use Prim.Native.Nat.{_≤_, _-_, _/_}
 use native.Mathlib.Omega.{arith}
-use borrow.Author.Tests.{not-true, not-false, ltb-true, ltb-false}
-use mathlib.Core.Path.{_≡_, refl, sym, ap, _∙_}
+use borrow.Author.Tests.{ltb-true, ltb-false}
+use mathlib.Core.Path.{_≡_, sym, ap, _∙_}
 use Rattle.sheets.proofs.check_sorts.Statement.{statement}
 use Rattle.sheets.proofs.check_sorts.Tie as tie
-use Rattle.sheets.proofs.check_sorts.Reads as reads
-use Rattle.sheets.proofs.check_sorts.Lts as lts
-use Rattle.sheets.proofs.check_sort.Reads as check-sort-reads
 
 abbrev Inv-loop : tie.InvT-loop
 Inv-loop sorts n k₀ k = (k ≤ n) × (firstNumber k (sortNumber sorts) ≡ 0)
@@ -20,44 +18,34 @@ Inv-loop sorts n k₀ k = (k ≤ n) × (firstNumber k (sortNumber sorts) ≡ 0)
 abbrev μ-loop : tie.MeasureT-loop
 μ-loop sorts n k₀ k = n - k
 
--- src/lib.rt:108:5
 loop-holds : tie.Need-loop-holds Inv-loop μ-loop
 loop-holds c = (omega arith, first-none _)
 
--- src/lib.rt:108:12
 cast-loop : tie.Need-cast-loop Inv-loop μ-loop
 cast-loop c = search needs
 
--- src/lib.rt:109:13
 check-sort-requires : tie.Need-check-sort-requires Inv-loop μ-loop
 check-sort-requires c κs = omega arith
 
--- src/lib.rt:111:28
 enum-known-c : tie.Need-enum-known-c Inv-loop μ-loop
 enum-known-c c = search needs
 
--- src/lib.rt:112:17
 returns : tie.Need-returns Inv-loop μ-loop
 unfolding sortsNumber
 returns c = first-found (sortNumber (c .before .before .before .before .before .before .before .args .sorts .now)) _ (c .before .before .before .before .before .loop .k) _ (c .before .before .before .before .before .loop .inv .1) (sym (c .before .before .before .check-sort .ensures) ∙ c .before .c .given .1) (omega (arith, ltb-true))
 
--- src/lib.rt:115:17
 enum-told : tie.Need-enum-told Inv-loop μ-loop
 enum-told c = search needs
 
--- src/lib.rt:115:17
 add-k : tie.Need-add-k Inv-loop μ-loop
 add-k c = omega (arith, ltb-true)
 
--- src/lib.rt:108:5
 loop-less : tie.Need-loop-less Inv-loop μ-loop
 loop-less c = omega (arith, ltb-true)
 
--- src/lib.rt:108:5
 loop-again : tie.Need-loop-again Inv-loop μ-loop
 loop-again c = (omega (arith, ltb-true), first-more (sortNumber (c .before .before .before .before .before .before .args .sorts .now)) (c .before .before .before .before .loop .k) (c .before .before .before .before .loop .inv .1) (sym (c .before .before .check-sort .ensures) ∙ c .enum-told .given .1))
 
--- src/lib.rt:102:1
 returns-2 : tie.Need-returns-2 Inv-loop μ-loop
 unfolding sortsNumber
 returns-2 c = let e : c .before .loop .k ≡ length (c .before .before .before .args .sorts .now) / 2 = omega (arith, ltb-false) in sym (ap checkOf (rw e at (c .before .loop .inv .1)))

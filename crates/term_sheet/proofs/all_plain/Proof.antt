@@ -1,29 +1,22 @@
+-- `term_sheet::all_plain` meets its contract.
 use mathlib.Core.List.{[], _∷_}
-use mathlib.Core.Path.{_≡_, refl, sym, ap, _∙_}
+use mathlib.Core.Path.{refl}
 use borrow.Author.Needs.{needs}
 use Rattle.term_sheet.proofs.all_plain.Statement.{statement}
 use Rattle.term_sheet.proofs.all_plain.Tie as tie
-use Rattle.term_sheet.proofs.all_plain.Reads as reads
-use Rattle.term_sheet.proofs.all_plain.Lts as lts
-use Rattle.term_sheet.proofs.more_plain.Reads as more-plain-reads
 
--- src/lib.rt:71:9
 more-plain-requires : tie.Need-more-plain-requires
 more-plain-requires c κs = search needs
 
--- src/lib.rt:72:9
 more-plain-requires-2 : tie.Need-more-plain-requires-2
 more-plain-requires-2 c κs = search needs
 
--- src/lib.rt:73:9
 more-plain-requires-3 : tie.Need-more-plain-requires-3
 more-plain-requires-3 c κs = search needs
 
--- src/lib.rt:74:5
 more-plain-requires-4 : tie.Need-more-plain-requires-4
 more-plain-requires-4 c κs = search needs
 
--- src/lib.rt:68:1
 returns : tie.Need-returns
 returns c = let e = c .before .before .before .before .before .args .e in c .more-plain4 .ensures (e .b ∷ e .c ∷ e .d ∷ []) (c .before .more-plain3 .ensures (e .c ∷ e .d ∷ []) (c .before .before .more-plain2 .ensures (e .d ∷ []) (c .before .before .before .more-plain .ensures [] refl)))
 

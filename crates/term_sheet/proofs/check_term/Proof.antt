@@ -1,29 +1,19 @@
+-- `term_sheet::check_term` meets its contract.
 use Rattle.term_sheet.specs.Found.{rowNumber}
 use Rattle.sheets.proofs.Laws.{stop, pass}
 use Rattle.term_sheet.proofs.Laws.{early, fitting}
-use Rattle.calculus.specs.Numbers.{unless, checkOf}
-use mathlib.Core.Bool.{Bool, true, false, not, _&&_}
-use mathlib.Core.Path.{_≡_, refl, sym, ap, _∙_}
+use Rattle.calculus.specs.Numbers.{checkOf}
+use mathlib.Core.Path.{refl, ap}
 use borrow.Author.Needs.{needs}
 use Rattle.term_sheet.proofs.check_term.Statement.{statement}
 use Rattle.term_sheet.proofs.check_term.Tie as tie
-use Rattle.term_sheet.proofs.check_term.Reads as reads
-use Rattle.term_sheet.proofs.check_term.Lts as lts
-use Rattle.rows.proofs.head_of.Reads as head-of-reads
-use Rattle.rows.proofs.term_at.Reads as term-at-reads
-use Rattle.term_sheet.proofs.all_earlier.Reads as all-earlier-reads
-use Rattle.term_sheet.proofs.left_filled.Reads as left-filled-reads
-use Rattle.term_sheet.proofs.suits_head.Reads as suits-head-reads
 
--- src/lib.rt:275:9
 term-at-requires : tie.Need-term-at-requires
 term-at-requires c κs = search needs
 
--- src/lib.rt:276:9
 all-earlier-requires : tie.Need-all-earlier-requires
 all-earlier-requires c κs = search needs
 
--- src/lib.rt:277:9
 returns : tie.Need-returns
 unfolding rowNumber
 returns c =
@@ -31,19 +21,15 @@ returns c =
     let e = early (a .terms .now) (a .t .0) (c .before .before .term-at .ensures) (c .before .all-earlier .ensures) in
     rw e (ap checkOf (stop _ 3 _ (c .if1 .taken)))
 
--- src/lib.rt:279:9
 head-of-requires : tie.Need-head-of-requires
 head-of-requires c κs = search needs
 
--- src/lib.rt:280:9
 suits-head-requires : tie.Need-suits-head-requires
 suits-head-requires c κs = search needs
 
--- src/lib.rt:281:9
 left-filled-requires : tie.Need-left-filled-requires
 left-filled-requires c κs = search needs
 
--- src/lib.rt:283:9
 returns-2 : tie.Need-returns-2
 unfolding rowNumber
 returns-2 c =
@@ -53,11 +39,9 @@ returns-2 c =
     let s = fitting (a .sorts .now) (a .terms .now) (a .t .0) p (c .before .before .before .head-of .ensures) (c .before .before .suits-head .ensures) (c .before .left-filled .ensures) in
     rw (e, s) (ap checkOf (pass _ 3 _ _ (c .before .before .before .before .if1 .left) (stop _ 4 _ (c .if2 .taken))))
 
--- src/lib.rt:285:19
 cast-fresh : tie.Need-cast-fresh
 cast-fresh c = search needs
 
--- src/lib.rt:287:9
 returns-3 : tie.Need-returns-3
 unfolding rowNumber
 returns-3 c =
@@ -67,7 +51,6 @@ returns-3 c =
     let s = fitting (a .sorts .now) (a .terms .now) (a .t .0) p (c .before .before .before .before .before .head-of .ensures) (c .before .before .before .before .suits-head .ensures) (c .before .before .before .left-filled .ensures) in
     rw (e, s) (ap checkOf (pass _ 3 _ _ (c .before .before .before .before .before .before .if1 .left) (pass _ 4 _ _ (c .before .before .if2 .left) (stop _ 5 _ (c .if3 .taken)))))
 
--- src/lib.rt:271:1
 returns-4 : tie.Need-returns-4
 unfolding rowNumber
 returns-4 c =

@@ -1,3 +1,4 @@
+-- `term_sheet::check_terms` meets its contract.
 use Rattle.term_sheet.proofs.Laws.{row-is, row-passed, use-low, note-none, note-more}
 use Rattle.term_sheet.specs.Found.{Noted}
 use Rattle.sheets.proofs.Laws.{first-none, first-more, first-found}
@@ -7,17 +8,10 @@ use lib.ListN.{length}
 use borrow.Author.Needs.{needs}
 use borrow.Author.Tests.{ltb-true, ltb-false}
 use native.Mathlib.Omega.{arith}
-use Prim.Native.Nat.{ℕ, _+_, _*_, _/_, _-_, _≤_, _<_}
-use mathlib.Core.Bool.{Bool, true, false, not, _&&_}
+use Prim.Native.Nat.{_/_, _-_, _≤_}
 use mathlib.Core.Path.{_≡_, refl, sym, ap, _∙_}
 use Rattle.term_sheet.proofs.check_terms.Statement.{statement}
 use Rattle.term_sheet.proofs.check_terms.Tie as tie
-use Rattle.term_sheet.proofs.check_terms.Reads as reads
-use Rattle.term_sheet.proofs.check_terms.Lts as lts
-use Rattle.term_sheet.proofs.check_term.Reads as check-term-reads
-use Rattle.term_sheet.proofs.first_repeat.Reads as first-repeat-reads
-use Rattle.term_sheet.proofs.first_use.Reads as first-use-reads
-use Rattle.term_sheet.proofs.note.Reads as note-reads
 
 abbrev Inv-loop : tie.InvT-loop
 Inv-loop sorts terms n twin slots₀ t₀ slots t =
@@ -26,39 +20,30 @@ Inv-loop sorts terms n twin slots₀ t₀ slots t =
 abbrev μ-loop : tie.MeasureT-loop
 μ-loop sorts terms n twin slots₀ t₀ slots t = n - t
 
--- src/lib.rt:335:9
 first-repeat-requires : tie.Need-first-repeat-requires Inv-loop μ-loop
 first-repeat-requires c κs = omega arith
 
--- src/lib.rt:338:5
 loop-holds : tie.Need-loop-holds Inv-loop μ-loop
 loop-holds c = (omega arith, omega arith, first-none _, note-none _ _ refl)
 
--- src/lib.rt:338:12
 cast-loop : tie.Need-cast-loop Inv-loop μ-loop
 cast-loop c = search needs
 
--- src/lib.rt:339:34
 cast-first-use : tie.Need-cast-first-use Inv-loop μ-loop
 cast-first-use c = search needs
 
--- src/lib.rt:339:13
 first-use-requires : tie.Need-first-use-requires Inv-loop μ-loop
 first-use-requires c κs = (omega (arith, ltb-true), c .before .before .loop .inv .3)
 
--- src/lib.rt:340:54
 cast-t15 : tie.Need-cast-t15 Inv-loop μ-loop
 cast-t15 c = let l = use-low (c .before .before .before .before .before .before .before .args .terms .now) (c .before .before .before .loop .t) in let e = c .first-use .ensures in omega (arith, ltb-true)
 
--- src/lib.rt:340:13
 check-term-requires : tie.Need-check-term-requires Inv-loop μ-loop
 check-term-requires c κs = c .first-use .ensures
 
--- src/lib.rt:342:28
 enum-known-c : tie.Need-enum-known-c Inv-loop μ-loop
 enum-known-c c = search needs
 
--- src/lib.rt:343:17
 returns : tie.Need-returns Inv-loop μ-loop
 unfolding termsNumber
 returns c = let a = c .before .before .before .before .before .before .before .before .before .before .before .args in
@@ -66,43 +51,33 @@ returns c = let a = c .before .before .before .before .before .before .before .b
     let r = row-is (a .sorts .now) (a .terms .now) _ _ (l .t) (c .before .before .before .before .before .before .before .before .first-repeat .ensures) (l .inv .1) (omega (arith, ltb-true)) in
     first-found (termNumber (a .sorts .now) (a .terms .now)) _ (l .t) _ (l .inv .2) (ap checkOf r ∙ (sym (c .before .before .before .check-term .ensures) ∙ c .before .c .given .1)) (omega (arith, ltb-true))
 
--- src/lib.rt:346:22
 enum-told : tie.Need-enum-told Inv-loop μ-loop
 enum-told c = search needs
 
--- src/lib.rt:346:40
 cast-note : tie.Need-cast-note Inv-loop μ-loop
 cast-note c = search needs
 
--- src/lib.rt:346:40
 mul-note : tie.Need-mul-note Inv-loop μ-loop
 mul-note c = search needs
 
--- src/lib.rt:346:34
 mul-note-2 : tie.Need-mul-note-2 Inv-loop μ-loop
 mul-note-2 c = search needs
 
--- src/lib.rt:346:34
 shared-slice-read-note : tie.Need-shared-slice-read-note Inv-loop μ-loop
 shared-slice-read-note c = omega (arith, ltb-true)
 
--- src/lib.rt:346:57
 cast-note-2 : tie.Need-cast-note-2 Inv-loop μ-loop
 cast-note-2 c = search needs
 
--- src/lib.rt:346:17
 note-requires : tie.Need-note-requires Inv-loop μ-loop
 note-requires c κs = tt
 
--- src/lib.rt:347:17
 add-t : tie.Need-add-t Inv-loop μ-loop
 add-t c = omega (arith, ltb-true)
 
--- src/lib.rt:338:5
 loop-less : tie.Need-loop-less Inv-loop μ-loop
 loop-less c = omega (arith, ltb-true)
 
--- src/lib.rt:338:5
 loop-again : tie.Need-loop-again Inv-loop μ-loop
 loop-again c = let a = c .before .before .before .before .before .before .before .before .before .before .before .before .before .args in
     let l = c .before .before .before .before .before .before .before .before .before .loop in
@@ -111,7 +86,6 @@ loop-again c = let a = c .before .before .before .before .before .before .before
     let d = row-passed (a .sorts .now) (a .terms .now) (l .t) (c .before .before .before .before .before .before .before .before .before .before .first-repeat .result) p in
     (omega (arith, ltb-true), omega (arith, d), first-more (termNumber (a .sorts .now) (a .terms .now)) (l .t) (l .inv .2) (ap checkOf r ∙ p), note-more (a .terms .now) (l .slots) _ (l .t) (l .inv .3) (c .note .ensures))
 
--- src/lib.rt:330:1
 returns-2 : tie.Need-returns-2 Inv-loop μ-loop
 unfolding termsNumber
 returns-2 c = let a = c .before .before .before .before .before .args in

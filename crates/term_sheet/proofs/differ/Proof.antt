@@ -1,49 +1,37 @@
+-- `term_sheet::differ` meets its contract.
 use Rattle.term_sheet.proofs.Laws.{column-low}
 use native.Mathlib.Omega.{arith}
 use borrow.Author.Needs.{needs}
 use Rattle.term_sheet.proofs.differ.Statement.{statement}
 use Rattle.term_sheet.proofs.differ.Tie as tie
-use Rattle.term_sheet.proofs.differ.Reads as reads
-use Rattle.term_sheet.proofs.differ.Lts as lts
-use Rattle.term_sheet.proofs.column_of.Reads as column-of-reads
 
--- src/lib.rt:240:9
 column-of-requires : tie.Need-column-of-requires
 column-of-requires c κs = search needs
 
--- src/lib.rt:241:13
 mul-result : tie.Need-mul-result
 mul-result c = search needs
 
--- src/lib.rt:241:13
 add-result : tie.Need-add-result
 add-result c = omega (arith, column-low (c .before .before .args .k) (c .before .before .pre .2) .0)
 
--- src/lib.rt:241:7
 mul-result-2 : tie.Need-mul-result-2
 mul-result-2 c = omega (arith, column-low (c .before .before .args .k) (c .before .before .pre .2) .0)
 
--- src/lib.rt:241:7
 shared-slice-read-result : tie.Need-shared-slice-read-result
 shared-slice-read-result c = omega (arith, column-low (c .before .before .before .args .k) (c .before .before .before .pre .2) .0)
 
--- src/lib.rt:241:33
 mul-result-3 : tie.Need-mul-result-3
 mul-result-3 c = search needs
 
--- src/lib.rt:241:33
 add-result-2 : tie.Need-add-result-2
 add-result-2 c = omega (arith, column-low (c .before .before .before .args .k) (c .before .before .before .pre .2) .0)
 
--- src/lib.rt:241:27
 mul-result-4 : tie.Need-mul-result-4
 mul-result-4 c = omega (arith, column-low (c .before .before .before .args .k) (c .before .before .before .pre .2) .0)
 
--- src/lib.rt:241:27
 shared-slice-read-result-2 : tie.Need-shared-slice-read-result-2
 shared-slice-read-result-2 c = omega (arith, column-low (c .before .before .before .before .args .k) (c .before .before .before .before .pre .2) .0)
 
--- src/lib.rt:236:1
 returns : tie.Need-returns
 returns c = rw (c .before .before .column-of .ensures)
 

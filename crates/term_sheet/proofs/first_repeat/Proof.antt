@@ -1,19 +1,15 @@
+-- `term_sheet::first_repeat` meets its contract.
 use Rattle.term_sheet.proofs.Laws.{unlike, unlike-here, like, fresh-row, repeated, below-more, use-low, before-use, note-none, note-more}
 use Rattle.term_sheet.specs.Found.{Noted, agree}
 use Rattle.calculus.specs.Terms.{fresh}
 use Rattle.calculus.specs.Lists.{below}
-use borrow.Author.Tests.{not-true, not-false, ltb-true, ltb-false, eq-eqb, ne-eqb}
+use borrow.Author.Tests.{not-false, ltb-true, ltb-false}
 use native.Mathlib.Omega.{arith}
-use Prim.Native.Nat.{ℕ, _+_, _*_, _/_, _-_, _≤_, _<_}
-use mathlib.Core.Bool.{Bool, true, false, not, _&&_}
-use mathlib.Core.Path.{_≡_, refl, sym, ap, _∙_}
+use Prim.Native.Nat.{_-_, _≤_, _<_}
+use mathlib.Core.Bool.{true}
+use mathlib.Core.Path.{_≡_, refl, sym, _∙_}
 use Rattle.term_sheet.proofs.first_repeat.Statement.{statement}
 use Rattle.term_sheet.proofs.first_repeat.Tie as tie
-use Rattle.term_sheet.proofs.first_repeat.Reads as reads
-use Rattle.term_sheet.proofs.first_repeat.Lts as lts
-use Rattle.term_sheet.proofs.differ.Reads as differ-reads
-use Rattle.term_sheet.proofs.first_use.Reads as first-use-reads
-use Rattle.term_sheet.proofs.note.Reads as note-reads
 
 abbrev Inv-loop : tie.InvT-loop
 Inv-loop terms n slots t u₀ k₀ u k = (u ≡ u₀) × (k ≤ 5) × (below k (agree terms t u) ≡ true)
@@ -33,54 +29,42 @@ Inv-rows terms n slots₀ t₀ slots t = (t ≤ n) × (below t (fresh terms) ≡
 abbrev μ-rows : tie.MeasureT-rows
 μ-rows terms n slots₀ t₀ slots t = n - t
 
--- src/lib.rt:278:5
 rows-holds : tie.Need-rows-holds Inv-loop μ-loop Inv-pairs μ-pairs Inv-rows μ-rows
 rows-holds c = (omega arith, refl, note-none _ _ refl)
 
--- src/lib.rt:280:13
 first-use-requires : tie.Need-first-use-requires Inv-loop μ-loop Inv-pairs μ-pairs Inv-rows μ-rows
 first-use-requires c κs = (omega arith, c .before .before .rows .inv .2)
 
--- src/lib.rt:281:32
 mul-note : tie.Need-mul-note Inv-loop μ-loop Inv-pairs μ-pairs Inv-rows μ-rows
 mul-note c = omega arith
 
--- src/lib.rt:281:26
 mul-note-2 : tie.Need-mul-note-2 Inv-loop μ-loop Inv-pairs μ-pairs Inv-rows μ-rows
 mul-note-2 c = omega arith
 
--- src/lib.rt:281:26
 shared-slice-read-note :
     tie.Need-shared-slice-read-note Inv-loop μ-loop Inv-pairs μ-pairs Inv-rows μ-rows
 shared-slice-read-note c = omega arith
 
--- src/lib.rt:281:9
 note-requires : tie.Need-note-requires Inv-loop μ-loop Inv-pairs μ-pairs Inv-rows μ-rows
 note-requires c κs = tt
 
--- src/lib.rt:282:9
 pairs-holds : tie.Need-pairs-holds Inv-loop μ-loop Inv-pairs μ-pairs Inv-rows μ-rows
 pairs-holds c = let e = c .before .before .before .first-use .ensures in
     let terms = c .before .before .before .before .before .before .before .before .args .terms .now in
     (rw e (use-low terms (c .before .before .before .before .before .before .rows .t)), rw e (before-use terms (c .before .before .before .before .before .before .rows .t)))
 
--- src/lib.rt:284:13
 loop-holds : tie.Need-loop-holds Inv-loop μ-loop Inv-pairs μ-pairs Inv-rows μ-rows
 loop-holds c = (refl, omega arith, refl)
 
--- src/lib.rt:285:20
 differ-requires : tie.Need-differ-requires Inv-loop μ-loop Inv-pairs μ-pairs Inv-rows μ-rows
 differ-requires c κs = (omega arith, omega arith, omega arith)
 
--- src/lib.rt:286:21
 add-u : tie.Need-add-u Inv-loop μ-loop Inv-pairs μ-pairs Inv-rows μ-rows
 add-u c = omega arith
 
--- src/lib.rt:282:9
 pairs-less : tie.Need-pairs-less Inv-loop μ-loop Inv-pairs μ-pairs Inv-rows μ-rows
 pairs-less c = omega arith
 
--- src/lib.rt:282:9
 pairs-again : tie.Need-pairs-again Inv-loop μ-loop Inv-pairs μ-pairs Inv-rows μ-rows
 pairs-again c = let terms = c .before .before .before .before .before .before .before .before .before .before .before .before .before .before .args .terms .now in
     let t = c .before .before .before .before .before .before .before .before .before .before .before .before .rows .t in
@@ -88,41 +72,33 @@ pairs-again c = let terms = c .before .before .before .before .before .before .b
     let b : below u (unlike terms t) ≡ true = rw (c .before .before .before .loop .inv .0) (c .before .before .before .before .before .pairs .inv .1) in
     (omega arith, below-more (unlike terms t) u b (unlike-here terms t u (c .before .before .before .loop .k) (omega arith) (sym (c .before .differ .ensures) ∙ c .if1 .taken)))
 
--- src/lib.rt:289:17
 add-k : tie.Need-add-k Inv-loop μ-loop Inv-pairs μ-pairs Inv-rows μ-rows
 add-k c = omega arith
 
--- src/lib.rt:284:13
 loop-less : tie.Need-loop-less Inv-loop μ-loop Inv-pairs μ-pairs Inv-rows μ-rows
 loop-less c = omega arith
 
--- src/lib.rt:284:13
 loop-again : tie.Need-loop-again Inv-loop μ-loop Inv-pairs μ-pairs Inv-rows μ-rows
 loop-again c = let terms = c .before .before .before .before .before .before .before .before .before .before .before .before .before .before .args .terms .now in
     let t = c .before .before .before .before .before .before .before .before .before .before .before .before .rows .t in
     let l = c .before .before .before .loop in
     (l .inv .0, omega arith, below-more (agree terms t (l .u)) (l .k) (l .inv .2) (not-false _ (sym (c .before .differ .ensures) ∙ c .if1 .left)))
 
--- src/lib.rt:293:9
 add-t : tie.Need-add-t Inv-loop μ-loop Inv-pairs μ-pairs Inv-rows μ-rows
 add-t c = omega arith
 
--- src/lib.rt:278:5
 rows-less : tie.Need-rows-less Inv-loop μ-loop Inv-pairs μ-pairs Inv-rows μ-rows
 rows-less c = omega arith
 
--- src/lib.rt:278:5
 rows-again : tie.Need-rows-again Inv-loop μ-loop Inv-pairs μ-pairs Inv-rows μ-rows
 rows-again c = let terms = c .before .before .before .before .before .before .before .before .before .before .args .terms .now in
     let r = c .before .before .before .before .before .before .before .before .rows in
     let e : c .before .pairs .u ≡ r .t = omega (arith, ltb-false) in
     (omega arith, below-more (fresh terms) (r .t) (r .inv .1) (fresh-row terms (r .t) (c .before .pairs .u) e (c .before .pairs .inv .1)), note-more terms (r .slots) _ (r .t) (r .inv .2) (c .before .before .note .ensures))
 
--- src/lib.rt:272:1
 returns : tie.Need-returns Inv-loop μ-loop Inv-pairs μ-pairs Inv-rows μ-rows
 returns c = record { low = omega arith; before = c .before .rows .inv .1; found = λ h. absurd (omega (arith, ltb-false)) }
 
--- src/lib.rt:272:1
 returns-2 : tie.Need-returns-2 Inv-loop μ-loop Inv-pairs μ-pairs Inv-rows μ-rows
 returns-2 c = let terms = c .before .before .before .before .before .before .before .before .before .before .before .before .args .terms .now in
     let t = c .before .before .before .before .before .before .before .before .before .before .rows .t in

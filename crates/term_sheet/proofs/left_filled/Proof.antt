@@ -1,11 +1,9 @@
+-- `term_sheet::left_filled` meets its contract.
 use Rattle.term_sheet.proofs.Laws.{left-flat}
-use mathlib.Core.Path.{_≡_, refl, sym, ap, _∙_}
+use mathlib.Core.Path.{sym}
 use Rattle.term_sheet.proofs.left_filled.Statement.{statement}
 use Rattle.term_sheet.proofs.left_filled.Tie as tie
-use Rattle.term_sheet.proofs.left_filled.Reads as reads
-use Rattle.term_sheet.proofs.left_filled.Lts as lts
 
--- src/lib.rt:215:1
 returns : tie.Need-returns
 returns c = let e = c .before .before .before .before .args .e in sym (left-flat (e .a) (e .b) (e .c) (e .d))
 

@@ -1,19 +1,15 @@
+-- `term_sheet::more_plain` meets its contract.
 use Rattle.term_sheet.proofs.Laws.{all-more}
 use mathlib.Core.Bool.{not}
 use Rattle.calculus.specs.Terms.{prop}
-use mathlib.Core.Path.{_≡_, refl, sym, ap, _∙_}
+use mathlib.Core.Path.{sym}
 use borrow.Author.Needs.{needs}
 use Rattle.term_sheet.proofs.more_plain.Statement.{statement}
 use Rattle.term_sheet.proofs.more_plain.Tie as tie
-use Rattle.term_sheet.proofs.more_plain.Reads as reads
-use Rattle.term_sheet.proofs.more_plain.Lts as lts
-use Rattle.sheets.proofs.sort_of.Reads as sort-of-reads
 
--- src/lib.rt:63:9
 sort-of-requires : tie.Need-sort-of-requires
 sort-of-requires c κs = search needs
 
--- src/lib.rt:60:1
 returns : tie.Need-returns
 returns c xs e =
     let s = c .before .before .before .args in

@@ -1,44 +1,33 @@
+-- `term_sheet::same_use` meets its contract.
 use Rattle.term_sheet.proofs.Laws.{same-self}
 use Rattle.calculus.specs.Terms.{sameUse, args, cells}
 use mathlib.Core.List.{[], _∷_}
-use mathlib.Core.Path.{_≡_, refl, sym, ap, _∙_}
+use mathlib.Core.Path.{refl}
 use borrow.Author.Needs.{needs}
 use Rattle.term_sheet.proofs.same_use.Statement.{statement}
 use Rattle.term_sheet.proofs.same_use.Tie as tie
-use Rattle.term_sheet.proofs.same_use.Reads as reads
-use Rattle.term_sheet.proofs.same_use.Lts as lts
-use Rattle.rows.proofs.term_at.Reads as term-at-reads
-use Rattle.term_sheet.proofs.more_sort.Reads as more-sort-reads
 
--- src/lib.rt:93:9
 returns : tie.Need-returns
 returns c = same-self (c .before .before .before .before .args .terms .now) (c .before .before .before .before .args .u .0) (c .before .before .before .before .args .t .0) (c .if1 .taken)
 
--- src/lib.rt:95:9
 term-at-requires : tie.Need-term-at-requires
 term-at-requires c κs = search needs
 
--- src/lib.rt:96:9
 term-at-requires-2 : tie.Need-term-at-requires-2
 term-at-requires-2 c κs = search needs
 
--- src/lib.rt:97:9
 more-sort-requires : tie.Need-more-sort-requires
 more-sort-requires c κs = search needs
 
--- src/lib.rt:98:9
 more-sort-requires-2 : tie.Need-more-sort-requires-2
 more-sort-requires-2 c κs = search needs
 
--- src/lib.rt:99:9
 more-sort-requires-3 : tie.Need-more-sort-requires-3
 more-sort-requires-3 c κs = search needs
 
--- src/lib.rt:100:9
 more-sort-requires-4 : tie.Need-more-sort-requires-4
 more-sort-requires-4 c κs = search needs
 
--- src/lib.rt:89:1
 returns-2 : tie.Need-returns-2
 unfolding sameUse args cells
 returns-2 c = let e = c .before .before .before .before .before .before .before .term-at .result in let g = c .before .before .before .before .before .before .term-at2 .result in let a = c .before .before .more-sort4 .ensures (e .b ∷ e .c ∷ e .d ∷ []) (g .b ∷ g .c ∷ g .d ∷ []) (c .before .before .before .more-sort3 .ensures (e .c ∷ e .d ∷ []) (g .c ∷ g .d ∷ []) (c .before .before .before .before .more-sort2 .ensures (e .d ∷ []) (g .d ∷ []) (c .before .before .before .before .before .more-sort .ensures [] [] refl))) in rw (a, c .before .before .before .before .before .before .term-at2 .ensures, c .before .before .before .before .before .before .before .term-at .ensures)

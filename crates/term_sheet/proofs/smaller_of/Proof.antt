@@ -1,19 +1,15 @@
-use borrow.Author.Tests.{not-true, not-false, ltb-true, ltb-false, eq-eqb, ne-eqb, lt-ltb, le-ltb}
+-- `term_sheet::smaller_of` meets its contract.
+use borrow.Author.Tests.{lt-ltb, le-ltb}
 use borrow.Author.Needs.{needs}
 use Rattle.term_sheet.proofs.smaller_of.Statement.{statement}
 use Rattle.term_sheet.proofs.smaller_of.Tie as tie
-use Rattle.term_sheet.proofs.smaller_of.Reads as reads
-use Rattle.term_sheet.proofs.smaller_of.Lts as lts
 
--- src/lib.rt:108:25
 cast-result : tie.Need-cast-result
 cast-result c = search needs
 
--- src/lib.rt:105:1
 returns : tie.Need-returns
 returns c = rw (lt-ltb _ _ (c .if1 .taken))
 
--- src/lib.rt:105:1
 returns-2 : tie.Need-returns-2
 returns-2 c = rw (le-ltb _ _ (c .if1 .left))
 

@@ -1,121 +1,88 @@
+-- `term_sheet::suits_head` meets its contract.
 use Rattle.calculus.specs.Terms.{suits, args, arg, cells}
 use borrow.Author.Needs.{needs}
 use Rattle.term_sheet.proofs.suits_head.Statement.{statement}
 use Rattle.term_sheet.proofs.suits_head.Tie as tie
-use Rattle.term_sheet.proofs.suits_head.Reads as reads
-use Rattle.term_sheet.proofs.suits_head.Lts as lts
-use Rattle.rows.proofs.term_at.Reads as term-at-reads
-use Rattle.term_sheet.proofs.connective.Reads as connective-reads
-use Rattle.term_sheet.proofs.count.Reads as count-reads
-use Rattle.term_sheet.proofs.suits_equality.Reads as suits-equality-reads
-use Rattle.term_sheet.proofs.suits_free.Reads as suits-free-reads
-use Rattle.term_sheet.proofs.suits_select.Reads as suits-select-reads
-use Rattle.term_sheet.proofs.suits_store.Reads as suits-store-reads
 
--- src/lib.rt:191:9
 term-at-requires : tie.Need-term-at-requires
 term-at-requires c κs = search needs
 
--- src/lib.rt:192:9
 count-requires : tie.Need-count-requires
 count-requires c κs = search needs
 
--- src/lib.rt:194:27
 enum-told : tie.Need-enum-told
 enum-told c = search needs
 
--- src/lib.rt:194:27
 suits-equality-requires : tie.Need-suits-equality-requires
 suits-equality-requires c κs = search needs
 
--- src/lib.rt:195:48
 enum-told-2 : tie.Need-enum-told-2
 enum-told-2 c = search needs
 
--- src/lib.rt:195:27
 connective-requires : tie.Need-connective-requires
 connective-requires c κs = search needs
 
--- src/lib.rt:196:51
 enum-told-3 : tie.Need-enum-told-3
 enum-told-3 c = search needs
 
--- src/lib.rt:196:30
 connective-requires-2 : tie.Need-connective-requires-2
 connective-requires-2 c κs = search needs
 
--- src/lib.rt:197:51
 enum-told-4 : tie.Need-enum-told-4
 enum-told-4 c = search needs
 
--- src/lib.rt:197:30
 connective-requires-3 : tie.Need-connective-requires-3
 connective-requires-3 c κs = search needs
 
--- src/lib.rt:198:25
 enum-told-5 : tie.Need-enum-told-5
 enum-told-5 c = search needs
 
--- src/lib.rt:198:25
 suits-select-requires : tie.Need-suits-select-requires
 suits-select-requires c κs = search needs
 
--- src/lib.rt:199:24
 enum-told-6 : tie.Need-enum-told-6
 enum-told-6 c = search needs
 
--- src/lib.rt:199:24
 suits-store-requires : tie.Need-suits-store-requires
 suits-store-requires c κs = search needs
 
--- src/lib.rt:200:23
 enum-told-7 : tie.Need-enum-told-7
 enum-told-7 c = search needs
 
--- src/lib.rt:200:23
 suits-free-requires : tie.Need-suits-free-requires
 suits-free-requires c κs = search needs
 
--- src/lib.rt:201:27
 enum-told-8 : tie.Need-enum-told-8
 enum-told-8 c = search needs
 
--- src/lib.rt:187:1
 returns : tie.Need-returns
 unfolding suits args arg cells
 returns c = rw (c .before .enum-told .given .1, c .suits-equality .ensures, c .before .before .before .before .term-at .ensures)
 
--- src/lib.rt:187:1
 returns-2 : tie.Need-returns-2
 unfolding suits args arg cells
 returns-2 c = rw (c .before .enum-told2 .given .1, c .connective .ensures, c .before .before .before .count .ensures, c .before .before .before .before .term-at .ensures)
 
--- src/lib.rt:187:1
 returns-3 : tie.Need-returns-3
 unfolding suits args arg cells
 returns-3 c = rw (c .before .enum-told3 .given .1, c .connective2 .ensures, c .before .before .before .count .ensures, c .before .before .before .before .term-at .ensures)
 
--- src/lib.rt:187:1
 returns-4 : tie.Need-returns-4
 unfolding suits args arg cells
 returns-4 c = rw (c .before .enum-told4 .given .1, c .connective3 .ensures, c .before .before .before .count .ensures, c .before .before .before .before .term-at .ensures)
 
--- src/lib.rt:187:1
 returns-5 : tie.Need-returns-5
 unfolding suits args arg cells
 returns-5 c = rw (c .before .enum-told5 .given .1, c .suits-select .ensures)
 
--- src/lib.rt:187:1
 returns-6 : tie.Need-returns-6
 unfolding suits args arg cells
 returns-6 c = rw (c .before .enum-told6 .given .1, c .suits-store .ensures)
 
--- src/lib.rt:187:1
 returns-7 : tie.Need-returns-7
 unfolding suits args arg cells
 returns-7 c = rw (c .before .enum-told7 .given .1, c .suits-free .ensures)
 
--- src/lib.rt:187:1
 returns-8 : tie.Need-returns-8
 unfolding suits args arg cells
 returns-8 c = rw (c .enum-told8 .given .1)

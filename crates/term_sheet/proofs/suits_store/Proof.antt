@@ -1,49 +1,33 @@
+-- `term_sheet::suits_store` meets its contract.
 use Rattle.calculus.specs.Terms.{suits, args, arg, cells}
 use borrow.Author.Needs.{needs}
 use Rattle.term_sheet.proofs.suits_store.Statement.{statement}
 use Rattle.term_sheet.proofs.suits_store.Tie as tie
-use Rattle.term_sheet.proofs.suits_store.Reads as reads
-use Rattle.term_sheet.proofs.suits_store.Lts as lts
-use Rattle.rows.proofs.term_at.Reads as term-at-reads
-use Rattle.sheets.proofs.index_sort.Reads as index-sort-reads
-use Rattle.sheets.proofs.is_array.Reads as is-array-reads
-use Rattle.sheets.proofs.sort_of.Reads as sort-of-reads
-use Rattle.sheets.proofs.value_sort.Reads as value-sort-reads
-use Rattle.term_sheet.proofs.count.Reads as count-reads
 
--- src/lib.rt:162:9
 term-at-requires : tie.Need-term-at-requires
 term-at-requires c κs = search needs
 
--- src/lib.rt:163:9
 count-requires : tie.Need-count-requires
 count-requires c κs = search needs
 
--- src/lib.rt:164:9
 sort-of-requires : tie.Need-sort-of-requires
 sort-of-requires c κs = search needs
 
--- src/lib.rt:165:9
 sort-of-requires-2 : tie.Need-sort-of-requires-2
 sort-of-requires-2 c κs = search needs
 
--- src/lib.rt:166:9
 sort-of-requires-3 : tie.Need-sort-of-requires-3
 sort-of-requires-3 c κs = search needs
 
--- src/lib.rt:168:9
 is-array-requires : tie.Need-is-array-requires
 is-array-requires c κs = search needs
 
--- src/lib.rt:169:9
 index-sort-requires : tie.Need-index-sort-requires
 index-sort-requires c κs = search needs
 
--- src/lib.rt:170:9
 value-sort-requires : tie.Need-value-sort-requires
 value-sort-requires c κs = search needs
 
--- src/lib.rt:159:1
 returns : tie.Need-returns
 unfolding suits args arg cells
 returns c = rw (c .before .before .before .before .value-sort .ensures, c .before .before .before .before .before .index-sort .ensures, c .before .before .before .before .before .before .is-array .ensures, c .before .before .before .before .before .before .before .sort-of3 .ensures, c .before .before .before .before .before .before .before .before .sort-of2 .ensures, c .before .before .before .before .before .before .before .before .before .sort-of .ensures, c .before .before .before .before .before .before .before .before .before .before .count .ensures, c .before .before .before .before .before .before .before .before .before .before .before .term-at .ensures)
