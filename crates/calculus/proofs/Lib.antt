@@ -2,5 +2,6 @@
 pub mod Facts
 pub mod Entries
 pub mod Reached
+pub mod Running
 pub mod Runs
 pub mod Slips

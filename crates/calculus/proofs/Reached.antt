@@ -171,6 +171,18 @@ decision-reached tr t v r l h = push-reached (decision tr t v) (record { new = h
 pub justified-reached : {n : ℕ} (tr : Trail) (t v : ℕ) (s : Set) → Reached n tr → t < n → on tr t ≡ false → Within s tr → Reached n (justified tr t v s ∷ tr)
 justified-reached tr t v s r l h w = push-reached (justified tr t v s) (record { new = h; row = l; why = w; low = λ u q. level-at tr s u (w u q) q; level = refl }) r
 
+-- ---- the trail and the conflict of a reached state
+
+pub trail-reached : (n : ℕ) (s : State) → ReachedState n s → Reached n (trailOf s)
+unfolding ReachedState
+trail-reached n (searching tr) r = r
+trail-reached n (conflict tr E) r = r .0
+
+pub conflict-within : (n : ℕ) (s : State) → ReachedState n s → Within (conflictOf s) (trailOf s)
+unfolding ReachedState
+conflict-within n (searching tr) r = λ t h. absurd (true-or-false h refl)
+conflict-within n (conflict tr E) r = r .1
+
 -- ---- every step keeps a reached state
 
 -- of an answer: the state after an allowed step is reached
@@ -270,25 +282,15 @@ module _ (ts : List ℕ) where
         let h = shared-high l k m (and-r (not (eqb l k)) _ (d .0)) in
         decision-reached (keptTo (m - 1) tr) l _ (kept-reached (m - 1) tr i) j (off-kept (m - 1) tr l i (omega (arith, h .0, h .1))))
 
-  trail-reached : (s : State) → ReachedState rows s → Reached rows (trailOf s)
-  unfolding ReachedState
-  trail-reached (searching tr) r = r
-  trail-reached (conflict tr E) r = r .0
-
-  conflict-within : (s : State) → ReachedState rows s → Within (conflictOf s) (trailOf s)
-  unfolding ReachedState
-  conflict-within (searching tr) r = λ t h. absurd (true-or-false h refl)
-  conflict-within (conflict tr E) r = r .1
-
   step-by-kept : (k : Kind) (s : State) (x : Step) → ReachedState rows s → x .term < rows → Kept rows (stepBy ts k s x)
   unfolding stepBy
-  step-by-kept Decide s x r l = decide-kept (trailOf s) (x .term) (x .value) (trail-reached s r) l
-  step-by-kept Deduce s x r l = deduce-kept (trailOf s) (x .rule) (x .term) (x .value) (premises x) (trail-reached s r) l
-  step-by-kept Clash s x r l = clash-kept (trailOf s) (x .rule) (x .term) (x .value) (premises x) (trail-reached s r)
-  step-by-kept Resolve s x r l = resolve-kept (trailOf s) (conflictOf s) (trail-reached s r) (conflict-within s r) (x .term)
-  step-by-kept Clear s x r l = clear-kept (trailOf s) (conflictOf s) (trail-reached s r) (conflict-within s r) (x .term)
-  step-by-kept Jump s x r l = jump-kept (trailOf s) (conflictOf s) (trail-reached s r) (conflict-within s r) (x .term) l
-  step-by-kept Flip s x r l = flip-kept (trailOf s) (conflictOf s) (trail-reached s r) (conflict-within s r) (x .term) (x .p) l
+  step-by-kept Decide s x r l = decide-kept (trailOf s) (x .term) (x .value) (trail-reached rows s r) l
+  step-by-kept Deduce s x r l = deduce-kept (trailOf s) (x .rule) (x .term) (x .value) (premises x) (trail-reached rows s r) l
+  step-by-kept Clash s x r l = clash-kept (trailOf s) (x .rule) (x .term) (x .value) (premises x) (trail-reached rows s r)
+  step-by-kept Resolve s x r l = resolve-kept (trailOf s) (conflictOf s) (trail-reached rows s r) (conflict-within rows s r) (x .term)
+  step-by-kept Clear s x r l = clear-kept (trailOf s) (conflictOf s) (trail-reached rows s r) (conflict-within rows s r) (x .term)
+  step-by-kept Jump s x r l = jump-kept (trailOf s) (conflictOf s) (trail-reached rows s r) (conflict-within rows s r) (x .term) l
+  step-by-kept Flip s x r l = flip-kept (trailOf s) (conflictOf s) (trail-reached rows s r) (conflict-within rows s r) (x .term) (x .p) l
   step-by-kept Unlisted s x r l = tt
 
   step-kept : (s : State) (x : Step) → ReachedState rows s → Kept rows (step ts s x)

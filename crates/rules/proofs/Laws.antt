@@ -8,11 +8,12 @@ use lib.Dec.{eqb}
 use borrow.Author.Tests.{eqb-true, eqb-false, eq-eqb, ne-eqb}
 use Rattle.calculus.specs.declared.Premise.{Premise}
 use Rattle.calculus.specs.declared.Step.{Step}
-use Rattle.calculus.specs.Lists.{has, eqList, isTrue}
+use Rattle.calculus.specs.Lists.{all, has, eqList, isTrue}
 use Rattle.calculus.specs.Sheets.{blank}
 use Rattle.calculus.specs.Terms.{filled}
 use Rattle.calculus.specs.Rules.{rowOf, valueOf, gives, bare, single, double, leading, notOf, andOf, orOf, others, unitAt, equates, pairs}
 use Rattle.calculus.specs.Steps.{premises}
+use Rattle.calculus.proofs.Facts.{both-true}
 use Rattle.rules.specs.Claims.{gap, stated, valued}
 
 -- ---- how many premises
@@ -188,3 +189,38 @@ pub premises-valued : (val : ℕ → ℕ) (x : Step)
     → stated (valued val (x .p) ∷ valued val (x .q) ∷ valued val (x .r) ∷ valued val (x .s) ∷ valued val (x .t) ∷ []) ≡ map (valued val) (premises x)
 unfolding premises
 premises-valued val x = stated-valued val (x .p ∷ x .q ∷ x .r ∷ x .s ∷ x .t ∷ [])
+
+-- ---- the same where a value is known only of a row that passes a test, as one on the trail
+
+-- where the row of a premise passes the test, its value is what val gives
+abbrev pub Looked : (ℕ → Bool) → (ℕ → ℕ) → Premise → Type 0
+Looked here val p = here (p .row) ≡ true → p .value ≡ val (p .row)
+
+abbrev pub AllLooked : (ℕ → Bool) → (ℕ → ℕ) → List Premise → Type 0
+AllLooked here val [] = Unit {0}
+AllLooked here val (p ∷ ps) = Looked here val p × AllLooked here val ps
+
+pub stated-looked : (here : ℕ → Bool) (val : ℕ → ℕ) (ps : List Premise) → AllLooked here val ps → all here (filled (map rowOf ps)) ≡ true
+    → stated ps ≡ map (valued val) (filled (map rowOf ps))
+unfolding stated
+stated-looked here val [] k h = refl
+stated-looked here val (p ∷ ps) k h = go (gap p) (stated-looked here val ps (k .1)) h
+  where
+    go : (g : Bool) → (all here (filled (map rowOf ps)) ≡ true → stated ps ≡ map (valued val) (filled (map rowOf ps)))
+        → all here (cond g [] (p .row ∷ filled (map rowOf ps))) ≡ true
+        → cond g [] (p ∷ stated ps) ≡ map (valued val) (cond g [] (p .row ∷ filled (map rowOf ps)))
+    go true f e = refl
+    go false f e =
+        let b = both-true _ _ e in
+        rw (f (b .1)) (ap (λ (v : ℕ). record { row = p .row; value = v } ∷ map (valued val) (filled (map rowOf ps))) (k .0 (b .0)))
+
+-- the five columns of a step row whose filled premises all pass the test
+pub premises-looked : (here : ℕ → Bool) (val : ℕ → ℕ) (x : Step) (p q r s t : Premise)
+    → p .row ≡ x .p → q .row ≡ x .q → r .row ≡ x .r → s .row ≡ x .s → t .row ≡ x .t
+    → AllLooked here val (p ∷ q ∷ r ∷ s ∷ t ∷ []) → all here (premises x) ≡ true
+    → stated (p ∷ q ∷ r ∷ s ∷ t ∷ []) ≡ map (valued val) (premises x)
+unfolding premises
+premises-looked here val x p q r s t a b c d e k h =
+    let same : map rowOf (p ∷ q ∷ r ∷ s ∷ t ∷ []) ≡ x .p ∷ x .q ∷ x .r ∷ x .s ∷ x .t ∷ [] = rw (a, b, c, d, e) in
+    let h′ : all here (filled (map rowOf (p ∷ q ∷ r ∷ s ∷ t ∷ []))) ≡ true = ap (λ (xs : List ℕ). all here (filled xs)) same ∙ h in
+    stated-looked here val (p ∷ q ∷ r ∷ s ∷ t ∷ []) k h′ ∙ ap (λ (xs : List ℕ). map (valued val) (filled xs)) same

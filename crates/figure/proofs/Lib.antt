@@ -1,0 +1,9 @@
+-- The step definition is the paper's relation.
+pub mod Rows
+pub mod Rules
+pub mod Trails
+pub mod Truths
+pub mod Spelling
+pub mod Forth
+pub mod Back
+pub mod Theorem

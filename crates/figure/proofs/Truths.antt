@@ -1,0 +1,113 @@
+-- On every trail that a list of steps can reach, props have truth values.
+use mathlib.Core.Path.{_≡_, refl, sym, subst}
+use mathlib.Core.Logic.{_⊎_, inl, inr}
+use mathlib.Core.Bool.{not}
+use mathlib.Core.List.{List, [], _∷_, List·Memᴰ, List·Memᴰ·cases-cons, List·Memᴰ·not-nil}
+use Prim.Native.Nat.{ℕ, zero, suc, _≤_, _<_}
+use native.Mathlib.Omega.{arith}
+use lib.Dec.{T, eqb, leb, leb→le, T-not}
+use Rattle.calculus.specs.declared.Step.{Step}
+use Rattle.calculus.specs.declared.Kind.{Kind}
+use Rattle.calculus.specs.declared.Kind.the-variants.{Decide, Deduce, Clash, Resolve, Clear, Jump, Flip, Unlisted}
+use Rattle.calculus.specs.Sheets.{blank, inputRows}
+use Rattle.calculus.specs.Terms.{prop}
+use Rattle.calculus.specs.Trail.{Trail, Entry, levelOf, keptTo, decision}
+use Rattle.calculus.specs.Inputs.{given, inputTerm, inputValue, inputTrail, valueSuits, inputNumber, inputsNumber}
+use Rattle.calculus.specs.Steps.{State, searching, conflict, trailOf, Answer, allowed, refuted, refused, answer, stepAt, premises, kindOf, shaped, decideNumber, decide, deduce, clashed, clashSet, clash, resolve, clear, jump, flip, rowNumber, stepBy, step}
+use Rattle.calculus.specs.Reached.{ReachedState}
+use Rattle.calculus.specs.Run.{follow, run}
+use Rattle.calculus.proofs.Facts.{and-r, or-cases, facts, cond-case, unless-ok, first-ok, answer-case}
+use Rattle.calculus.proofs.Entries.{kept-out}
+use Rattle.calculus.proofs.Reached.{input-reached, step-reached}
+use Rattle.figure.specs.Transitions.{_∈_, Suits}
+use Rattle.figure.specs.Faithful.{Reachable}
+use Rattle.figure.proofs.Rows.{eqb-of}
+
+module _ (ts : List ℕ) where
+  abbrev Truthful : Trail → Type 0
+  Truthful tr = (e : Entry) → e ∈ tr → Suits ts (e .term) (e .value)
+
+  pub value-suits : (t v : ℕ) → T (valueSuits ts t v) → Suits ts t v
+  value-suits t v h = go (or-cases (not (prop ts t)) _ h)
+    where
+      go : T (not (prop ts t)) ⊎ T (leb v 1) → Suits ts t v
+      go (inl n) e = absurd (T-not (prop ts t) n (eqb-of e))
+      go (inr l) e = leb→le v 1 l
+
+  none-truthful : Truthful []
+  none-truthful e m = absurd (List·Memᴰ·not-nil m)
+
+  push-truthful : (x : Entry) (tr : Trail) → Suits ts (x .term) (x .value) → Truthful tr → Truthful (x ∷ tr)
+  push-truthful x tr s h e m = go (List·Memᴰ·cases-cons m)
+    where
+      go : (e ≡ x) ⊎ List·Memᴰ e tr → Suits ts (e .term) (e .value)
+      go (inl q) = subst (λ (y : Entry). Suits ts (y .term) (y .value)) (sym q) s
+      go (inr k) = h e k
+
+  kept-truthful : (m : ℕ) (tr : Trail) → Truthful tr → Truthful (keptTo m tr)
+  kept-truthful m tr h e k = h e (kept-out m tr e k .0)
+
+  -- of an answer: the state after an allowed step
+  abbrev After : Answer → Type 0
+  After (allowed s) = Truthful (trailOf s)
+  After refuted = Unit {0}
+  After (refused c) = Unit {0}
+
+  after : (c : ℕ) (a : Answer) → (c ≡ 0 → After a) → After (answer c a)
+  after c a f = answer-case After c a (λ k. tt) f
+
+  inferred-value : (x : Step) → T (shaped x Deduce) → x .value ≤ 1
+  unfolding shaped
+  inferred-value x h = search facts
+
+  step-by-truthful : (k : Kind) (s : State) (x : Step) → Truthful (trailOf s) → T (shaped x k) → After (stepBy ts k s x)
+  unfolding stepBy decide decideNumber deduce clash clashed resolve clear jump flip shaped
+  step-by-truthful Decide s x h p =
+      after _ _ (λ e.
+      push-truthful (decision (trailOf s) (x .term) (x .value)) (trailOf s) (value-suits (x .term) (x .value) (unless-ok _ 22 _ (omega arith) e .0)) h)
+  step-by-truthful Deduce s x h p = after _ _ (λ e. push-truthful _ (trailOf s) (λ q. inferred-value x p) h)
+  step-by-truthful Clash s x h p =
+      after _ _ (λ e.
+      let E = clashSet (x .term) (premises x) in
+      cond-case After (eqb (levelOf (trailOf s) E) 0) refuted (allowed (conflict (trailOf s) E)) (λ q. tt) (λ q. h))
+  step-by-truthful Resolve s x h p = after _ _ (λ e. h)
+  step-by-truthful Clear s x h p = after _ _ (λ e. kept-truthful _ (trailOf s) h)
+  step-by-truthful Jump s x h p = after _ _ (λ e. push-truthful _ _ (λ q. omega arith) (kept-truthful _ (trailOf s) h))
+  step-by-truthful Flip s x h p = after _ _ (λ e. push-truthful _ _ (λ q. omega arith) (kept-truthful _ (trailOf s) h))
+  step-by-truthful Unlisted s x h p = tt
+
+  step-truthful : (s : State) (x : Step) → Truthful (trailOf s) → After (step ts s x)
+  unfolding step rowNumber
+  step-truthful s x h = after _ _ (λ e. step-by-truthful (kindOf (x .step)) s x h (unless-ok _ 9 _ (omega arith) e .0))
+
+  -- an allowed step leads from a reachable state to a reachable one
+  pub step-reachable : (s s′ : State) (x : Step) → Reachable ts s → step ts s x ≡ allowed s′ → Reachable ts s′
+  step-reachable s s′ x h e =
+      record { reached = step-reached ts s s′ x (h .reached) e; truths = subst After e (step-truthful s x (h .truths)) }
+
+  pub run-reachable : (log : List ℕ) (s : State) (n k : ℕ) → Reachable ts s → Reachable ts (run ts log s n k .state)
+  unfolding run follow
+  run-reachable log s n zero h = h
+  run-reachable log s n (suc k) h = go (λ s′ q. run-reachable log s′ (suc n) k q) (step ts s (stepAt log n)) refl
+    where
+      go : ((s′ : State) → Reachable ts s′ → Reachable ts (run ts log s′ (suc n) k .state)) → (a : Answer) → step ts s (stepAt log n) ≡ a
+          → Reachable ts (follow (λ s′. run ts log s′ (suc n) k) s n a .state)
+      go f (allowed s′) e = f s′ (step-reachable s s′ (stepAt log n) h e)
+      go f refuted e = h
+      go f (refused c) e = h
+
+  input-truthful : (is : List ℕ) (n : ℕ) → ((k : ℕ) → k < n → inputNumber ts is k ≡ 0) → Truthful (inputTrail is n)
+  unfolding inputTrail inputNumber
+  input-truthful is zero h = none-truthful
+  input-truthful is (suc n) h =
+      let a = unless-ok _ 6 _ (omega arith) (h n (omega arith)) in
+      let b = unless-ok _ 7 _ (omega arith) (a .1) in
+      push-truthful (given (inputTerm is n) (inputValue is n)) (inputTrail is n)
+      (value-suits (inputTerm is n) (inputValue is n) (and-r (not (eqb (inputValue is n) blank)) _ (b .0))) (input-truthful is n (λ k l. h k (omega arith)))
+
+  -- the input's trail is reachable where its rows get no number
+  pub start-reachable : (is : List ℕ) → inputsNumber ts is ≡ 0 → Reachable ts (searching (inputTrail is (inputRows is)))
+  unfolding inputsNumber ReachedState
+  start-reachable is ok =
+      let h : (k : ℕ) → k < inputRows is → inputNumber ts is k ≡ 0 = λ k l. first-ok (inputRows is) (inputNumber ts is) k ok l in
+      record { reached = input-reached ts is (inputRows is) h; truths = input-truthful is (inputRows is) h }

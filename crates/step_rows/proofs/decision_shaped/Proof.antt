@@ -1,0 +1,13 @@
+-- `step_rows::decision_shaped` meets its contract.
+use borrow.Author.Needs.{needs}
+use Rattle.step_rows.proofs.decision_shaped.Statement.{statement}
+use Rattle.step_rows.proofs.decision_shaped.Tie as tie
+
+no-premise-requires : tie.Need-no-premise-requires
+no-premise-requires c κs = search needs
+
+returns : tie.Need-returns
+returns c = rw (c .before .before .before .no-premise .ensures)
+
+pub decision-shaped-spec : {M : Type 1} → statement M
+decision-shaped-spec = tie.close (tie.spec no-premise-requires returns)

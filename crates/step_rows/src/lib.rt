@@ -1,0 +1,104 @@
+// The tests of a step row by itself: its columns (number 9) and the rows that it names (number 11).
+ghost use mathlib.Core.Path.{_≡_};
+ghost use mathlib.Core.List.{List, _∷_};
+ghost use Prim.Native.Nat.{ℕ};
+ghost use lib.Dec.{ltb};
+ghost use Rattle.calculus.specs.Lists.{all};
+ghost use Rattle.calculus.specs.Terms.{filled, leftFilled};
+ghost use Rattle.calculus.specs.Steps.{premises, premiseCells, isBlank, decisionShaped, inferenceShaped, conflictShaped, shaped, known};
+use calculus::Kind;
+use calculus::Step;
+use rows::BLANK;
+
+// How many rules there are; they count from 0.
+const RULES: u16 = 13;
+
+// ---- number 9
+
+// No premise column is filled.
+fn no_premise(x: Step) -> bool
+    ensures { λ r. ⌜ r ≡ all isBlank (premiseCells x) ⌝ }
+{
+    (x.p == BLANK) & ((x.q == BLANK) & ((x.r == BLANK) & ((x.s == BLANK) & (x.t == BLANK))))
+}
+
+// After a blank premise column there are blank ones only: where a column is blank, the next is.
+fn from_left(x: Step) -> bool
+    ensures { λ r. ⌜ r ≡ leftFilled (premiseCells x) ⌝ }
+{
+    (!(x.p == BLANK) | (x.q == BLANK))
+        & ((!(x.q == BLANK) | (x.r == BLANK))
+            & ((!(x.r == BLANK) | (x.s == BLANK)) & (!(x.s == BLANK) | (x.t == BLANK))))
+}
+
+// The columns of decide: term and value.
+fn decision_shaped(x: Step) -> bool
+    ensures { λ r. ⌜ r ≡ decisionShaped x ⌝ }
+{
+    let e = no_premise(x);
+    (x.rule == BLANK) & (!(x.term == BLANK) & (!(x.value == BLANK) & e))
+}
+
+// The columns of deduce and clash: rule, term, a truth value, and premises from the left.
+fn inference_shaped(x: Step) -> bool
+    ensures { λ r. ⌜ r ≡ inferenceShaped x ⌝ }
+{
+    let l = from_left(x);
+    (x.rule < RULES) & (!(x.term == BLANK) & ((x.value <= 1) & l))
+}
+
+// The columns of the steps of a conflict: the term, and beside it p or nothing, as the caller has tested.
+fn conflict_shaped(x: Step, beside: bool) -> bool
+    ensures { λ r. ⌜ r ≡ conflictShaped x beside ⌝ }
+{
+    (x.rule == BLANK)
+        & (!(x.term == BLANK)
+            & ((x.value == BLANK)
+                & (beside
+                    & ((x.q == BLANK) & ((x.r == BLANK) & ((x.s == BLANK) & (x.t == BLANK)))))))
+}
+
+// The columns that a step of kind k needs are filled, and no others.
+pub fn shaped(x: Step, k: Kind) -> bool
+    ensures { λ r. ⌜ r ≡ shaped x k ⌝ }
+{
+    match k {
+        Kind::Decide => decision_shaped(x),
+        Kind::Deduce => inference_shaped(x),
+        Kind::Clash => inference_shaped(x),
+        Kind::Resolve => conflict_shaped(x, x.p == BLANK),
+        Kind::Clear => conflict_shaped(x, x.p == BLANK),
+        Kind::Jump => conflict_shaped(x, x.p == BLANK),
+        Kind::Flip => conflict_shaped(x, !(x.p == BLANK)),
+        Kind::Unlisted => false,
+    }
+}
+
+// ---- number 11
+
+// The filled premises are below n: column p in front of the rest.
+fn more_known(n: usize, p: u16, rest: bool) -> bool
+    ensures { λ r. ⌜ ((xs : List ℕ) → rest ≡ all (λ y. ltb y n) (filled xs) → r ≡ all (λ y. ltb y n) (filled (p ∷ xs))) ⌝ }
+{
+    (p == BLANK) | (((p as usize) < n) & rest)
+}
+
+// The premises are below n.
+fn premises_known(n: usize, x: Step) -> bool
+    ensures { λ r. ⌜ r ≡ all (λ y. ltb y n) (premises x) ⌝ }
+{
+    let t = more_known(n, x.t, true);
+    let s = more_known(n, x.s, t);
+    let r = more_known(n, x.r, s);
+    let q = more_known(n, x.q, r);
+    more_known(n, x.p, q)
+}
+
+// The term and the premises are rows of the term sheet.
+pub fn known(terms: &[u16], x: Step) -> bool
+    ensures { λ r. ⌜ r ≡ known (now (terms .entry)) x ⌝ }
+{
+    let n = terms.len() / 6;
+    let p = premises_known(n, x);
+    ((x.term as usize) < n) & p
+}

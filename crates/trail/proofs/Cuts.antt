@@ -1,0 +1,199 @@
+-- Keeping to a level: the order closes up, the kinds of what goes become 0. Assumes nothing.
+use Prim.Native.Nat.{ℕ, zero, suc, _+_, _-_, _*_, _≤_, _<_, max}
+use native.Mathlib.Omega.{arith}
+use mathlib.Core.Path.{_≡_, refl, sym, ap, ap₂, _∙_}
+use mathlib.Core.Logic.{_⊎_, inl, inr, ⊎-elim}
+use mathlib.Core.Bool.{Bool, true, false, cond}
+use mathlib.Core.List.{List, [], _∷_}
+use lib.Dec.{eqb}
+use lib.ListN.{length, getD, set, length-set}
+use lib.Seq.{getD-set-same, getD-set-other}
+use borrow.Author.Tests.{eqb-true, eqb-false, ne-eqb}
+use Rattle.calculus.specs.Trail.{Set, Trail, Entry, on, entry, keptTo, levelOf, topLevel}
+use Rattle.calculus.specs.Reached.{Distinct, Below}
+use Rattle.calculus.proofs.Facts.{is-or-not, true-or-false}
+use Rattle.calculus.proofs.Entries.{kept-off}
+use Rattle.bitset.specs.Windows.{setAt, Only}
+use Rattle.trail.specs.Words.{values, levels, kinds, order, conflict, entryOf, entryFor, trailIn, kindAt, Laid, Cut}
+use Rattle.trail.proofs.Abstract.{off-parts, on-older, kind-here, kind-older, kind-off, kind-on, kept-more, kept-less, kept-distinct, kept-below, top-more}
+use Rattle.trail.proofs.Laws.{why-in, trail-more, below-at, off-at, on-at, distinct-at, below-first, entry-same, trail-set, entry-at}
+
+-- after i of the entries of ws₀, j of them left, whose greatest level is top
+pub record Cutting (w N : ℕ) (ws₀ ws : List ℕ) (m j i top : ℕ) : Type 0 where
+  pub within : j ≤ i
+  pub only : Only ws₀ ws (kinds w N) (N + j)
+  pub kept : trailIn w N ws j ≡ keptTo m (trailIn w N ws₀ i)
+  pub passed : (t : ℕ) → t < N → on (trailIn w N ws₀ i) t ≡ false → getD ws (kinds w N + t) 0 ≡ getD ws₀ (kinds w N + t) 0
+  pub marks : (t : ℕ) → t < N → on (trailIn w N ws₀ i) t ≡ true → getD ws (kinds w N + t) 0 ≡ kindAt (keptTo m (trailIn w N ws₀ i)) t
+  pub greatest : top ≡ topLevel (keptTo m (trailIn w N ws₀ i))
+
+pub cut-none : (w N : ℕ) (ws : List ℕ) (m : ℕ) → Cutting w N ws ws m 0 0 0
+unfolding trailIn keptTo on levelOf
+cut-none w N ws m =
+    record {
+      within = omega arith;
+      only = record { long = refl; rest = λ k o. refl };
+      kept = refl;
+      passed = λ t h o. refl;
+      marks = λ t h o. absurd (true-or-false o refl);
+      greatest = refl;
+    }
+
+module _ (w N : ℕ) (ws₀ ws : List ℕ) (n m j i top : ℕ) (laid : Laid w N ws₀ n) (less : i < n) (room : n ≤ N) (u : Cutting w N ws₀ ws m j i top)
+    (t : ℕ) (now : getD ws (order w N + i) 0 ≡ t) where
+  abbrev done : Trail
+  done = trailIn w N ws₀ i
+
+  -- words that are as they were
+  still : (k : ℕ) → (k < kinds w N) ⊎ (kinds w N + (N + j) ≤ k) → getD ws k 0 ≡ getD ws₀ k 0
+  still = u .only .rest
+
+  was : getD ws₀ (order w N + i) 0 ≡ t
+  was = sym (still (order w N + i) (inr (omega (arith, u .within)))) ∙ now
+
+  pub small : t < N
+  small = rw was at (below-at N w N ws₀ n i (laid .below) less)
+
+  new : on done t ≡ false
+  new = rw was at (distinct-at w N ws₀ n i (laid .distinct) less)
+
+  there : on (trailIn w N ws₀ n) t ≡ true
+  there = rw was at (on-at w N ws₀ n i less)
+
+  same-level : getD ws (levels w N + t) 0 ≡ getD ws₀ (levels w N + t) 0
+  same-level = still _ (inl (omega (arith, small)))
+
+  same-entry : entryFor w N ws t ≡ entryFor w N ws₀ t
+  same-entry =
+      let f : t * w + w ≤ N * w = why-in w t N small in
+      entry-same w N ws ws₀ t
+      (still _ (inl (omega (arith, small)))) same-level (u .passed t small new) (λ k l. still _ (inl (omega arith)))
+
+  same-kind : getD ws₀ (kinds w N + t) 0 ≡ cond (eqb (getD ws₀ (kinds w N + t) 0) 2) 2 1
+  same-kind = laid .marked t small ∙ kind-on t (trailIn w N ws₀ n) there ∙ ap (λ (e : Entry). cond (e .decided) 2 1) (entry-at w N ws₀ n t there)
+
+  next : trailIn w N ws₀ (i + 1) ≡ entryFor w N ws₀ t ∷ done
+  next = trail-more w N ws₀ i ∙ ap (λ (x : ℕ). entryFor w N ws₀ x ∷ done) was
+
+  below-kept : Below N (trailIn w N ws j)
+  below-kept = rw (u .kept) (kept-below N m done (below-first N w N ws₀ n i (laid .below) (omega arith)))
+
+  -- a term that was there before this turn
+  earlier : (v : ℕ) → eqb t v ≡ false → on (entryFor w N ws₀ t ∷ done) v ≡ true → on done v ≡ true
+  earlier v q h = sym (on-older v (entryFor w N ws₀ t) done q) ∙ h
+
+  module _ (h : getD ws (levels w N + t) 0 ≤ m) where
+    abbrev keep : List ℕ
+    keep = set ws (order w N + j) t
+
+    stays : keptTo m (trailIn w N ws₀ (i + 1)) ≡ entryFor w N ws₀ t ∷ keptTo m done
+    stays = ap (keptTo m) next ∙ kept-more (entryFor w N ws₀ t) done m (rw same-level at h)
+
+    keep-kind : (v : ℕ) → v < N → getD keep (kinds w N + v) 0 ≡ getD ws (kinds w N + v) 0
+    keep-kind v l = getD-set-other ws (order w N + j) (kinds w N + v) t 0 (λ e. omega arith)
+
+    keep-entry : entryFor w N keep t ≡ entryFor w N ws t
+    keep-entry =
+        let f : t * w + w ≤ N * w = why-in w t N small in
+        let s = small in
+        entry-same w N keep ws t
+        (getD-set-other ws (order w N + j) _ t 0 (λ e. omega arith))
+        (getD-set-other ws (order w N + j) _ t 0 (λ e. omega arith))
+        (keep-kind t s)
+        (λ k l. getD-set-other ws (order w N + j) _ t 0 (λ e. omega arith))
+
+    pub cut-keep : Cutting w N ws₀ keep m (j + 1) (i + 1) (max top (getD ws (levels w N + t) 0))
+    cut-keep =
+        record {
+          within = omega (arith, u .within);
+          only =
+              record {
+                long = length-set ws (order w N + j) t ∙ u .only .long;
+                rest = λ k o.
+                    getD-set-other ws (order w N + j) k t 0 (λ e. ⊎-elim (λ (l : k < kinds w N). omega arith) (λ (l : kinds w N + (N + (j + 1)) ≤ k). omega arith) o)
+                    ∙ still k (⊎-elim (λ l. inl l) (λ (l : kinds w N + (N + (j + 1)) ≤ k). inr (omega arith)) o);
+              };
+          kept =
+              trail-more w N keep j
+              ∙ ap₂ (λ (x : Entry) (s : Trail). x ∷ s)
+              (ap (entryFor w N keep) (getD-set-same ws (order w N + j) t 0 (omega (arith, u .only .long, u .within, laid .enough))) ∙ keep-entry ∙ same-entry)
+              (trail-set w N ws j (order w N + j) t below-kept (omega arith) (λ p l e. omega arith)
+              (λ p l e. omega (arith, below-at N w N ws j p below-kept l))
+              ∙ u .kept)
+              ∙ sym stays;
+          passed = λ v l o.
+              let a = off-parts v (entryFor w N ws₀ t) done (rw next at o) in
+              keep-kind v l ∙ u .passed v l (a .1);
+          marks = λ v l o.
+              keep-kind v l
+              ∙ ⊎-elim
+              (λ q. let e : t ≡ v = eqb-true t v q in
+              rw (← e) (u .passed t small new ∙ same-kind ∙ sym (kind-here t (entryFor w N ws₀ t) (keptTo m done) refl)))
+              (λ q. u .marks v l (earlier v q (rw next at o)) ∙ sym (kind-older v (entryFor w N ws₀ t) (keptTo m done) q))
+              (is-or-not (eqb t v))
+              ∙ sym (ap (λ (s : Trail). kindAt s v) stays);
+          greatest = ap (max top) same-level ∙ top-more (entryFor w N ws₀ t) (keptTo m done) top (u .greatest) ∙ sym (ap topLevel stays);
+        }
+
+  module _ (h : m < getD ws (levels w N + t) 0) where
+    abbrev drop : List ℕ
+    drop = set ws (kinds w N + t) 0
+
+    goes : keptTo m (trailIn w N ws₀ (i + 1)) ≡ keptTo m done
+    goes = ap (keptTo m) next ∙ kept-less (entryFor w N ws₀ t) done m (rw same-level at h)
+
+    gone : on (keptTo m done) t ≡ false
+    gone = kept-off m done t new
+
+    pub cut-drop : Cutting w N ws₀ drop m j (i + 1) top
+    cut-drop =
+        let s = small in
+        record {
+          within = omega (arith, u .within);
+          only =
+              record {
+                long = length-set ws (kinds w N + t) 0 ∙ u .only .long;
+                rest = λ k o.
+                    getD-set-other ws (kinds w N + t) k 0 0 (λ e. ⊎-elim (λ (l : k < kinds w N). omega arith) (λ (l : kinds w N + (N + j) ≤ k). omega arith) o)
+                    ∙ still k o;
+              };
+          kept =
+              trail-set w N ws j (kinds w N + t) 0 below-kept (omega arith) (λ p l e. omega arith)
+              (λ p l e. off-at w N ws j t p (rw (u .kept) gone) l (omega arith))
+              ∙ u .kept ∙ sym goes;
+          passed = λ v l o.
+              let a = off-parts v (entryFor w N ws₀ t) done (rw next at o) in
+              let ne : t ≡ v → ⊥ = eqb-false t v (a .0) in
+              getD-set-other ws (kinds w N + t) (kinds w N + v) 0 0 (λ e. ne (omega arith)) ∙ u .passed v l (a .1);
+          marks = λ v l o.
+              ⊎-elim
+              (λ q. let e : t ≡ v = eqb-true t v q in
+              rw (← e) (getD-set-same ws (kinds w N + t) 0 0 (omega (arith, u .only .long, laid .enough)) ∙ sym (kind-off t (keptTo m done) gone)))
+              (λ q. let ne : t ≡ v → ⊥ = eqb-false t v q in
+              getD-set-other ws (kinds w N + t) (kinds w N + v) 0 0 (λ e. ne (omega arith)) ∙ u .marks v l (earlier v q (rw next at o)))
+              (is-or-not (eqb t v))
+              ∙ sym (ap (λ (s : Trail). kindAt s v) goes);
+          greatest = u .greatest ∙ sym (ap topLevel goes);
+        }
+
+pub cut-all : (w N : ℕ) (ws₀ ws : List ℕ) (n m j top : ℕ) → Laid w N ws₀ n → n ≤ N → Cutting w N ws₀ ws m j n top → Cut w N ws₀ ws n m j top
+cut-all w N ws₀ ws n m j top laid room u =
+    record {
+      only = record { long = u .only .long; rest = λ k o. u .only .rest k (⊎-elim (λ (l : k < N * w). inl (omega arith)) (λ (l : N * w + 4 * N ≤ k). inr (omega (arith, u .within))) o) };
+      trail = u .kept;
+      laid =
+          record {
+            enough = omega (arith, u .only .long, laid .enough);
+            wide = laid .wide;
+            narrow = laid .narrow;
+            marked = λ t l.
+                ⊎-elim
+                (λ q. u .marks t l q)
+                (λ o. u .passed t l o ∙ laid .marked t l ∙ kind-off t (trailIn w N ws₀ n) o ∙ sym (kind-off t (keptTo m (trailIn w N ws₀ n)) (kept-off m (trailIn w N ws₀ n) t o)))
+                (is-or-not (on (trailIn w N ws₀ n) t))
+                ∙ sym (ap (λ (s : Trail). kindAt s t) (u .kept));
+            distinct = rw (u .kept) (kept-distinct m (trailIn w N ws₀ n) (laid .distinct));
+            below = rw (u .kept) (kept-below N m (trailIn w N ws₀ n) (laid .below));
+          };
+      greatest = u .greatest ∙ sym (ap topLevel (u .kept));
+    }

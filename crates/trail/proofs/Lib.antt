@@ -1,0 +1,6 @@
+-- Laws that belong to no one function.
+pub mod Abstract
+pub mod Laws
+pub mod Pushes
+pub mod Cuts
+pub mod Frames

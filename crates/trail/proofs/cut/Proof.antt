@@ -1,0 +1,139 @@
+-- `trail::cut` meets its contract. The entries passed are kept to the level, and the kinds of the others among them are 0. Assumes nothing.
+use Prim.Native.Nat.{_-_, _≤_}
+use mathlib.Core.Path.{_≡_, refl}
+use mathlib.Core.Logic.{⊎-elim}
+use native.Mathlib.Omega.{arith}
+use borrow.Author.Needs.{needs}
+use Rattle.trail.proofs.Laws.{room-all}
+use Rattle.trail.proofs.Cuts.{Cutting, small, cut-none, cut-keep, cut-drop, cut-all}
+use Rattle.trail.proofs.cut.Statement.{statement}
+use Rattle.trail.proofs.cut.Tie as tie
+
+abbrev Inv-loop : tie.InvT-loop
+Inv-loop work₀ w terms n b most j₀ top₀ i₀ work j top i = (i ≤ n) × (n ≤ terms) × Cutting w terms work₀ work most j i top
+
+abbrev μ-loop : tie.MeasureT-loop
+μ-loop work₀ w terms n b most j₀ top₀ i₀ work j top i = n - i
+
+mul-b : tie.Need-mul-b Inv-loop μ-loop
+mul-b c = search needs
+
+loop-holds : tie.Need-loop-holds Inv-loop μ-loop
+loop-holds c = (search needs, room-all _ _ _ _ (c .before .pre), cut-none _ _ _ _)
+
+mul-t : tie.Need-mul-t Inv-loop μ-loop
+mul-t c = search needs
+
+add-t : tie.Need-add-t Inv-loop μ-loop
+add-t c = search needs
+
+add-t-2 : tie.Need-add-t-2 Inv-loop μ-loop
+add-t-2 c = search needs
+
+mul-t-2 : tie.Need-mul-t-2 Inv-loop μ-loop
+mul-t-2 c = search needs
+
+slice-read-t : tie.Need-slice-read-t Inv-loop μ-loop
+slice-read-t c = search needs
+
+add-level : tie.Need-add-level Inv-loop μ-loop
+add-level c = search needs
+
+add-level-2 : tie.Need-add-level-2 Inv-loop μ-loop
+add-level-2 c = omega (arith, small _ _ _ _ _ _ _ _ _ (c .before .before .before .before .pre) (c .before .loop-test .taken) (c .before .before .loop .inv .1) (c .before .before .loop .inv .2) _ refl)
+
+mul-level : tie.Need-mul-level Inv-loop μ-loop
+mul-level c = omega (arith, small _ _ _ _ _ _ _ _ _ (c .before .before .before .before .pre) (c .before .loop-test .taken) (c .before .before .loop .inv .1) (c .before .before .loop .inv .2) _ refl)
+
+slice-read-level : tie.Need-slice-read-level Inv-loop μ-loop
+slice-read-level c = omega (arith, small _ _ _ _ _ _ _ _ _ (c .before .before .before .before .before .pre) (c .before .before .loop-test .taken) (c .before .before .before .loop .inv .1) (c .before .before .before .loop .inv .2) _ refl)
+
+mul-work : tie.Need-mul-work Inv-loop μ-loop
+mul-work c = search needs
+
+add-work : tie.Need-add-work Inv-loop μ-loop
+add-work c = search needs
+
+add-work-2 : tie.Need-add-work-2 Inv-loop μ-loop
+add-work-2 c = search needs
+
+mul-work-2 : tie.Need-mul-work-2 Inv-loop μ-loop
+mul-work-2 c = search needs
+
+slice-write-work : tie.Need-slice-write-work Inv-loop μ-loop
+slice-write-work c = search needs
+
+larger-requires : tie.Need-larger-requires Inv-loop μ-loop
+larger-requires c κs = search needs
+
+add-j : tie.Need-add-j Inv-loop μ-loop
+add-j c = search needs
+
+mul-work-3 : tie.Need-mul-work-3 Inv-loop μ-loop
+mul-work-3 c = search needs
+
+add-work-3 : tie.Need-add-work-3 Inv-loop μ-loop
+add-work-3 c = search needs
+
+add-work-4 : tie.Need-add-work-4 Inv-loop μ-loop
+add-work-4 c = omega (arith, small _ _ _ _ _ _ _ _ _ (c .before .before .before .before .before .before .pre) (c .before .before .before .loop-test .taken) (c .before .before .before .before .loop .inv .1) (c .before .before .before .before .loop .inv .2) _ refl)
+
+mul-work-4 : tie.Need-mul-work-4 Inv-loop μ-loop
+mul-work-4 c = omega (arith, small _ _ _ _ _ _ _ _ _ (c .before .before .before .before .before .before .pre) (c .before .before .before .loop-test .taken) (c .before .before .before .before .loop .inv .1) (c .before .before .before .before .loop .inv .2) _ refl)
+
+slice-write-work-2 : tie.Need-slice-write-work-2 Inv-loop μ-loop
+slice-write-work-2 c = omega (arith, small _ _ _ _ _ _ _ _ _ (c .before .before .before .before .before .before .pre) (c .before .before .before .loop-test .taken) (c .before .before .before .before .loop .inv .1) (c .before .before .before .before .loop .inv .2) _ refl)
+
+add-i : tie.Need-add-i Inv-loop μ-loop
+add-i c = search needs
+
+loop-less : tie.Need-loop-less Inv-loop μ-loop
+loop-less c = search needs
+
+loop-again : tie.Need-loop-again Inv-loop μ-loop
+loop-again c = let inv = c .before .before .before .before .loop .inv in
+    ⊎-elim
+    (λ w. (search needs, inv .1, rw (w .2, w .3, w .4, w .1 .ensures) (cut-keep _ _ _ _ _ _ _ _ _ (c .before .before .before .before .before .before .pre) (c .before .before .before .loop-test .taken) (inv .1) (inv .2) _ refl (w .0 .taken))))
+    (λ w. (search needs, inv .1, rw (w .1, w .2, w .3) (cut-drop _ _ _ _ _ _ _ _ _ (c .before .before .before .before .before .before .pre) (c .before .before .before .loop-test .taken) (inv .1) (inv .2) _ refl (w .0 .left))))
+    (c .if1 .came)
+
+same-length : tie.Need-same-length Inv-loop μ-loop
+same-length c = search needs
+
+returns : tie.Need-returns Inv-loop μ-loop
+returns c = let e : c .before .loop .i ≡ c .before .before .before .args .n = omega arith in cut-all _ _ _ _ _ _ _ _ (c .before .before .before .pre) (c .before .loop .inv .1) (rw e at (c .before .loop .inv .2))
+
+pub cut-spec : {M : Type 1} → statement M
+cut-spec =
+    tie.close
+    (tie.spec
+    Inv-loop
+    μ-loop
+    mul-b
+    loop-holds
+    mul-t
+    add-t
+    add-t-2
+    mul-t-2
+    slice-read-t
+    add-level
+    add-level-2
+    mul-level
+    slice-read-level
+    mul-work
+    add-work
+    add-work-2
+    mul-work-2
+    slice-write-work
+    larger-requires
+    add-j
+    mul-work-3
+    add-work-3
+    add-work-4
+    mul-work-4
+    slice-write-work-2
+    add-i
+    loop-less
+    loop-again
+    same-length
+    returns)
