@@ -1,10 +1,10 @@
 -- The bits of a word: of two words or-ed, of a word less another, of a power of 2, and the lowest bit that is set. Assumes nothing.
-use Prim.Native.Nat.{ℕ, zero, suc, _+_, _-_, _*_, _/_, _%_, _^_, _≤_, _<_, min, max}
+use Prim.Native.Nat.{ℕ, zero, suc, _+_, _-_, _/_, _%_, _^_, _≤_, _<_, min, max}
 use native.Mathlib.Nat.{pow-suc, mul-div-cancel, mul-mod-left, div-one, div-eq-of-lt, div-self, eq-or-lt-of-le, zero-div, lt-of-lt-of-le}
 use native.Mathlib.Omega.{arith}
 use mathlib.Core.Path.{_≡_, refl, sym, ap, _∙_}
-use mathlib.Core.Logic.{_⊎_, inl, inr, ⊎-elim}
-use mathlib.Core.Bool.{Bool, true, false, _&&_, _||_, not}
+use mathlib.Core.Logic.{⊎-elim}
+use mathlib.Core.Bool.{true, false, _&&_, _||_, not}
 use lib.Dec.{eqb, ltb}
 use lib.Pow.{pow-add, pow-pos, pow-lt, pow-mono, shr-shr, shr-lt}
 use lib.Count.{trailingZeros, under}

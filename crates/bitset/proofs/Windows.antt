@@ -1,10 +1,10 @@
 -- Windows: what a store, or a run of stores, makes of the set in one. Assumes nothing.
-use Prim.Native.Nat.{ℕ, zero, suc, _+_, _-_, _*_, _/_, _%_, _^_, _≤_, _<_}
+use Prim.Native.Nat.{ℕ, _+_, _*_, _/_, _%_, _^_, _≤_, _<_}
 use native.Mathlib.Nat.{one-mul, mod-eq-of-lt}
 use native.Mathlib.Omega.{arith}
 use mathlib.Core.Path.{_≡_, refl, sym, ap, ap₂, _∙_}
 use mathlib.Core.Logic.{_⊎_, inl, inr, ⊎-elim}
-use mathlib.Core.Bool.{Bool, true, false, _&&_, _||_, not, or-false, and-true}
+use mathlib.Core.Bool.{Bool, false, _&&_, _||_, not, or-false, and-true}
 use mathlib.Core.List.{List}
 use lib.Dec.{eqb, ltb}
 use lib.ListN.{length, getD, set, length-set}
@@ -14,7 +14,7 @@ use lib.Bits.{bitOr, bitAnd, bitXor}
 use borrow.Author.Tests.{ltb-true, ltb-false, eqb-true, eqb-false, lt-ltb, le-ltb, eq-eqb, ne-eqb}
 use Rattle.calculus.proofs.Facts.{is-or-not}
 use Rattle.calculus.specs.Trail.{Set, empty, insert, remove, union}
-use Rattle.bitset.specs.Windows.{bitAt, setAt, Only, Holds, Copied}
+use Rattle.bitset.specs.Windows.{bitAt, setAt, Only, Holds}
 use Rattle.bitset.proofs.Bits.{bit-or, bit-less, bit-pow, bit-zero}
 
 -- ---- reading a window

@@ -3,7 +3,6 @@ use Prim.Native.Nat.{ℕ, _≤_, _<_}
 use mathlib.Core.Path.{_≡_}
 use mathlib.Core.Bool.{true, false}
 use Rattle.calculus.specs.Trail.{Set}
-use Rattle.calculus.specs.declared.Row.{Row}
 use Rattle.bitset.specs.declared.Found.{Found}
 use Rattle.bitset.specs.declared.Found.the-variants.{At, Nothing}
 

@@ -1,22 +1,22 @@
 -- The level of a set, and a search in it, member by member. Assumes nothing.
-use Prim.Native.Nat.{ℕ, zero, suc, _+_, _-_, _*_, _/_, _%_, _≤_, _<_, max}
+use Prim.Native.Nat.{ℕ, _+_, _*_, _≤_, _<_, max}
 use native.Mathlib.Omega.{arith}
-use mathlib.Core.Path.{_≡_, refl, sym, ap, ap₂, _∙_}
-use mathlib.Core.Logic.{_⊎_, inl, inr, ⊎-elim}
-use mathlib.Core.Bool.{Bool, true, false, not, _&&_, _||_, cond, or-false, and-true, and-false, or-true}
+use mathlib.Core.Path.{_≡_, sym, ap, ap₂, _∙_}
+use mathlib.Core.Logic.{⊎-elim}
+use mathlib.Core.Bool.{Bool, true, false, not, _&&_, cond, or-false, and-true, and-false, or-true}
 use mathlib.Core.List.{List}
 use lib.Dec.{eqb, ltb}
 use lib.ListN.{getD}
-use borrow.Author.Tests.{ltb-true, ltb-false, eqb-true, eqb-false, lt-ltb, le-ltb, eq-eqb, ne-eqb}
+use borrow.Author.Tests.{ltb-true, ltb-false, eqb-true, eqb-false, lt-ltb, le-ltb}
 use Rattle.calculus.specs.Terms.{prop}
-use Rattle.calculus.specs.Trail.{Set, Trail, Entry, insert, remove, intersection, on, entry, levelOf, levelAt, decidedAt, holds, firstOrder}
-use Rattle.calculus.specs.Reached.{Distinct, Within}
+use Rattle.calculus.specs.Trail.{Set, Trail, Entry, insert, remove, intersection, on, entry, levelOf, levelAt, holds, firstOrder}
+use Rattle.calculus.specs.Reached.{Distinct}
 use Rattle.calculus.proofs.Facts.{is-or-not, true-or-false, both-true}
 use Rattle.bitset.specs.Windows.{setAt}
 use Rattle.bitset.specs.Members.{Clear, Least}
 use Rattle.bitset.proofs.Windows.{set-past}
-use Rattle.trail.specs.Words.{kinds, levels, trailIn, entryFor, Laid}
-use Rattle.trail.proofs.Abstract.{level-insert, level-none, on-below, holds-yes, holds-no}
+use Rattle.trail.specs.Words.{kinds, levels, trailIn}
+use Rattle.trail.proofs.Abstract.{level-insert, level-none, holds-yes, holds-no}
 use Rattle.trail.proofs.Laws.{entry-at}
 
 -- no row past a window is in it

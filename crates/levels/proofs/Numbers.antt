@@ -1,6 +1,5 @@
 -- The trail as numbers, one entry more: four stores. Assumes nothing.
-use Prim.Native.Nat.{ℕ, zero, suc, _+_, _-_, _*_, _%_, _≤_, _<_}
-use native.Mathlib.Numerals.{add-one}
+use Prim.Native.Nat.{ℕ, zero, suc, _+_, _*_, _%_, _≤_, _<_}
 use native.Mathlib.Omega.{arith}
 use mathlib.Core.Path.{_≡_, refl, sym, ap, ap₂, _∙_}
 use mathlib.Core.Bool.{Bool, true, false}
@@ -10,7 +9,7 @@ use lib.ListN.{length, getD, set, drop, length-set, length-append}
 use lib.Seq.{drop-cons, set-at, append-snoc}
 use mir.Val.{boolByte}
 use Rattle.calculus.specs.Lists.{num}
-use Rattle.calculus.specs.Trail.{Trail, Entry, on, entry, levelAt, everything, topLevel, entryNumbers, trailNumbersOf}
+use Rattle.calculus.specs.Trail.{Trail, Entry, everything, topLevel, entryNumbers, trailNumbersOf}
 use Rattle.calculus.specs.Run.{written}
 use Rattle.calculus.proofs.Entries.{level-at}
 use Rattle.trail.specs.Words.{values, levels, kinds, order, trailIn, entryFor, Laid}

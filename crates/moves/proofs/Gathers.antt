@@ -1,19 +1,18 @@
 -- A set from a list of rows up to the first blank, one row more. Assumes nothing.
-use Prim.Native.Nat.{ℕ, zero, suc, _+_, _≤_, _<_}
+use Prim.Native.Nat.{ℕ, suc, _+_, _<_}
 use native.Mathlib.Numerals.{add-one}
-use native.Mathlib.Omega.{arith}
-use mathlib.Core.Path.{_≡_, refl, sym, ap, ap₂, _∙_}
-use mathlib.Core.Bool.{Bool, true, false, _||_, cond, or-false, or-true, or-assoc, or-comm}
-use mathlib.Core.List.{List, [], _∷_, _++_, append-assoc}
+use mathlib.Core.Path.{_≡_, refl, sym, ap, _∙_}
+use mathlib.Core.Bool.{Bool, true, _||_, cond, or-false, or-true, or-assoc, or-comm}
+use mathlib.Core.List.{List, [], _∷_, _++_}
 use lib.Dec.{eqb}
-use lib.ListN.{length, getD, take, drop, length-drop}
+use lib.ListN.{length, getD, take, drop}
 use lib.Seq.{take-suc, drop-cons, append-snoc, drop-length}
 use borrow.Author.Tests.{eq-eqb, ne-eqb}
 use Rattle.calculus.specs.Sheets.{blank}
-use Rattle.calculus.specs.Lists.{any, has}
+use Rattle.calculus.specs.Lists.{has}
 use Rattle.calculus.specs.Terms.{filled}
 use Rattle.calculus.specs.Trail.{Set, empty, insert}
-use Rattle.bitset.specs.Windows.{setAt, Only, Holds}
+use Rattle.bitset.specs.Windows.{setAt, Holds}
 use Rattle.bitset.proofs.Windows.{only-twice}
 
 has-append : (xs ys : List ℕ) (u : ℕ) → has (xs ++ ys) u ≡ has xs u || has ys u

@@ -1,7 +1,7 @@
 // What the allowed steps do to the trail and the conflict in the workspace. Whether a step is allowed is tested before.
 ghost use mathlib.Core.Path.{_≡_};
 ghost use mathlib.Core.Bool.{true, false};
-ghost use mathlib.Core.List.{List, _∷_};
+ghost use mathlib.Core.List.{_∷_};
 ghost use Prim.Native.Nat.{ℕ, _+_, _-_, _*_, _/_, _<_, _≤_};
 ghost use lib.ListN.{length};
 ghost use Rattle.calculus.specs.Lists.{has, opposite};

@@ -1,17 +1,17 @@
 -- Laws of trails whose terms are distinct and below a bound, and of the kind of a term. Nothing of words. Assumes nothing.
-use Prim.Native.Nat.{ℕ, zero, suc, _+_, _≤_, _<_, max}
+use Prim.Native.Nat.{ℕ, zero, suc, _≤_, _<_, max}
 use native.Mathlib.Omega.{arith}
 use mathlib.Core.Path.{_≡_, refl, sym, ap, ap₂, _∙_}
-use mathlib.Core.Logic.{_⊎_, inl, inr, ⊎-elim}
-use mathlib.Core.Bool.{Bool, true, false, not, _&&_, _||_, cond, or-false, or-true}
-use mathlib.Core.List.{List, [], _∷_}
+use mathlib.Core.Logic.{⊎-elim}
+use mathlib.Core.Bool.{Bool, true, false, _&&_, _||_, cond, or-false, or-true}
+use mathlib.Core.List.{[], _∷_}
 use lib.Dec.{eqb, leb}
 use lib.ListN.{length}
-use borrow.Author.Tests.{eqb-true, eqb-false, eq-eqb, ne-eqb, le-leb, lt-leb}
+use borrow.Author.Tests.{eqb-true, eqb-false, eq-eqb, le-leb, lt-leb}
 use Rattle.calculus.specs.Trail.{Set, Trail, Entry, empty, insert, on, entry, levelAt, decidedAt, holds, levelOf, topLevel, keptTo}
 use Rattle.calculus.specs.Reached.{Distinct, Below}
 use Rattle.calculus.proofs.Facts.{is-or-not, true-or-false, none-true, cond-case}
-use Rattle.calculus.proofs.Entries.{entry-here, entry-older, entry-off, kept-off}
+use Rattle.calculus.proofs.Entries.{entry-here, entry-older, kept-off}
 use Rattle.trail.specs.Words.{kindAt}
 
 -- ---- on the trail or not

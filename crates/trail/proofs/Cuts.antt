@@ -1,20 +1,20 @@
 -- Keeping to a level: the order closes up, the kinds of what goes become 0. Assumes nothing.
-use Prim.Native.Nat.{ℕ, zero, suc, _+_, _-_, _*_, _≤_, _<_, max}
+use Prim.Native.Nat.{ℕ, _+_, _*_, _≤_, _<_, max}
 use native.Mathlib.Omega.{arith}
 use mathlib.Core.Path.{_≡_, refl, sym, ap, ap₂, _∙_}
 use mathlib.Core.Logic.{_⊎_, inl, inr, ⊎-elim}
-use mathlib.Core.Bool.{Bool, true, false, cond}
-use mathlib.Core.List.{List, [], _∷_}
+use mathlib.Core.Bool.{true, false, cond}
+use mathlib.Core.List.{List, _∷_}
 use lib.Dec.{eqb}
-use lib.ListN.{length, getD, set, length-set}
+use lib.ListN.{getD, set, length-set}
 use lib.Seq.{getD-set-same, getD-set-other}
-use borrow.Author.Tests.{eqb-true, eqb-false, ne-eqb}
-use Rattle.calculus.specs.Trail.{Set, Trail, Entry, on, entry, keptTo, levelOf, topLevel}
-use Rattle.calculus.specs.Reached.{Distinct, Below}
+use borrow.Author.Tests.{eqb-true, eqb-false}
+use Rattle.calculus.specs.Trail.{Trail, Entry, on, keptTo, levelOf, topLevel}
+use Rattle.calculus.specs.Reached.{Below}
 use Rattle.calculus.proofs.Facts.{is-or-not, true-or-false}
 use Rattle.calculus.proofs.Entries.{kept-off}
-use Rattle.bitset.specs.Windows.{setAt, Only}
-use Rattle.trail.specs.Words.{values, levels, kinds, order, conflict, entryOf, entryFor, trailIn, kindAt, Laid, Cut}
+use Rattle.bitset.specs.Windows.{Only}
+use Rattle.trail.specs.Words.{levels, kinds, order, entryFor, trailIn, kindAt, Laid, Cut}
 use Rattle.trail.proofs.Abstract.{off-parts, on-older, kind-here, kind-older, kind-off, kind-on, kept-more, kept-less, kept-distinct, kept-below, top-more}
 use Rattle.trail.proofs.Laws.{why-in, trail-more, below-at, off-at, on-at, distinct-at, below-first, entry-same, trail-set, entry-at}
 

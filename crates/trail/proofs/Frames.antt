@@ -1,22 +1,22 @@
 -- What leaves the trail as it is: a change of the words of a term that is not on it, and of the conflict's. What a term's words tell.
 -- Assumes nothing.
-use Prim.Native.Nat.{ℕ, zero, suc, _+_, _-_, _*_, _%_, _≤_, _<_}
+use Prim.Native.Nat.{ℕ, zero, suc, _+_, _*_, _%_, _≤_, _<_}
 use native.Mathlib.Omega.{arith}
-use mathlib.Core.Path.{_≡_, refl, sym, ap, ap₂, _∙_}
-use mathlib.Core.Logic.{_⊎_, inl, inr, ⊎-elim}
+use mathlib.Core.Path.{_≡_, refl, sym, ap, _∙_}
+use mathlib.Core.Logic.{inl, inr, ⊎-elim}
 use mathlib.Core.Bool.{Bool, true, false, _&&_, cond}
-use mathlib.Core.List.{List, [], _∷_}
+use mathlib.Core.List.{List}
 use lib.Dec.{eqb, ltb}
 use lib.ListN.{length, getD, set, replicate, length-set}
 use lib.Seq.{ext-getD, getD-set-same, getD-set-other}
-use borrow.Author.Tests.{ltb-true, ltb-false, eqb-true, eqb-false, lt-ltb}
-use Rattle.calculus.specs.Trail.{Set, Trail, Entry, empty, on, entry, valueAt, levelAt, decidedAt, whyAt, assigned}
+use borrow.Author.Tests.{ltb-true, ltb-false, eqb-true, eqb-false}
+use Rattle.calculus.specs.Trail.{Trail, Entry, empty, on, decidedAt, whyAt, assigned}
 use Rattle.calculus.specs.Reached.{Distinct, Below}
 use Rattle.calculus.proofs.Facts.{is-or-not, true-or-false}
 use Rattle.calculus.proofs.Entries.{entry-off}
 use Rattle.bitset.specs.Windows.{setAt, Only}
 use Rattle.bitset.proofs.Windows.{Filled}
-use Rattle.trail.specs.Words.{values, levels, kinds, order, conflict, entryOf, entryFor, trailIn, kindAt, Laid, Still}
+use Rattle.trail.specs.Words.{values, kinds, order, conflict, trailIn, kindAt, Laid, Still}
 use Rattle.trail.proofs.Abstract.{kind-off, kind-on}
 use Rattle.trail.proofs.Laws.{why-in, below-at, on-at, entry-same, trail-same, room-all, entry-at}
 

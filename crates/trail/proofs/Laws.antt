@@ -1,22 +1,21 @@
 -- The trail by term: which words decide it, and what the words of a term say. Assumes nothing.
-use Prim.Native.Nat.{ℕ, zero, suc, _+_, _-_, _*_, _/_, _%_, _≤_, _<_}
+use Prim.Native.Nat.{ℕ, zero, suc, _+_, _*_, _/_, _%_, _≤_, _<_}
 use native.Mathlib.Nat.{suc-mul, mul-le-mul-right}
 use native.Mathlib.Numerals.{add-one}
 use native.Mathlib.Omega.{arith}
 use mathlib.Core.Path.{_≡_, refl, sym, ap, ap₂, _∙_}
 use mathlib.Core.Logic.{_⊎_, inl, inr, ⊎-elim}
-use mathlib.Core.Bool.{Bool, true, false, cond}
-use mathlib.Core.List.{List, [], _∷_}
+use mathlib.Core.Bool.{true, false, cond}
+use mathlib.Core.List.{List, _∷_}
 use lib.Dec.{eqb, ltb}
-use lib.ListN.{length, getD, set, length-set}
+use lib.ListN.{length, getD, set}
 use lib.Seq.{getD-set-other}
 use borrow.Author.Tests.{ltb-true, ltb-false, eqb-true, eqb-false}
-use Rattle.calculus.specs.Trail.{Set, Trail, Entry, empty, on, entry}
+use Rattle.calculus.specs.Trail.{Trail, Entry, empty, on, entry}
 use Rattle.calculus.specs.Reached.{Distinct, Below}
 use Rattle.calculus.proofs.Facts.{is-or-not, true-or-false}
-use Rattle.bitset.specs.Windows.{setAt}
 use Rattle.bitset.proofs.Windows.{same-set}
-use Rattle.trail.specs.Words.{values, levels, kinds, order, conflict, entryOf, entryFor, trailIn, Laid}
+use Rattle.trail.specs.Words.{values, levels, kinds, order, entryFor, trailIn, Laid}
 use Rattle.trail.proofs.Abstract.{off-parts, room, room-more}
 
 -- ---- the one product: a justification ends where the next begins or before

@@ -1,22 +1,22 @@
 -- One entry more: four words are written. Assumes nothing.
-use Prim.Native.Nat.{ℕ, zero, suc, _+_, _-_, _*_, _%_, _≤_, _<_}
+use Prim.Native.Nat.{ℕ, _+_, _*_, _%_, _≤_, _<_}
 use native.Mathlib.Nat.{mod-eq-of-lt}
 use native.Mathlib.Omega.{arith}
 use mathlib.Core.Path.{_≡_, refl, sym, ap, ap₂, _∙_}
-use mathlib.Core.Logic.{_⊎_, inl, inr, ⊎-elim}
+use mathlib.Core.Logic.{⊎-elim}
 use mathlib.Core.Bool.{Bool, true, false, cond}
-use mathlib.Core.List.{List, [], _∷_}
+use mathlib.Core.List.{List, _∷_}
 use lib.Dec.{eqb}
 use lib.ListN.{length, getD, set, length-set}
 use lib.Seq.{getD-set-same, getD-set-other}
 use mir.Val.{boolByte}
 use borrow.Author.Tests.{eqb-true, eqb-false, ne-eqb}
-use Rattle.calculus.specs.Trail.{Set, Trail, Entry, empty, on}
+use Rattle.calculus.specs.Trail.{Trail, Entry, empty, on}
 use Rattle.calculus.specs.Reached.{Distinct, Below}
 use Rattle.calculus.proofs.Facts.{is-or-not}
-use Rattle.bitset.specs.Windows.{setAt, Only}
+use Rattle.bitset.specs.Windows.{setAt}
 use Rattle.bitset.proofs.Windows.{same-set}
-use Rattle.trail.specs.Words.{values, levels, kinds, order, conflict, entryOf, entryFor, trailIn, kindAt, Laid, Pushed}
+use Rattle.trail.specs.Words.{values, levels, kinds, order, entryOf, entryFor, trailIn, kindAt, Laid, Pushed}
 use Rattle.trail.proofs.Abstract.{kind-here, kind-older}
 use Rattle.trail.proofs.Laws.{why-in, trail-more, below-at, off-at, entry-same, trail-same, room-one}
 

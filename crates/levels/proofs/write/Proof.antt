@@ -37,7 +37,7 @@ shared-slice-read-t : tie.Need-shared-slice-read-t Inv-loop μ-loop
 shared-slice-read-t c = search needs
 
 mul-k : tie.Need-mul-k Inv-loop μ-loop
-mul-k c = search needs
+mul-k c = omega (arith, row-fits _ _ _ _ _ (c .before .before .before .pre .0) (c .before .loop-test .taken), c .before .before .before .pre .0 .wide, c .before .before .before .pre .0 .narrow)
 
 cast-out : tie.Need-cast-out Inv-loop μ-loop
 cast-out c = omega (arith, row-fits _ _ _ _ _ (c .before .before .before .pre .0) (c .before .loop-test .taken), c .before .before .before .pre .0 .wide, c .before .before .before .pre .0 .narrow)

@@ -1,0 +1,153 @@
+// What is asked of the sheets before a step is run: the lengths (31, 30, 32), the sort rows (1) and the input rows (6, 7, 8).
+ghost use mathlib.Core.Path.{_≡_};
+ghost use Prim.Native.Nat.{ℕ, suc, _+_, _*_, _-_, _≤_};
+ghost use lib.ListN.{length, getD};
+ghost use lib.Dec.{eqb, ltb};
+ghost use Rattle.calculus.specs.Numbers.{checkOf};
+ghost use Rattle.calculus.specs.Sheets.{Call, lengthNumber};
+ghost use Rattle.calculus.specs.Sorts.{indexSort, valueSort, isArray, isPlain, sortNumber, sortsNumber};
+ghost use Rattle.calculus.specs.Terms.{sort};
+ghost use Rattle.sheets.specs.Rows.{fitNumber, givenNumber};
+use calculus::Check;
+use calculus::Row;
+use calculus::Sort;
+use rows::BLANK;
+
+// ---- lengths
+
+// Numbers 31, 30, 32: whole rows, ceilings, lent buffers.
+pub fn check_lengths(
+    sorts: &[u16],
+    terms: &[u16],
+    inputs: &[u16],
+    steps: &[u16],
+    work: &[u64],
+    trail: &[u16],
+) -> Check
+    ensures { λ r. ⌜ r ≡ checkOf (lengthNumber (record { sorts = now (sorts .entry); terms = now (terms .entry); inputs = now (inputs .entry); steps = now (steps .entry); work = now (work .entry); trail = now (trail .entry) })) ⌝ }
+{
+    if !((sorts.len() % 2 == 0)
+        & ((terms.len() % 6 == 0) & ((inputs.len() % 2 == 0) & (steps.len() % 9 == 0)))) {
+        return Check::Refused(31);
+    }
+    let n = terms.len() / 6;
+    if !((sorts.len() / 2 <= 32)
+        & ((n <= 256) & ((inputs.len() / 2 <= 256) & (steps.len() / 9 <= 65535)))) {
+        return Check::Refused(30);
+    }
+    if !((n * 8 + 12 <= work.len()) & (4 * n <= trail.len())) {
+        return Check::Refused(32);
+    }
+    Check::Passed
+}
+
+// ---- sorts
+
+// a less b, 0 where b is greater.
+fn less(a: usize, b: usize) -> usize
+    ensures { λ r. ⌜ r ≡ a - b ⌝ }
+{
+    if a < b { 0 } else { a - b }
+}
+
+// The index sort of sort s.
+pub fn index_sort(sorts: &[u16], s: Sort) -> u16
+    ensures { λ r. ⌜ r ≡ indexSort (now (sorts .entry)) (s .0) ⌝ }
+{
+    rows::cell(sorts, less(s.0 as usize * 2, 2))
+}
+
+// The value sort of sort s.
+pub fn value_sort(sorts: &[u16], s: Sort) -> u16
+    ensures { λ r. ⌜ r ≡ valueSort (now (sorts .entry)) (s .0) ⌝ }
+{
+    rows::cell(sorts, less(s.0 as usize * 2, 1))
+}
+
+// Whether sort s names two earlier sorts.
+pub fn is_array(sorts: &[u16], s: Sort) -> bool
+    ensures { λ r. ⌜ r ≡ isArray (now (sorts .entry)) (s .0) ⌝ }
+{
+    let i = index_sort(sorts, s);
+    let v = value_sort(sorts, s);
+    ((0 < i) & (i < s.0)) & ((0 < v) & (v < s.0))
+}
+
+// Whether both columns of sort s are blank.
+fn is_plain(sorts: &[u16], s: Sort) -> bool
+    ensures { λ r. ⌜ r ≡ isPlain (now (sorts .entry)) (s .0) ⌝ }
+{
+    let i = index_sort(sorts, s);
+    let v = value_sort(sorts, s);
+    (i == BLANK) & (v == BLANK)
+}
+
+// Number 1, of the row of sort k + 1.
+fn check_sort(sorts: &[u16], k: u16) -> Check
+    requires { ⌜ k + 1 ≤ 65535 ⌝ }
+    ensures { λ r. ⌜ r ≡ checkOf (sortNumber (now (sorts .entry)) k) ⌝ }
+{
+    let s = Sort(k + 1);
+    let a = is_array(sorts, s);
+    let p = is_plain(sorts, s);
+    if !(a | p) {
+        return Check::Refused(1);
+    }
+    Check::Passed
+}
+
+// Number 1: the first sort row in trouble decides.
+pub fn check_sorts(sorts: &[u16]) -> Check
+    requires { ⌜ length (now sorts) ≤ 64 ⌝ }
+    ensures { λ r. ⌜ r ≡ checkOf (sortsNumber (now (sorts .entry))) ⌝ }
+{
+    let n = sorts.len() / 2;
+    let mut k: u16 = 0;
+    while (k as usize) < n {
+        let c = check_sort(sorts, k);
+        match c {
+            Check::Refused(number) => {
+                return Check::Refused(number);
+            }
+            Check::Passed => {
+                k += 1;
+            }
+        }
+    }
+    Check::Passed
+}
+
+// ---- inputs
+
+// The sort of term row t.
+pub fn sort_of(terms: &[u16], t: Row) -> Sort
+    ensures { λ r. ⌜ r .0 ≡ sort (now (terms .entry)) (t .0) ⌝ }
+{
+    Sort(rows::cell(terms, t.0 as usize * 6 + 1))
+}
+
+// Numbers 6 and 7, of an input row with term t and value v.
+pub fn check_input(terms: &[u16], t: Row, v: u16) -> Check
+    ensures { λ r. ⌜ r ≡ checkOf (fitNumber (now (terms .entry)) (t .0) v) ⌝ }
+{
+    let i = t.0 as usize;
+    let n = terms.len() / 6;
+    if !(i < n) {
+        return Check::Refused(6);
+    }
+    let s = sort_of(terms, t);
+    if !(!(v == BLANK) & (!(s.0 == 0) | (v <= 1))) {
+        return Check::Refused(7);
+    }
+    Check::Passed
+}
+
+// Number 8, where `given` says whether the row's term stands on the trail already.
+pub fn check_given(given: bool) -> Check
+    ensures { λ r. ⌜ r ≡ checkOf (givenNumber given) ⌝ }
+{
+    if given {
+        return Check::Refused(8);
+    }
+    Check::Passed
+}

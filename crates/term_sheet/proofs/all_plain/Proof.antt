@@ -1,0 +1,31 @@
+-- `term_sheet::all_plain` meets its contract.
+use mathlib.Core.List.{[], _∷_}
+use mathlib.Core.Path.{refl}
+use borrow.Author.Needs.{needs}
+use Rattle.term_sheet.proofs.all_plain.Statement.{statement}
+use Rattle.term_sheet.proofs.all_plain.Tie as tie
+
+more-plain-requires : tie.Need-more-plain-requires
+more-plain-requires c κs = search needs
+
+more-plain-requires-2 : tie.Need-more-plain-requires-2
+more-plain-requires-2 c κs = search needs
+
+more-plain-requires-3 : tie.Need-more-plain-requires-3
+more-plain-requires-3 c κs = search needs
+
+more-plain-requires-4 : tie.Need-more-plain-requires-4
+more-plain-requires-4 c κs = search needs
+
+returns : tie.Need-returns
+returns c = let e = c .before .before .before .before .before .args .e in c .more-plain4 .ensures (e .b ∷ e .c ∷ e .d ∷ []) (c .before .more-plain3 .ensures (e .c ∷ e .d ∷ []) (c .before .before .more-plain2 .ensures (e .d ∷ []) (c .before .before .before .more-plain .ensures [] refl)))
+
+pub all-plain-spec : {M : Type 1} → statement M
+all-plain-spec =
+    tie.close
+    (tie.spec
+    more-plain-requires
+    more-plain-requires-2
+    more-plain-requires-3
+    more-plain-requires-4
+    returns)

@@ -1,0 +1,17 @@
+-- `term_sheet::column_of` meets its contract.
+use borrow.Author.Tests.{eq-eqb, ne-eqb}
+use borrow.Author.Needs.{needs}
+use Rattle.term_sheet.proofs.column_of.Statement.{statement}
+use Rattle.term_sheet.proofs.column_of.Tie as tie
+
+sub-result : tie.Need-sub-result
+sub-result c = search needs
+
+returns : tie.Need-returns
+returns c = rw (eq-eqb _ _ (c .if1 .taken))
+
+returns-2 : tie.Need-returns-2
+returns-2 c = rw (ne-eqb _ _ (c .if1 .left))
+
+pub column-of-spec : {M : Type 1} → statement M
+column-of-spec = tie.close (tie.spec sub-result returns returns-2)

@@ -1,0 +1,20 @@
+-- `term_sheet::suits_equality` meets its contract.
+use borrow.Author.Needs.{needs}
+use Rattle.term_sheet.proofs.suits_equality.Statement.{statement}
+use Rattle.term_sheet.proofs.suits_equality.Tie as tie
+
+count-requires : tie.Need-count-requires
+count-requires c κs = search needs
+
+sort-of-requires : tie.Need-sort-of-requires
+sort-of-requires c κs = search needs
+
+sort-of-requires-2 : tie.Need-sort-of-requires-2
+sort-of-requires-2 c κs = search needs
+
+returns : tie.Need-returns
+returns c = rw (c .before .before .before .before .sort-of2 .ensures, c .before .before .before .before .before .sort-of .ensures, c .before .before .before .before .before .before .count .ensures)
+
+pub suits-equality-spec : {M : Type 1} → statement M
+suits-equality-spec =
+    tie.close (tie.spec count-requires sort-of-requires sort-of-requires-2 returns)

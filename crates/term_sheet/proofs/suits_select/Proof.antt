@@ -1,0 +1,43 @@
+-- `term_sheet::suits_select` meets its contract.
+use Rattle.calculus.specs.Terms.{suits, args, arg, cells}
+use borrow.Author.Needs.{needs}
+use Rattle.term_sheet.proofs.suits_select.Statement.{statement}
+use Rattle.term_sheet.proofs.suits_select.Tie as tie
+
+term-at-requires : tie.Need-term-at-requires
+term-at-requires c κs = search needs
+
+count-requires : tie.Need-count-requires
+count-requires c κs = search needs
+
+sort-of-requires : tie.Need-sort-of-requires
+sort-of-requires c κs = search needs
+
+sort-of-requires-2 : tie.Need-sort-of-requires-2
+sort-of-requires-2 c κs = search needs
+
+is-array-requires : tie.Need-is-array-requires
+is-array-requires c κs = search needs
+
+index-sort-requires : tie.Need-index-sort-requires
+index-sort-requires c κs = search needs
+
+value-sort-requires : tie.Need-value-sort-requires
+value-sort-requires c κs = search needs
+
+returns : tie.Need-returns
+unfolding suits args arg cells
+returns c = rw (c .before .before .value-sort .ensures, c .before .before .before .index-sort .ensures, c .before .before .before .before .is-array .ensures, c .before .before .before .before .before .sort-of2 .ensures, c .before .before .before .before .before .before .sort-of .ensures, c .before .before .before .before .before .before .before .count .ensures, c .before .before .before .before .before .before .before .before .term-at .ensures)
+
+pub suits-select-spec : {M : Type 1} → statement M
+suits-select-spec =
+    tie.close
+    (tie.spec
+    term-at-requires
+    count-requires
+    sort-of-requires
+    sort-of-requires-2
+    is-array-requires
+    index-sort-requires
+    value-sort-requires
+    returns)
