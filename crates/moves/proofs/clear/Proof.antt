@@ -1,0 +1,25 @@
+-- `moves::clear` meets its contract. Assumes nothing.
+use Prim.Native.Nat.{ℕ, _-_}
+use mathlib.Core.Path.{ap, _∙_}
+use Rattle.moves.proofs.Laws.{cut-stands}
+use borrow.Author.Needs.{needs}
+use Rattle.moves.proofs.clear.Statement.{statement}
+use Rattle.moves.proofs.clear.Tie as tie
+
+level-requires : tie.Need-level-requires
+level-requires c κs = search needs
+
+lower-requires : tie.Need-lower-requires
+lower-requires c κs = search needs
+
+cut-requires : tie.Need-cut-requires
+cut-requires c κs = search needs
+
+same-length : tie.Need-same-length
+same-length c = search needs
+
+returns : tie.Need-returns
+returns c = cut-stands _ _ _ _ _ _ _ _ _ (c .before .before .before .before .lower .ensures ∙ ap (λ (x : ℕ). x - 1) (c .before .before .before .before .before .level .ensures)) (c .before .before .cut .ensures)
+
+pub clear-spec : {M : Type 1} → statement M
+clear-spec = tie.close (tie.spec level-requires lower-requires cut-requires same-length returns)

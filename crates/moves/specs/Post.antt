@@ -1,0 +1,49 @@
+-- What a step finds in the workspace, and what it leaves there.
+use Prim.Native.Nat.{ℕ, _-_, _<_}
+use mathlib.Core.Path.{_≡_}
+use mathlib.Core.Bool.{true}
+use mathlib.Core.List.{List}
+use Rattle.calculus.specs.Trail.{Set, Trail, remove, levelAt, levelOf, topLevel}
+use Rattle.calculus.specs.Steps.{jumped, flipped}
+use Rattle.calculus.specs.Reached.{Within}
+use Rattle.bitset.specs.Windows.{setAt}
+use Rattle.trail.specs.Words.{conflict, trailIn, Laid}
+
+-- the set in the conflict's window
+abbrev pub conflictIn : ℕ → ℕ → List ℕ → Set
+conflictIn w N ws = setAt ws (conflict w N) w
+
+-- the trail tr of r entries, whose greatest level is top; the conflict is left open
+pub record Stands (w N : ℕ) (ws : List ℕ) (r top : ℕ) (tr : Trail) : Type 0 where
+  pub laid : Laid w N ws r
+  pub trail : trailIn w N ws r ≡ tr
+  pub greatest : top ≡ topLevel tr
+
+-- the trail tr of n entries, and the conflict E
+pub record Conflicts (w N : ℕ) (ws : List ℕ) (n : ℕ) (tr : Trail) (E : Set) : Type 0 where
+  pub laid : Laid w N ws n
+  pub trail : trailIn w N ws n ≡ tr
+  pub conflict : conflictIn w N ws ≡ E
+
+-- l is in the conflict, whose members are on the trail, and stands above the level m
+pub record Above (w N : ℕ) (ws : List ℕ) (n l m : ℕ) : Type 0 where
+  pub laid : Laid w N ws n
+  pub row : l < N
+  pub within : Within (conflictIn w N ws) (trailIn w N ws n)
+  pub member : conflictIn w N ws l ≡ true
+  pub above : m < levelAt (trailIn w N ws n) l
+
+-- the level of the conflict without l
+abbrev pub restLevel : ℕ → ℕ → List ℕ → ℕ → ℕ → ℕ
+restLevel w N ws n l = levelOf (trailIn w N ws n) (remove (conflictIn w N ws) l)
+
+-- one level below the conflict's
+abbrev pub lowerLevel : ℕ → ℕ → List ℕ → ℕ → ℕ
+lowerLevel w N ws n = levelOf (trailIn w N ws n) (conflictIn w N ws) - 1
+
+-- the trails that jump and flip make
+abbrev pub jumpedIn : ℕ → ℕ → List ℕ → ℕ → ℕ → Trail
+jumpedIn w N ws n l = jumped (trailIn w N ws n) (remove (conflictIn w N ws) l) l (restLevel w N ws n l)
+
+abbrev pub flippedIn : ℕ → ℕ → List ℕ → ℕ → ℕ → Trail
+flippedIn w N ws n l = flipped (trailIn w N ws n) l (lowerLevel w N ws n)
