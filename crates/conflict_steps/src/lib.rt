@@ -1,22 +1,28 @@
 // The steps of a conflict: resolve, clear, jump, flip. Each has its number, found by reading alone, and then what it does.
 ghost use mathlib.Core.Path.{_≡_};
-ghost use mathlib.Core.Bool.{true, false, not, _&&_};
-ghost use Prim.Native.Nat.{ℕ, _+_, _*_, _<_};
-ghost use lib.Dec.{eqb, ltb};
-ghost use Rattle.calculus.specs.Terms.{prop};
+ghost use mathlib.Core.Bool.{true, false};
+ghost use Prim.Native.Nat.{_+_, _<_, _≤_};
+ghost use lib.Dec.{ltb};
+ghost use lib.ListN.{length};
 ghost use Rattle.calculus.specs.Trail.{remove, intersection, on, decidedAt, levelAt, whyAt, levelOf, holds, firstOrder};
+ghost use Rattle.calculus.specs.Steps as calculus;
 ghost use Rattle.calculus.specs.Steps.{resolveNumber, clearNumber, jumpNumber, flipNumber};
 ghost use Rattle.trail.specs.Words as words;
-ghost use Rattle.trail.specs.Words.{trailIn, Laid};
-ghost use Rattle.conflict_steps.specs.Conflicts.{conflictIn, Found};
+ghost use Rattle.trail.specs.Words.{trailIn};
+ghost use Rattle.moves.specs.Post.{conflictIn};
+ghost use Rattle.state.specs.States.{Standing, Answers};
+ghost use Rattle.conflict_steps.specs.Conflicts.{Found, inSearch};
 use calculus::Level;
 use calculus::Row;
+use state::Answer;
+use state::Status;
+use trail::Kept;
 
 // ---- what the tests share
 
-// Where the conflict's words begin.
+// Where the conflict's words begin; the workspace holds them.
 fn place(work: &[u64], w: usize, n: usize) -> usize
-    requires { ⌜ ((count : ℕ) × Laid w n (now work) count) ⌝ }
+    requires { ⌜ words.conflict w n + w ≤ length (now work) ⌝ }
     ensures { λ r. ⌜ r ≡ words.conflict w n ⌝ }
 {
     n * w + 4 * n
@@ -160,4 +166,84 @@ fn flip_number(terms: &[u16], work: &[u64], w: usize, n: usize, count: usize, l:
         return 23;
     }
     0
+}
+
+// ---- the steps
+
+// The search goes on from the trail that is left.
+fn searching(kept: Kept) -> Answer
+    ensures { λ r. ⌜ r ≡ Answer.Allowed (inSearch (kept .count) (kept .top)) ⌝ }
+{
+    let top = kept.top;
+    Answer::Allowed(Status {
+        count: kept.count,
+        top,
+        conflict: false,
+    })
+}
+
+// In the conflict, a's justification takes the place of a.
+pub fn resolve(terms: &[u16], work: &mut [u64], w: usize, n: usize, st: Status, a: Row) -> Answer
+    requires { ⌜ Standing w n (now terms) (now work) st × (st .conflict ≡ true) × (a .0 < n) ⌝ }
+    ensures { λ r. ⌜ Answers w n (now (terms .entry)) (now (work .entry)) (now (work .exit)) (calculus.resolve (now (terms .entry)) (trailIn w n (now (work .entry)) (st .count)) (conflictIn w n (now (work .entry))) (a .0)) r ⌝ }
+{
+    let count = st.count;
+    let c = resolve_number(terms, work, w, n, count, a);
+    if c != 0 {
+        return Answer::Refused(c);
+    }
+    moves::resolve(work, w, n, count, a);
+    let top = st.top;
+    Answer::Allowed(Status {
+        count,
+        top,
+        conflict: true,
+    })
+}
+
+// The decision a is undone, with all of its level and above.
+pub fn clear(terms: &[u16], work: &mut [u64], w: usize, n: usize, st: Status, a: Row) -> Answer
+    requires { ⌜ Standing w n (now terms) (now work) st × (st .conflict ≡ true) × (a .0 < n) ⌝ }
+    ensures { λ r. ⌜ Answers w n (now (terms .entry)) (now (work .entry)) (now (work .exit)) (calculus.clear (now (terms .entry)) (trailIn w n (now (work .entry)) (st .count)) (conflictIn w n (now (work .entry))) (a .0)) r ⌝ }
+{
+    let count = st.count;
+    let c = clear_number(terms, work, w, n, count, a);
+    if c != 0 {
+        return Answer::Refused(c);
+    }
+    searching(moves::clear(work, w, n, count, a))
+}
+
+// Back to the level of the rest of the conflict, which justifies the opposite of l.
+pub fn jump(terms: &[u16], work: &mut [u64], w: usize, n: usize, st: Status, l: Row) -> Answer
+    requires { ⌜ Standing w n (now terms) (now work) st × (st .conflict ≡ true) × (l .0 < n) ⌝ }
+    ensures { λ r. ⌜ Answers w n (now (terms .entry)) (now (work .entry)) (now (work .exit)) (calculus.jump (now (terms .entry)) (trailIn w n (now (work .entry)) (st .count)) (conflictIn w n (now (work .entry))) (l .0)) r ⌝ }
+{
+    let count = st.count;
+    let c = jump_number(terms, work, w, n, count, l);
+    if c != 0 {
+        return Answer::Refused(c);
+    }
+    searching(moves::jump(work, w, n, count, l))
+}
+
+// Below the level of the conflict, the opposite of l is decided.
+pub fn flip(
+    terms: &[u16],
+    work: &mut [u64],
+    w: usize,
+    n: usize,
+    st: Status,
+    l: Row,
+    k: Row,
+) -> Answer
+    requires { ⌜ Standing w n (now terms) (now work) st × (st .conflict ≡ true) × (l .0 < n) × (k .0 < n) ⌝ }
+    ensures { λ r. ⌜ Answers w n (now (terms .entry)) (now (work .entry)) (now (work .exit)) (calculus.flip (now (terms .entry)) (trailIn w n (now (work .entry)) (st .count)) (conflictIn w n (now (work .entry))) (l .0) (k .0)) r ⌝ }
+{
+    let count = st.count;
+    let c = flip_number(terms, work, w, n, count, l, k);
+    if c != 0 {
+        return Answer::Refused(c);
+    }
+    searching(moves::flip(work, w, n, count, l))
 }
