@@ -257,7 +257,7 @@ module _ (ts : List ℕ) where
         (within-kept m tr (remove E l) (λ t h. inside t (both-true (E t) _ h .0)) (omega arith)))
 
     -- what shares a first-order decision at level m is not below m, and m is above 0
-    shared-high : (l k m : ℕ) → T (holds tr (intersection (whyAt tr l) (whyAt tr k)) (firstOrder ts m)) → (m ≤ levelAt tr l) × (0 < m)
+    pub shared-high : (l k m : ℕ) → T (holds tr (intersection (whyAt tr l) (whyAt tr k)) (firstOrder ts m)) → (m ≤ levelAt tr l) × (0 < m)
     shared-high l k m h =
         let d = holds-at tr (intersection (whyAt tr l) (whyAt tr k)) (firstOrder ts m) h in
         let x = d .0 in

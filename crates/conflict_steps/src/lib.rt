@@ -1,0 +1,249 @@
+// The steps of a conflict: resolve, clear, jump, flip. Each has its number, found by reading alone, and then what it does.
+ghost use mathlib.Core.Path.{_≡_};
+ghost use mathlib.Core.Bool.{true, false};
+ghost use Prim.Native.Nat.{_+_, _<_, _≤_};
+ghost use lib.Dec.{ltb};
+ghost use lib.ListN.{length};
+ghost use Rattle.calculus.specs.Trail.{remove, intersection, on, decidedAt, levelAt, whyAt, levelOf, holds, firstOrder};
+ghost use Rattle.calculus.specs.Steps as calculus;
+ghost use Rattle.calculus.specs.Steps.{resolveNumber, clearNumber, jumpNumber, flipNumber};
+ghost use Rattle.trail.specs.Words as words;
+ghost use Rattle.trail.specs.Words.{trailIn};
+ghost use Rattle.moves.specs.Post.{conflictIn};
+ghost use Rattle.state.specs.States.{Standing, Answers};
+ghost use Rattle.conflict_steps.specs.Conflicts.{Found, inSearch};
+use calculus::Level;
+use calculus::Row;
+use state::Answer;
+use state::Status;
+use trail::Kept;
+
+// ---- what the tests share
+
+// Where the conflict's words begin; the workspace holds them.
+fn place(work: &[u64], w: usize, n: usize) -> usize
+    requires { ⌜ words.conflict w n + w ≤ length (now work) ⌝ }
+    ensures { λ r. ⌜ r ≡ words.conflict w n ⌝ }
+{
+    n * w + 4 * n
+}
+
+// Whether row t is in the conflict.
+fn in_conflict(terms: &[u16], work: &[u64], w: usize, n: usize, count: usize, t: Row) -> bool
+    requires { ⌜ Found w n (now terms) (now work) count × (t .0 < n) ⌝ }
+    ensures { λ r. ⌜ r ≡ conflictIn w n (now (work .entry)) (t .0) ⌝ }
+{
+    let e = place(work, w, n);
+    bitset::member(work, e, w, t)
+}
+
+// The conflict's level.
+fn conflict_level(terms: &[u16], work: &[u64], w: usize, n: usize, count: usize) -> Level
+    requires { ⌜ Found w n (now terms) (now work) count ⌝ }
+    ensures { λ r. ⌜ r .0 ≡ levelOf (trailIn w n (now (work .entry)) count) (conflictIn w n (now (work .entry))) ⌝ }
+{
+    let e = place(work, w, n);
+    levels::level_of(work, w, n, count, e)
+}
+
+// Whether row t's level is above that of the rest of the conflict.
+fn above_rest(terms: &[u16], work: &[u64], w: usize, n: usize, count: usize, t: Row) -> bool
+    requires { ⌜ Found w n (now terms) (now work) count × (t .0 < n) × (on (trailIn w n (now work) count) (t .0) ≡ true) ⌝ }
+    ensures { λ r. ⌜ r ≡ ltb (levelOf (trailIn w n (now (work .entry)) count) (remove (conflictIn w n (now (work .entry))) (t .0))) (levelAt (trailIn w n (now (work .entry)) count) (t .0)) ⌝ }
+{
+    let e = place(work, w, n);
+    let rest = levels::level_without(work, w, n, count, e, t);
+    let own = trail::level(work, w, n, count, t);
+    rest.0 < own.0
+}
+
+// Whether the justification of row a holds a first-order decision of the conflict's level.
+fn barred(terms: &[u16], work: &[u64], w: usize, n: usize, count: usize, a: Row) -> bool
+    requires { ⌜ Found w n (now terms) (now work) count × (a .0 < n) × (on (trailIn w n (now work) count) (a .0) ≡ true) × (decidedAt (trailIn w n (now work) count) (a .0) ≡ false) ⌝ }
+    ensures { λ r. ⌜ r ≡ holds (trailIn w n (now (work .entry)) count) (whyAt (trailIn w n (now (work .entry)) count) (a .0)) (firstOrder (now (terms .entry)) (levelOf (trailIn w n (now (work .entry)) count) (conflictIn w n (now (work .entry))))) ⌝ }
+{
+    let m = conflict_level(terms, work, w, n, count);
+    levels::holds_first_order(work, w, n, count, terms, a.0 as usize * w, m)
+}
+
+// Whether the justifications of rows l and k share a first-order decision of the conflict's level.
+fn share(terms: &[u16], work: &[u64], w: usize, n: usize, count: usize, l: Row, k: Row) -> bool
+    requires { ⌜ Found w n (now terms) (now work) count × (l .0 < n) × (k .0 < n) × (on (trailIn w n (now work) count) (l .0) ≡ true) × (on (trailIn w n (now work) count) (k .0) ≡ true) × (decidedAt (trailIn w n (now work) count) (l .0) ≡ false) × (decidedAt (trailIn w n (now work) count) (k .0) ≡ false) ⌝ }
+    ensures { λ r. ⌜ r ≡ holds (trailIn w n (now (work .entry)) count) (intersection (whyAt (trailIn w n (now (work .entry)) count) (l .0)) (whyAt (trailIn w n (now (work .entry)) count) (k .0))) (firstOrder (now (terms .entry)) (levelOf (trailIn w n (now (work .entry)) count) (conflictIn w n (now (work .entry))))) ⌝ }
+{
+    let m = conflict_level(terms, work, w, n, count);
+    levels::share_first_order(
+        work,
+        w,
+        n,
+        count,
+        terms,
+        l.0 as usize * w,
+        k.0 as usize * w,
+        m,
+    )
+}
+
+// ---- the numbers
+
+// Numbers 17, 18, 19.
+fn resolve_number(terms: &[u16], work: &[u64], w: usize, n: usize, count: usize, a: Row) -> u16
+    requires { ⌜ Found w n (now terms) (now work) count × (a .0 < n) ⌝ }
+    ensures { λ r. ⌜ r ≡ resolveNumber (now (terms .entry)) (trailIn w n (now (work .entry)) count) (conflictIn w n (now (work .entry))) (a .0) ⌝ }
+{
+    if !in_conflict(terms, work, w, n, count, a) {
+        return 17;
+    }
+    if trail::decided(work, w, n, count, a) {
+        return 18;
+    }
+    if barred(terms, work, w, n, count, a) {
+        return 19;
+    }
+    0
+}
+
+// Numbers 17, 20, 21.
+fn clear_number(terms: &[u16], work: &[u64], w: usize, n: usize, count: usize, a: Row) -> u16
+    requires { ⌜ Found w n (now terms) (now work) count × (a .0 < n) ⌝ }
+    ensures { λ r. ⌜ r ≡ clearNumber (now (terms .entry)) (trailIn w n (now (work .entry)) count) (conflictIn w n (now (work .entry))) (a .0) ⌝ }
+{
+    if !in_conflict(terms, work, w, n, count, a) {
+        return 17;
+    }
+    let decided = trail::decided(work, w, n, count, a);
+    let p = state::is_prop(terms, a);
+    if !(decided & !p) {
+        return 20;
+    }
+    if !above_rest(terms, work, w, n, count, a) {
+        return 21;
+    }
+    0
+}
+
+// Numbers 17, 22, 21.
+fn jump_number(terms: &[u16], work: &[u64], w: usize, n: usize, count: usize, l: Row) -> u16
+    requires { ⌜ Found w n (now terms) (now work) count × (l .0 < n) ⌝ }
+    ensures { λ r. ⌜ r ≡ jumpNumber (now (terms .entry)) (trailIn w n (now (work .entry)) count) (conflictIn w n (now (work .entry))) (l .0) ⌝ }
+{
+    if !in_conflict(terms, work, w, n, count, l) {
+        return 17;
+    }
+    if !state::is_prop(terms, l) {
+        return 22;
+    }
+    if !above_rest(terms, work, w, n, count, l) {
+        return 21;
+    }
+    0
+}
+
+// Numbers 17, 22, 18, 23.
+fn flip_number(terms: &[u16], work: &[u64], w: usize, n: usize, count: usize, l: Row, k: Row) -> u16
+    requires { ⌜ Found w n (now terms) (now work) count × (l .0 < n) × (k .0 < n) ⌝ }
+    ensures { λ r. ⌜ r ≡ flipNumber (now (terms .entry)) (trailIn w n (now (work .entry)) count) (conflictIn w n (now (work .entry))) (l .0) (k .0) ⌝ }
+{
+    if !in_conflict(terms, work, w, n, count, l) {
+        return 17;
+    }
+    if !in_conflict(terms, work, w, n, count, k) {
+        return 17;
+    }
+    if !state::is_prop(terms, l) {
+        return 22;
+    }
+    if trail::decided(work, w, n, count, l) {
+        return 18;
+    }
+    if trail::decided(work, w, n, count, k) {
+        return 18;
+    }
+    if l.0 == k.0 {
+        return 23;
+    }
+    if !share(terms, work, w, n, count, l, k) {
+        return 23;
+    }
+    0
+}
+
+// ---- the steps
+
+// The search goes on from the trail that is left.
+fn searching(kept: Kept) -> Answer
+    ensures { λ r. ⌜ r ≡ Answer.Allowed (inSearch (kept .count) (kept .top)) ⌝ }
+{
+    let top = kept.top;
+    Answer::Allowed(Status {
+        count: kept.count,
+        top,
+        conflict: false,
+    })
+}
+
+// In the conflict, a's justification takes the place of a.
+pub fn resolve(terms: &[u16], work: &mut [u64], w: usize, n: usize, st: Status, a: Row) -> Answer
+    requires { ⌜ Standing w n (now terms) (now work) st × (st .conflict ≡ true) × (a .0 < n) ⌝ }
+    ensures { λ r. ⌜ Answers w n (now (terms .entry)) (now (work .entry)) (now (work .exit)) (calculus.resolve (now (terms .entry)) (trailIn w n (now (work .entry)) (st .count)) (conflictIn w n (now (work .entry))) (a .0)) r ⌝ }
+{
+    let count = st.count;
+    let c = resolve_number(terms, work, w, n, count, a);
+    if c != 0 {
+        return Answer::Refused(c);
+    }
+    moves::resolve(work, w, n, count, a);
+    let top = st.top;
+    Answer::Allowed(Status {
+        count,
+        top,
+        conflict: true,
+    })
+}
+
+// The decision a is undone, with all of its level and above.
+pub fn clear(terms: &[u16], work: &mut [u64], w: usize, n: usize, st: Status, a: Row) -> Answer
+    requires { ⌜ Standing w n (now terms) (now work) st × (st .conflict ≡ true) × (a .0 < n) ⌝ }
+    ensures { λ r. ⌜ Answers w n (now (terms .entry)) (now (work .entry)) (now (work .exit)) (calculus.clear (now (terms .entry)) (trailIn w n (now (work .entry)) (st .count)) (conflictIn w n (now (work .entry))) (a .0)) r ⌝ }
+{
+    let count = st.count;
+    let c = clear_number(terms, work, w, n, count, a);
+    if c != 0 {
+        return Answer::Refused(c);
+    }
+    searching(moves::clear(work, w, n, count, a))
+}
+
+// Back to the level of the rest of the conflict, which justifies the opposite of l.
+pub fn jump(terms: &[u16], work: &mut [u64], w: usize, n: usize, st: Status, l: Row) -> Answer
+    requires { ⌜ Standing w n (now terms) (now work) st × (st .conflict ≡ true) × (l .0 < n) ⌝ }
+    ensures { λ r. ⌜ Answers w n (now (terms .entry)) (now (work .entry)) (now (work .exit)) (calculus.jump (now (terms .entry)) (trailIn w n (now (work .entry)) (st .count)) (conflictIn w n (now (work .entry))) (l .0)) r ⌝ }
+{
+    let count = st.count;
+    let c = jump_number(terms, work, w, n, count, l);
+    if c != 0 {
+        return Answer::Refused(c);
+    }
+    searching(moves::jump(work, w, n, count, l))
+}
+
+// Below the level of the conflict, the opposite of l is decided.
+pub fn flip(
+    terms: &[u16],
+    work: &mut [u64],
+    w: usize,
+    n: usize,
+    st: Status,
+    l: Row,
+    k: Row,
+) -> Answer
+    requires { ⌜ Standing w n (now terms) (now work) st × (st .conflict ≡ true) × (l .0 < n) × (k .0 < n) ⌝ }
+    ensures { λ r. ⌜ Answers w n (now (terms .entry)) (now (work .entry)) (now (work .exit)) (calculus.flip (now (terms .entry)) (trailIn w n (now (work .entry)) (st .count)) (conflictIn w n (now (work .entry))) (l .0) (k .0)) r ⌝ }
+{
+    let count = st.count;
+    let c = flip_number(terms, work, w, n, count, l, k);
+    if c != 0 {
+        return Answer::Refused(c);
+    }
+    searching(moves::flip(work, w, n, count, l))
+}
