@@ -1,6 +1,6 @@
 -- Conflicts in the words: justifications there, what a number 0 says, and answers.
 use mathlib.Core.Path.{_≡_, refl, sym, ap, subst, _∙_}
-use mathlib.Core.Bool.{Bool, true, false, not, _&&_, _||_, cond}
+use mathlib.Core.Bool.{Bool, true, false, not, _||_, cond}
 use mathlib.Core.List.{List, [], _∷_}
 use Prim.Native.Nat.{ℕ, suc, _+_, _-_, _*_, _≤_, _<_, max}
 use native.Mathlib.Omega.{arith}
@@ -8,7 +8,7 @@ use lib.ListN.{length}
 use lib.Dec.{eqb, ltb→lt}
 use Rattle.calculus.specs.declared.Level.{Level}
 use Rattle.calculus.specs.Sheets.{termRows}
-use Rattle.calculus.specs.Trail.{Set, Trail, Entry, on, entry, decidedAt, whyAt, levelOf, topLevel}
+use Rattle.calculus.specs.Trail.{Set, Trail, on, entry, decidedAt, whyAt, levelOf, topLevel}
 use Rattle.calculus.specs.Reached.{Within, Reached}
 use Rattle.calculus.specs.Steps as calculus
 use Rattle.calculus.specs.Steps.{answer, resolveNumber, clearNumber, jumpNumber, flipNumber}
@@ -16,13 +16,13 @@ use Rattle.calculus.proofs.Facts.{and-l, and-r, T-true, T-false, true-or-false,
 use Rattle.calculus.proofs.Entries.{level-ge, level-le}
 use Rattle.calculus.proofs.Reached.{newest, why-reached, shared-high, top-length}
 use Rattle.bitset.specs.Windows.{setAt}
-use Rattle.trail.specs.Words.{trailIn, Laid}
+use Rattle.trail.specs.Words.{trailIn}
 use Rattle.trail.proofs.Laws.{why-in, trail-length, room-all}
 use Rattle.trail.proofs.Frames.{why-words}
 use Rattle.moves.specs.Post.{conflictIn, Stands, Conflicts, Above, restLevel, lowerLevel}
 use Rattle.state.specs.declared.Status.{Status}
 use Rattle.state.specs.declared.Answer.{Answer}
-use Rattle.state.specs.declared.Answer.the-variants.{Allowed, Refuted, Refused}
+use Rattle.state.specs.declared.Answer.the-variants.{Allowed, Refused}
 use Rattle.state.specs.States.{stateIn, Held, Standing, Answers}
 use Rattle.state.proofs.States.{trail-reached, conflict-within, refused-by, passed-by}
 use Rattle.conflict_steps.specs.Conflicts.{Found, inSearch}

@@ -1,7 +1,7 @@
 -- `conflict_steps::flip_number` meets its contract.
 use Rattle.conflict_steps.proofs.Laws.{member-on}
 use Rattle.calculus.specs.Steps.{flipNumber}
-use mathlib.Core.Path.{sym, ap, _∙_}
+use mathlib.Core.Path.{sym, _∙_}
 use borrow.Author.Tests.{not-true, not-false, eq-eqb, ne-eqb}
 use Rattle.calculus.proofs.Facts.{unless-yes, unless-no}
 use borrow.Author.Needs.{needs}

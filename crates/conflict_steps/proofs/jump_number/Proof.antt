@@ -1,7 +1,7 @@
 -- `conflict_steps::jump_number` meets its contract.
 use Rattle.conflict_steps.proofs.Laws.{member-on}
 use Rattle.calculus.specs.Steps.{jumpNumber}
-use mathlib.Core.Path.{sym, ap, _∙_}
+use mathlib.Core.Path.{sym, _∙_}
 use borrow.Author.Tests.{not-true, not-false}
 use Rattle.calculus.proofs.Facts.{unless-yes, unless-no}
 use borrow.Author.Needs.{needs}
