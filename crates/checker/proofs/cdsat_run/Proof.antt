@@ -1,0 +1,63 @@
+-- `checker::cdsat_run` meets its contract.
+use lib.ListN.{length}
+use Rattle.checker.proofs.Laws.{refused-is, lengths-number, away-outcome, away-trail, work-kept, work-cleared}
+use Rattle.checker.specs.Contract.{callOf}
+use Rattle.sheets.proofs.Laws.{passed-zero}
+use native.Mathlib.Omega.{arith}
+use mathlib.Core.Path.{sym, _∙_}
+use borrow.Author.Needs.{needs}
+use Rattle.checker.proofs.cdsat_run.Statement.{statement}
+use Rattle.checker.proofs.cdsat_run.Tie as tie
+
+check-lengths-requires : tie.Need-check-lengths-requires
+check-lengths-requires c κs = search needs
+
+enum-known-c : tie.Need-enum-known-c
+enum-known-c c = search needs
+
+turned-away-requires : tie.Need-turned-away-requires
+turned-away-requires c κs = search needs
+
+enum-told : tie.Need-enum-told
+enum-told c = search needs
+
+run-sheets-requires : tie.Need-run-sheets-requires
+run-sheets-requires c κs = passed-zero _ (sym (c .before .before .before .before .check-lengths .ensures) ∙ c .before .before .enum-told .given .1)
+
+wipe-requires : tie.Need-wipe-requires
+wipe-requires c κs = search needs
+
+same-length : tie.Need-same-length
+same-length c = search needs
+
+same-length-2 : tie.Need-same-length-2
+same-length-2 c = search needs
+
+returns : tie.Need-returns
+returns c = let h = refused-is _ _ (sym (c .before .before .before .before .check-lengths .ensures) ∙ c .before .before .c .given .1) in let q = lengths-number (callOf (c .before .before .before .before .before .before .before .before .before .before .before .before .before .args .sorts .now) (c .before .before .before .before .before .before .before .before .before .before .before .before .before .args .terms .now) (c .before .before .before .before .before .before .before .before .before .before .before .before .before .args .inputs .now) (c .before .before .before .before .before .before .before .before .before .before .before .before .before .args .steps .now) (c .before .before .before .before .before .before .before .before .before .before .before .before .before .args .work .now) (c .before .before .before .before .before .before .before .before .before .before .before .before .before .args .trail .now)) _ (h .0) (h .1) in record { result = c .turned-away .ensures ∙ away-outcome (callOf (c .before .before .before .before .before .before .before .before .before .before .before .before .before .args .sorts .now) (c .before .before .before .before .before .before .before .before .before .before .before .before .before .args .terms .now) (c .before .before .before .before .before .before .before .before .before .before .before .before .before .args .inputs .now) (c .before .before .before .before .before .before .before .before .before .before .before .before .before .args .steps .now) (c .before .before .before .before .before .before .before .before .before .before .before .before .before .args .work .now) (c .before .before .before .before .before .before .before .before .before .before .before .before .before .args .trail .now)) _ q (h .1); work = work-kept (callOf (c .before .before .before .before .before .before .before .before .before .before .before .before .before .args .sorts .now) (c .before .before .before .before .before .before .before .before .before .before .before .before .before .args .terms .now) (c .before .before .before .before .before .before .before .before .before .before .before .before .before .args .inputs .now) (c .before .before .before .before .before .before .before .before .before .before .before .before .before .args .steps .now) (c .before .before .before .before .before .before .before .before .before .before .before .before .before .args .work .now) (c .before .before .before .before .before .before .before .before .before .before .before .before .before .args .trail .now)) _ (h .0) (h .1); trail = away-trail (callOf (c .before .before .before .before .before .before .before .before .before .before .before .before .before .args .sorts .now) (c .before .before .before .before .before .before .before .before .before .before .before .before .before .args .terms .now) (c .before .before .before .before .before .before .before .before .before .before .before .before .before .args .inputs .now) (c .before .before .before .before .before .before .before .before .before .before .before .before .before .args .steps .now) (c .before .before .before .before .before .before .before .before .before .before .before .before .before .args .work .now) (c .before .before .before .before .before .before .before .before .before .before .before .before .before .args .trail .now)) _ q (h .1) }
+
+same-length-3 : tie.Need-same-length-3
+same-length-3 c = search needs
+
+same-length-4 : tie.Need-same-length-4
+same-length-4 c = search needs
+
+returns-2 : tie.Need-returns-2
+returns-2 c = let z = passed-zero _ (sym (c .before .before .before .before .before .before .before .before .before .before .before .before .before .check-lengths .ensures) ∙ c .before .before .before .before .before .before .before .before .before .before .before .enum-told .given .1) in record { result = c .before .before .before .before .before .before .before .before .run-sheets .ensures .0; work = work-cleared (callOf (c .before .before .before .before .before .before .before .before .before .before .before .before .before .before .before .before .before .before .before .before .before .before .args .sorts .now) (c .before .before .before .before .before .before .before .before .before .before .before .before .before .before .before .before .before .before .before .before .before .before .args .terms .now) (c .before .before .before .before .before .before .before .before .before .before .before .before .before .before .before .before .before .before .before .before .before .before .args .inputs .now) (c .before .before .before .before .before .before .before .before .before .before .before .before .before .before .before .before .before .before .before .before .before .before .args .steps .now) (c .before .before .before .before .before .before .before .before .before .before .before .before .before .before .before .before .before .before .before .before .before .before .args .work .now) (c .before .before .before .before .before .before .before .before .before .before .before .before .before .before .before .before .before .before .before .before .before .before .args .trail .now)) (length (c .before .before .before .before .before .before .before .before .run-sheets .last .1 .1 .1 .1 .0)) z (c .before .before .wipe .ensures) (omega arith); trail = c .before .before .before .before .before .before .before .before .run-sheets .ensures .1 }
+
+pub cdsat-run-spec : {M : Type 1} → statement M
+cdsat-run-spec =
+    tie.close
+    (tie.spec
+    check-lengths-requires
+    enum-known-c
+    turned-away-requires
+    enum-told
+    run-sheets-requires
+    wipe-requires
+    same-length
+    same-length-2
+    returns
+    same-length-3
+    same-length-4
+    returns-2)
