@@ -1,0 +1,310 @@
+//! What is measured: long logs, term sheets and a text.
+
+const X: u16 = 65_535;
+const SORT: u16 = 1;
+const MAX_STEPS: usize = 65_535;
+
+const DECIDE: u16 = 0;
+const DEDUCE: u16 = 1;
+const CLASH: u16 = 2;
+const RESOLVE: u16 = 3;
+const CLEAR: u16 = 4;
+const JUMP: u16 = 5;
+
+const EQ: u16 = 0;
+const NOT: u16 = 1;
+const AND: u16 = 2;
+const OR: u16 = 3;
+
+const SAME: u16 = 0;
+const SYM: u16 = 3;
+const TRANS: u16 = 4;
+const NEG: u16 = 5;
+const UNIT: u16 = 7;
+const EVAL: u16 = 8;
+const CONG: u16 = 9;
+const PRED: u16 = 10;
+
+/// Four sheets, and a line that says what they are.
+#[derive(Default)]
+pub struct Sheets {
+    pub about: String,
+    pub sorts: Vec<u16>,
+    pub terms: Vec<u16>,
+    pub inputs: Vec<u16>,
+    pub steps: Vec<u16>,
+    free: u16,
+}
+
+impl Sheets {
+    fn new() -> Self {
+        Sheets {
+            sorts: vec![X, X],
+            free: 16,
+            ..Sheets::default()
+        }
+    }
+
+    pub fn rows(&self) -> usize {
+        self.terms.len() / 6
+    }
+
+    pub fn step_rows(&self) -> usize {
+        self.steps.len() / 9
+    }
+
+    fn term(&mut self, head: u16, sort: u16, args: &[u16]) -> u16 {
+        let mut row = [X; 6];
+        row[0] = head;
+        row[1] = sort;
+        row[2..2 + args.len()].copy_from_slice(args);
+        self.terms.extend(row);
+        self.rows() as u16 - 1
+    }
+
+    fn prop(&mut self, head: u16, args: &[u16]) -> u16 {
+        self.term(head, 0, args)
+    }
+
+    fn head(&mut self) -> u16 {
+        self.free += 1;
+        self.free - 1
+    }
+
+    fn constant(&mut self, sort: u16) -> u16 {
+        let head = self.head();
+        self.term(head, sort, &[])
+    }
+
+    fn input(&mut self, term: u16, value: u16) {
+        self.inputs.extend([term, value]);
+    }
+
+    fn step(&mut self, step: u16, rule: u16, term: u16, value: u16, premises: &[u16]) {
+        let mut row = [X; 9];
+        row[..4].copy_from_slice(&[step, rule, term, value]);
+        row[4..4 + premises.len()].copy_from_slice(premises);
+        self.steps.extend(row);
+    }
+
+    /// Fills the term sheet with constants that have a value from the input.
+    fn pad(&mut self, rows: usize) {
+        while self.rows() < rows {
+            let term = self.constant(SORT);
+            self.input(term, term);
+        }
+    }
+
+    /// Repeats the cycle of steps up to the ceiling, the last one in part.
+    fn repeat(&mut self) {
+        let cycle = self.steps.clone();
+        while self.step_rows() < MAX_STEPS {
+            self.steps.extend(&cycle);
+        }
+        self.steps.truncate(9 * MAX_STEPS);
+    }
+
+    /// A term that a decision of 7 on it gets into a conflict at once: its
+    /// equality with an input of 7 is false. Returns the term, the other and the
+    /// equality.
+    fn clearable(&mut self) -> [u16; 3] {
+        let c = self.constant(SORT);
+        let seven = self.constant(SORT);
+        let equality = self.prop(EQ, &[c, seven]);
+        self.input(seven, 7);
+        self.input(equality, 0);
+        [c, seven, equality]
+    }
+
+    fn clash_and_clear(&mut self, [c, seven, equality]: [u16; 3]) {
+        self.step(CLASH, SAME, equality, 1, &[c, seven]);
+        self.step(CLEAR, X, c, X, &[]);
+    }
+}
+
+/// A decision, then deductions from it by same, sym, trans, cong, pred, unit and
+/// eval until the term sheet is used up, then a clash that clears the decision.
+pub fn deduce_heavy() -> Sheets {
+    let mut s = Sheets::new();
+    let (f, q) = (s.head(), s.head());
+    let clearable = s.clearable();
+    let [c, seven, _] = clearable;
+    let d = s.constant(SORT);
+    s.input(d, 7);
+    s.step(DECIDE, X, c, 7, &[]);
+    let (mut x, mut y) = (c, d);
+    let mut before = None;
+    let mut deduced = 0;
+    while s.rows() + 11 <= 256 {
+        let e = s.prop(EQ, &[x, y]);
+        match before {
+            None => s.step(DEDUCE, SAME, e, 1, &[x, y]),
+            Some(equality) => s.step(DEDUCE, CONG, e, 1, &[equality]),
+        }
+        let back = s.prop(EQ, &[y, x]);
+        s.step(DEDUCE, SYM, back, 1, &[e]);
+        let both = s.prop(EQ, &[x, x]);
+        s.step(DEDUCE, TRANS, both, 1, &[e, back]);
+        let not = s.prop(NOT, &[e]);
+        s.step(DEDUCE, EVAL, not, 0, &[e]);
+        let atom = s.constant(0);
+        let clause = s.prop(OR, &[not, atom]);
+        s.input(clause, 1);
+        s.step(DEDUCE, UNIT, atom, 1, &[clause, not]);
+        let (qx, qy) = (s.prop(q, &[x]), s.prop(q, &[y]));
+        s.input(qx, 1);
+        s.step(DEDUCE, PRED, qy, 1, &[qx, e]);
+        let and = s.prop(AND, &[e, back]);
+        s.step(DEDUCE, EVAL, and, 1, &[e, back]);
+        deduced += 7;
+        before = Some(e);
+        (x, y) = (s.term(f, SORT, &[x]), s.term(f, SORT, &[y]));
+    }
+    s.clash_and_clear([c, seven, clearable[2]]);
+    s.pad(256);
+    let cycle = s.step_rows();
+    s.about = format!("{deduced} deduces of a cycle of {cycle} steps, 256 terms");
+    s.repeat();
+    s
+}
+
+/// A chain of deductions at level 2, a clash at its end, a conflict resolved back
+/// to the decision by way of many resolves, a jump, then a clear of level 1.
+pub fn conflict_heavy() -> Sheets {
+    const LINKS: usize = 24;
+    const DETOUR: usize = 48;
+    let mut s = Sheets::new();
+    let clearable = s.clearable();
+    let c = clearable[0];
+    let d = s.constant(SORT);
+    s.input(d, 7);
+    s.pad(256 - LINKS - 3);
+    let low = s.prop(EQ, &[c, d]);
+    let first = s.constant(0);
+    s.step(DECIDE, X, c, 7, &[]);
+    s.step(DEDUCE, SAME, low, 1, &[c, d]);
+    s.step(DECIDE, X, first, 1, &[]);
+    // Every link is the conjunction of up to three terms before it.
+    let mut links = vec![low, first];
+    let mut reasons = vec![Vec::new(), Vec::new()];
+    for _ in 0..LINKS {
+        let args = links[links.len().saturating_sub(3)..].to_vec();
+        let link = s.prop(AND, &args);
+        s.step(DEDUCE, EVAL, link, 1, &args);
+        links.push(link);
+        reasons.push(args);
+    }
+    let last = *links.last().unwrap();
+    let not = s.prop(NOT, &[last]);
+    s.input(not, 1);
+    s.step(CLASH, NEG, last, 0, &[not]);
+    // The links of the conflict by position. At first the lowest one but the two
+    // at the bottom is resolved, so that links come back; then the highest.
+    let mut members = vec![links.len() - 1];
+    let mut resolves = 0;
+    while members.iter().any(|&at| at > 1) {
+        let open = members.iter().copied().filter(|&at| at > 1);
+        let at = if resolves < DETOUR {
+            open.min().unwrap()
+        } else {
+            open.max().unwrap()
+        };
+        s.step(RESOLVE, X, links[at], X, &[]);
+        resolves += 1;
+        members.retain(|&other| other != at);
+        for arg in &reasons[at] {
+            let position = links.iter().position(|link| link == arg).unwrap();
+            if !members.contains(&position) {
+                members.push(position);
+            }
+        }
+    }
+    s.step(JUMP, X, first, X, &[]);
+    s.clash_and_clear(clearable);
+    let cycle = s.step_rows();
+    s.about =
+        format!("{resolves} resolves and {LINKS} deduces of a cycle of {cycle} steps, 256 terms");
+    s.repeat();
+    s
+}
+
+/// Decide, clash, clear, over a trail of inputs.
+pub fn cut_heavy() -> Sheets {
+    let mut s = Sheets::new();
+    let clearable = s.clearable();
+    s.pad(256);
+    s.step(DECIDE, X, clearable[0], 7, &[]);
+    s.clash_and_clear(clearable);
+    s.about = "cycle of 3 steps over 255 input entries, 256 terms".into();
+    s.repeat();
+    s
+}
+
+/// 256 constants, each of a head of its own.
+pub fn distinct_heads() -> Sheets {
+    let mut s = Sheets::new();
+    for _ in 0..256 {
+        s.constant(SORT);
+    }
+    s.about = "256 heads without arguments".into();
+    s
+}
+
+/// One head, rows equal but for the last column.
+pub fn one_head() -> Sheets {
+    let mut s = Sheets::new();
+    let c = s.constant(SORT);
+    let f = s.head();
+    for last in c..255 {
+        s.term(f, SORT, &[c, c, c, last]);
+    }
+    s.about = "one head, rows equal but for the last column".into();
+    s
+}
+
+/// A text of 256 terms and 1,024 steps.
+pub fn text() -> (String, Vec<u8>) {
+    let s = deduce_heavy();
+    let name = |row: u16| match row {
+        X => "-".to_string(),
+        _ => format!("term_{row}"),
+    };
+    let heads = ["eq", "not", "and", "or"];
+    let steps = ["decide", "deduce", "clash", "resolve", "clear", "jump"];
+    let rules = [
+        "same", "differ", "refl", "sym", "trans", "neg", "part", "unit", "eval", "cong", "pred",
+    ];
+    let value = |value: u16| match value {
+        X => "-".to_string(),
+        0 => "false".to_string(),
+        1 => "true".to_string(),
+        _ => value.to_string(),
+    };
+    let mut text = String::from("sort index value\nS - -\n\nterm head sort a b c d\n");
+    for (at, row) in s.terms.chunks(6).enumerate() {
+        let head = heads
+            .get(usize::from(row[0]))
+            .map_or_else(|| format!("head_{}", row[0]), |word| word.to_string());
+        let sort = if row[1] == 0 { "prop" } else { "S" };
+        let args: Vec<String> = row[2..].iter().map(|&arg| name(arg)).collect();
+        text += &format!("term_{at} {head} {sort} {}\n", args.join(" "));
+    }
+    text += "\nterm value\n";
+    for row in s.inputs.chunks(2) {
+        text += &format!("{} {}\n", name(row[0]), value(row[1]));
+    }
+    text += "\nstep rule term value p q r s t\n";
+    for row in s.steps.chunks(9).take(1_024) {
+        let rule = rules.get(usize::from(row[1])).unwrap_or(&"-");
+        let premises: Vec<String> = row[4..].iter().map(|&premise| name(premise)).collect();
+        text += &format!(
+            "{} {rule} {} {} {}\n",
+            steps[usize::from(row[0])],
+            name(row[2]),
+            value(row[3]),
+            premises.join(" ")
+        );
+    }
+    let about = format!("256 terms, 1,024 steps, {} bytes", text.len());
+    (about, text.into_bytes())
+}

@@ -1,0 +1,179 @@
+//! Safe bindings of the verified checker of rule logs.
+//!
+//! A [`Log`] collects the four sheets: sorts, terms, inputs and steps. Running it
+//! calls the checker and gives the [`Outcome`] and the trail. Who keeps sheets and
+//! buffers of their own calls [`run`].
+//!
+//! ```
+//! use cdsat::{Head, Log, Rule, Sort, Verdict};
+//!
+//! let mut log = Log::new();
+//! let s = log.sort();
+//! let a = log.term(Head::Free(0), s, &[]);
+//! let b = log.term(Head::Free(1), s, &[]);
+//! let e = log.term(Head::Eq, Sort::PROP, &[a, b]);
+//! let fa = log.term(Head::Free(2), s, &[a]);
+//! let fb = log.term(Head::Free(2), s, &[b]);
+//! let g = log.term(Head::Eq, Sort::PROP, &[fa, fb]);
+//! log.input(e, 1);
+//! log.input(g, 0);
+//! log.clash(Rule::Cong, g, true, &[e]);
+//!
+//! let run = log.run();
+//! assert_eq!(run.outcome.verdict, Verdict::Refuted);
+//! assert_eq!(run.outcome.steps, 1);
+//! assert_eq!(run.trail[1].term, g);
+//! assert_eq!(run.trail[1].value, 0);
+//! ```
+
+#![deny(unsafe_code)]
+
+mod log;
+#[allow(unsafe_code)]
+mod sys;
+mod words;
+
+pub use log::{Entry, Head, Log, Rule, Run, Sort, Step, Term};
+
+/// The number of an empty column.
+pub const BLANK: u16 = 65_535;
+
+/// The greatest number of rows of each sheet.
+pub const MAX_SORTS: usize = 32;
+pub const MAX_TERMS: usize = 256;
+pub const MAX_INPUTS: usize = 256;
+pub const MAX_STEPS: usize = 65_535;
+
+/// The greatest number of step lines of a text.
+pub const MAX_TEXT_STEPS: usize = 1_024;
+
+/// The least number of workspace words for so many term rows.
+pub const fn work_words(terms: usize) -> usize {
+    8 * terms + 12
+}
+
+/// The least length of the trail buffer for so many term rows.
+pub const fn trail_numbers(terms: usize) -> usize {
+    4 * terms
+}
+
+/// What became of a log.
+#[derive(Clone, Copy, Debug, PartialEq, Eq)]
+pub enum Verdict {
+    /// All steps were allowed and none refuted the input.
+    Open,
+    /// The input is refuted.
+    Refuted,
+    /// A step, a sheet or a buffer is in trouble; the number says which.
+    Refused,
+}
+
+/// The result of a run.
+#[derive(Clone, Copy, Debug, PartialEq, Eq)]
+pub struct Outcome {
+    pub verdict: Verdict,
+    /// How many steps were allowed.
+    pub steps: u16,
+    /// The number of the trouble, 0 if there is none.
+    pub number: u16,
+    /// How many entries are on the trail.
+    pub entries: u16,
+}
+
+impl Outcome {
+    /// What the number means.
+    pub fn meaning(&self) -> &'static str {
+        words::meaning(self.number)
+    }
+
+    /// The four numbers of the result, the verdict as 0, 1 or 2.
+    pub fn numbers(&self) -> [u16; 4] {
+        [self.verdict as u16, self.steps, self.number, self.entries]
+    }
+}
+
+/// Runs the steps of a log over sheets and buffers of the caller.
+///
+/// The workspace is all zero afterwards. The trail buffer holds the entries,
+/// oldest first: term, value, level, and 1 for a decision or 0; what follows them
+/// is untouched. With the numbers 30, 31 and 32 nothing is written.
+///
+/// # Panics
+///
+/// If the library answers with a verdict it does not have.
+pub fn run(
+    sorts: &[u16],
+    terms: &[u16],
+    inputs: &[u16],
+    steps: &[u16],
+    work: &mut [u64],
+    trail: &mut [u16],
+) -> Outcome {
+    let [verdict, steps, number, entries] = run_numbers(sorts, terms, inputs, steps, work, trail);
+    Outcome {
+        verdict: match verdict {
+            0 => Verdict::Open,
+            1 => Verdict::Refuted,
+            2 => Verdict::Refused,
+            other => panic!("the library answered with verdict {other}"),
+        },
+        steps,
+        number,
+        entries,
+    }
+}
+
+/// The same with the result as the library's four numbers: verdict, steps,
+/// number, entries.
+pub fn run_numbers(
+    sorts: &[u16],
+    terms: &[u16],
+    inputs: &[u16],
+    steps: &[u16],
+    work: &mut [u64],
+    trail: &mut [u16],
+) -> [u16; 4] {
+    let raw = sys::run(sorts, terms, inputs, steps, work, trail);
+    [raw.verdict, raw.steps, raw.number, raw.entries]
+}
+
+/// The result of reading a text.
+#[cfg(feature = "text")]
+#[derive(Clone, Copy, Debug, PartialEq, Eq)]
+pub struct Read {
+    /// 0, or 2, 30, 31 or 32.
+    pub number: u16,
+    /// The rows of the sort, term, input and step sheet.
+    pub rows: [u16; 4],
+    /// The first bad line, from 1; 0 if there is none.
+    pub line: u64,
+    /// The field of that line at fault, from 1; 0 if it is the line as a whole.
+    pub place: u64,
+}
+
+#[cfg(feature = "text")]
+impl Read {
+    /// What the number means.
+    pub fn meaning(&self) -> &'static str {
+        words::meaning(self.number)
+    }
+}
+
+/// Reads a text into four sheets of the caller, which hold the rows and then
+/// zeros, or zeros alone if the number is not 0.
+#[cfg(feature = "text")]
+pub fn read(
+    text: &[u8],
+    sorts: &mut [u16],
+    terms: &mut [u16],
+    inputs: &mut [u16],
+    steps: &mut [u16],
+) -> Read {
+    let raw = sys::read(text, sorts, terms, inputs, steps);
+    Read {
+        number: raw.number,
+        rows: raw.rows,
+        line: raw.line,
+        place: raw.place,
+    }
+}

@@ -1,0 +1,100 @@
+//! The paper's small board through the safe bindings.
+
+use cdsat::{Head, Log, Rule, Sort, Term, Verdict};
+
+struct Board {
+    log: Log,
+    a: Term,
+    b: Term,
+    e: Term,
+    g: Term,
+    not_e: Term,
+}
+
+fn board() -> Board {
+    let mut log = Log::new();
+    let s = log.sort();
+    let a = log.term(Head::Free(0), s, &[]);
+    let b = log.term(Head::Free(1), s, &[]);
+    let e = log.term(Head::Eq, Sort::PROP, &[a, b]);
+    let fa = log.term(Head::Free(2), s, &[a]);
+    let fb = log.term(Head::Free(2), s, &[b]);
+    let g = log.term(Head::Eq, Sort::PROP, &[fa, fb]);
+    let not_e = log.term(Head::Not, Sort::PROP, &[e]);
+    log.term(Head::Or, Sort::PROP, &[e, g]);
+    Board {
+        log,
+        a,
+        b,
+        e,
+        g,
+        not_e,
+    }
+}
+
+#[test]
+fn clear_keeps_the_late_entry() {
+    let Board {
+        mut log,
+        a,
+        b,
+        e,
+        not_e,
+        ..
+    } = board();
+    log.input(not_e, 1);
+    log.decide(a, 7).decide(b, 7);
+    log.deduce(Rule::Neg, e, false, &[not_e]);
+    log.clash(Rule::Same, e, true, &[a, b]);
+    log.clear(b);
+    let run = log.run();
+    assert_eq!(run.outcome.numbers(), [0, 5, 0, 3]);
+    assert_eq!(run.outcome.verdict, Verdict::Open);
+    let terms: Vec<Term> = run.trail.iter().map(|entry| entry.term).collect();
+    assert_eq!(terms, [not_e, a, e]);
+    assert!(run.trail[1].decision);
+    assert_eq!(run.trail[1].level, 1);
+}
+
+#[test]
+fn resolve_is_barred() {
+    let Board {
+        mut log,
+        a,
+        b,
+        e,
+        g,
+        ..
+    } = board();
+    log.input(g, 0);
+    log.decide(a, 7).decide(b, 7);
+    log.deduce(Rule::Same, e, true, &[a, b]);
+    log.clash(Rule::Cong, g, true, &[e]);
+    log.resolve(e);
+    let run = log.run();
+    assert_eq!(run.outcome.numbers(), [2, 4, 19, 4]);
+    assert_eq!(run.outcome.verdict, Verdict::Refused);
+    assert!(run.outcome.meaning().contains("barred"));
+}
+
+#[test]
+fn jump_learns() {
+    let Board { mut log, e, g, .. } = board();
+    log.input(g, 0);
+    log.decide(e, 1);
+    log.clash(Rule::Cong, g, true, &[e]);
+    log.jump(e);
+    let run = log.run();
+    assert_eq!(run.outcome.numbers(), [0, 3, 0, 2]);
+    assert_eq!((run.trail[1].term, run.trail[1].value), (e, 0));
+}
+
+#[cfg(feature = "text")]
+#[test]
+fn a_bad_line() {
+    let mut sheets = [vec![7; 2], vec![7; 6], vec![7; 2], vec![7; 9]];
+    let [sorts, terms, inputs, steps] = &mut sheets;
+    let read = cdsat::read(b"sort index value\nprop - -\n", sorts, terms, inputs, steps);
+    assert_eq!((read.number, read.line, read.place), (2, 2, 1));
+    assert!(sheets.iter().flatten().all(|&number| number == 0));
+}

@@ -1,0 +1,693 @@
+//! Logs grown step by step, each chosen among those allowed at the state the
+//! earlier ones made, then perhaps a step that is not allowed.
+
+use crate::naive::{Entry, Model, Next};
+use crate::problem::{value, Problem, X};
+use crate::rng::Rng;
+use std::collections::HashMap;
+
+pub type Row = [u16; 9];
+
+/// A rule's use: the term it gives a value, and from what.
+#[derive(Clone)]
+struct Instance {
+    rule: u16,
+    term: u16,
+    value: u16,
+    premises: Vec<u16>,
+}
+
+impl Instance {
+    fn row(&self, step: u16) -> Row {
+        row(step, self.rule, self.term, self.value, &self.premises)
+    }
+}
+
+fn row(step: u16, rule: u16, term: u16, value: u16, premises: &[u16]) -> Row {
+    let mut row = [X; 9];
+    row[..4].copy_from_slice(&[step, rule, term, value]);
+    let count = premises.len().min(5);
+    row[4..4 + count].copy_from_slice(&premises[..count]);
+    row
+}
+
+/// Which rules to try: the hard ones more often, so that all are used often.
+const TRIED: [u16; 31] = [
+    0, 0, 1, 1, 2, 3, 3, 4, 4, 4, 5, 5, 6, 6, 7, 7, 7, 7, 8, 8, 9, 9, 10, 10, 10, 10, 11, 12, 12,
+    12, 12,
+];
+
+/// The numbers to aim at: those of steps, the hard ones more often.
+const TARGETS: [u16; 25] = [
+    9, 10, 11, 12, 13, 14, 15, 15, 16, 17, 18, 19, 19, 19, 19, 19, 20, 21, 22, 22, 23, 23, 23, 13,
+    21,
+];
+
+struct Grower<'a> {
+    rng: &'a mut Rng,
+    model: Model,
+    /// Whether this log evaluates equalities first and clashes later.
+    eager: bool,
+    /// Steps to take next where they are allowed, the next one last.
+    plan: Vec<Row>,
+    /// Whether uses that come close to a rule are taken for uses of it.
+    loose: bool,
+    equalities: HashMap<(u16, u16), u16>,
+    values: Vec<Option<u16>>,
+    late: u64,
+    probes: Vec<(usize, Row)>,
+}
+
+/// A grown log.
+pub struct Log {
+    pub rows: Vec<Row>,
+    /// Entries kept by a cut although they came after one that was dropped.
+    pub late: u64,
+    /// Steps to try in place of the rest of the log after so many rows.
+    pub probes: Vec<(usize, Row)>,
+}
+
+/// A log for the problem.
+pub fn log(rng: &mut Rng, problem: &Problem) -> Log {
+    let model = Model::start(
+        problem.sorts.as_flattened(),
+        problem.terms.as_flattened(),
+        problem.inputs.as_flattened(),
+    )
+    .expect("a problem in good order");
+    let equalities = (0..model.terms.len() as u16)
+        .filter(|&term| model.terms[usize::from(term)][0] == 0)
+        .map(|term| {
+            let row = model.terms[usize::from(term)];
+            ((row[2], row[3]), term)
+        })
+        .collect();
+    let mut grower = Grower {
+        eager: rng.percent(50),
+        plan: Vec::new(),
+        loose: false,
+        rng,
+        model,
+        equalities,
+        values: Vec::new(),
+        late: 0,
+        probes: Vec::new(),
+    };
+    let rows = grower.grow();
+    Log {
+        rows,
+        late: grower.late,
+        probes: grower.probes,
+    }
+}
+
+impl Grower<'_> {
+    fn grow(&mut self) -> Vec<Row> {
+        let length = match self.rng.below(40) {
+            0 => 0,
+            1 => self.rng.within(60, 300),
+            2..=20 => self.rng.within(1, 20),
+            _ => self.rng.within(10, 60),
+        };
+        let target = self.rng.percent(55).then(|| *self.rng.pick(&TARGETS));
+        let earliest = self.rng.below(length + 1);
+        let mut rows = Vec::new();
+        while rows.len() < length {
+            self.values = vec![None; self.model.terms.len()];
+            for entry in &self.model.trail {
+                self.values[usize::from(entry.term)] = Some(entry.value);
+            }
+            if let Some(target) = target.filter(|_| rows.len() >= earliest) {
+                if let Some(barred) = self.barred(target) {
+                    rows.push(barred);
+                    break;
+                }
+            }
+            if self.rng.percent(25) {
+                let row = self.attempt();
+                self.probes.push((rows.len(), row));
+            }
+            let Some(row) = self.allowed() else {
+                break;
+            };
+            rows.push(row);
+            match self.model.next(&row).expect("an allowed step") {
+                Next::Refuted => break,
+                next => self.enter(next),
+            }
+        }
+        while self.rng.percent(20) {
+            rows.push(self.noise());
+        }
+        rows
+    }
+
+    fn enter(&mut self, next: Next) {
+        if let Next::Searching(trail) = &next {
+            let kept = |entry: &Entry| trail.iter().any(|other| other.term == entry.term);
+            let dropped = self.model.trail.iter().position(|entry| !kept(entry));
+            if let Some(at) = dropped.filter(|_| self.model.conflict.is_some()) {
+                self.late += self.model.trail[at..]
+                    .iter()
+                    .filter(|entry| kept(entry))
+                    .count() as u64;
+            }
+        }
+        self.model.enter(next);
+    }
+
+    fn allowed(&mut self) -> Option<Row> {
+        if let Some(row) = self.planned() {
+            return Some(row);
+        }
+        match self.model.conflict {
+            Some(_) => self.allowed_in_conflict(),
+            None => self.allowed_in_search(),
+        }
+    }
+
+    /// The next step of the plan that is allowed. A refutation ends the plan.
+    fn planned(&mut self) -> Option<Row> {
+        while let Some(row) = self.plan.pop() {
+            match self.model.next(&row) {
+                Ok(Next::Refuted) if self.rng.percent(80) => (),
+                Ok(_) => return Some(row),
+                Err(_) => (),
+            }
+        }
+        None
+    }
+
+    fn allowed_in_search(&mut self) -> Option<Row> {
+        match self.rng.below(20) {
+            0..=1 => self.plan_split(),
+            2..=3 => self.plan_use(),
+            _ => None,
+        };
+        if let Some(row) = self.planned() {
+            return Some(row);
+        }
+        if self.rng.percent(20) {
+            if let Some(row) = self.decision() {
+                return Some(row);
+            }
+        }
+        if self.eager && self.rng.percent(50) {
+            let rule = *self.rng.pick(&[4, 5, 6, 7, 7, 7, 8, 8, 9, 10]);
+            if let (_, Some(clash)) = self.uses(rule) {
+                return Some(clash);
+            }
+        }
+        for _ in 0..16 {
+            let rule = match self.eager && self.rng.percent(40) {
+                true => self.rng.below(2) as u16,
+                false => *self.rng.pick(&TRIED),
+            };
+            let (deduction, clash) = self.uses(rule);
+            let patient = self
+                .rng
+                .percent(if self.eager && rule < 2 { 85 } else { 40 });
+            match (deduction, clash) {
+                (None, Some(clash)) if !self.eager => return Some(clash),
+                (_, Some(clash)) if !patient => return Some(clash),
+                (Some(deduction), _) => return Some(deduction),
+                _ => (),
+            }
+        }
+        self.decision()
+    }
+
+    /// Plans a clash over a connective of equalities that share a side: decide
+    /// the sides, the shared one last, deduce the equalities, clash, flip.
+    fn plan_split(&mut self) -> Option<()> {
+        let whole = self.any_row(|grower, term| {
+            let (head, args) = grower.term(term);
+            let over = args.iter().all(|&arg| grower.term(arg).0 == 0);
+            (head == 2 || head == 3)
+                && over
+                && grower.value(term).is_none_or(|value| value == head - 2)
+        })?;
+        let (head, mut equalities) = self.term(whole);
+        let [one, two] = [0, 1].map(|at| self.term(equalities[at]).1);
+        let shared = *one.iter().find(|side| two.contains(side))?;
+        let mut rows = vec![row(0, X, whole, head - 2, &[])];
+        let sides = equalities.iter().flat_map(|&arg| self.term(arg).1);
+        let mut others: Vec<u16> = sides.filter(|&side| side != shared).collect();
+        others.dedup();
+        for other in others {
+            rows.push(row(0, X, other, if head == 3 { 1 } else { 0 }, &[]));
+        }
+        rows.push(row(0, X, shared, 0, &[]));
+        for &arg in &equalities {
+            let rule = if head == 3 { 1 } else { 0 };
+            rows.push(row(1, rule, arg, 3 - head, &self.term(arg).1));
+        }
+        if self.rng.percent(50) {
+            rows.push(row(2, 8, whole, 3 - head, &equalities));
+        } else {
+            let last = equalities.remove(self.rng.below(equalities.len()));
+            let premises = [&[whole], &equalities[..]].concat();
+            rows.push(row(2, 7, last, head - 2, &premises));
+        }
+        rows.reverse();
+        self.plan = rows;
+        Some(())
+    }
+
+    /// Plans a use of some rule: decide what it lacks, then deduce; or decide the
+    /// opposite of what it gives too, then clash.
+    fn plan_use(&mut self) -> Option<()> {
+        let rule = *self.rng.pick(&TRIED);
+        let real = self.values.clone();
+        for (value, row) in self.values.iter_mut().zip(&self.model.terms) {
+            if value.is_none() && row[1] == 0 {
+                let truth = row[0] == 0 && rule != 12;
+                let other = self.rng.percent(30);
+                *value = Some(u16::from(truth != other));
+            }
+        }
+        let found = self.instances(rule);
+        let dreamt = std::mem::replace(&mut self.values, real);
+        if found.is_empty() {
+            return None;
+        }
+        let use_ = self.rng.pick(&found).clone();
+        let clash = self.rng.percent(40);
+        let mut rows = vec![use_.row(if clash { 2 } else { 1 })];
+        if clash {
+            rows.push(row(0, X, use_.term, 1 - use_.value, &[]));
+        }
+        for &premise in &use_.premises {
+            let at = rows.len() - self.rng.below(2).min(rows.len() - 1);
+            let value = dreamt[usize::from(premise)].unwrap_or(0);
+            rows.insert(at, row(0, X, premise, value, &[]));
+        }
+        self.plan = rows;
+        Some(())
+    }
+
+    /// Some term row that will do.
+    fn any_row(&mut self, will_do: impl Fn(&Self, u16) -> bool) -> Option<u16> {
+        let rows: Vec<u16> = (0..self.model.terms.len() as u16)
+            .filter(|&term| will_do(self, term))
+            .collect();
+        (!rows.is_empty()).then(|| *self.rng.pick(&rows))
+    }
+
+    /// A deduction and a clash by the rule, if there are any. Clashes that refute
+    /// the input are mostly left out, for they end the log.
+    fn uses(&mut self, rule: u16) -> (Option<Row>, Option<Row>) {
+        let found = self.instances(rule);
+        let (fresh, there): (Vec<_>, Vec<_>) = found
+            .into_iter()
+            .partition(|use_| self.value(use_.term).is_none());
+        let opposed: Vec<_> = there
+            .into_iter()
+            .filter(|use_| self.value(use_.term) != Some(use_.value))
+            .collect();
+        let deduction = (!fresh.is_empty()).then(|| self.rng.pick(&fresh).row(1));
+        let clash = (!opposed.is_empty()).then(|| self.rng.pick(&opposed).row(2));
+        let clash = clash.filter(|row| {
+            let refutes = matches!(self.model.next(row), Ok(Next::Refuted));
+            !refutes || self.rng.percent(12)
+        });
+        (deduction, clash)
+    }
+
+    fn decision(&mut self) -> Option<Row> {
+        let free: Vec<u16> = (0..self.model.terms.len() as u16)
+            .filter(|&term| self.value(term).is_none())
+            .collect();
+        if free.is_empty() {
+            return None;
+        }
+        let mut term = *self.rng.pick(&free);
+        while self.model.is_prop(term) && self.rng.percent(if self.eager { 90 } else { 40 }) {
+            term = *self.rng.pick(&free);
+        }
+        let given = value(self.rng, &self.model.terms[usize::from(term)]);
+        Some(row(0, X, term, given, &[]))
+    }
+
+    /// Some step of the conflict state that is allowed, each kind as likely as
+    /// the others where there is one of it.
+    fn allowed_in_conflict(&mut self) -> Option<Row> {
+        let members = self.model.conflict.clone().unwrap();
+        let mut kinds = vec![3, 3, 4, 5, 6, 6, 6];
+        while !kinds.is_empty() {
+            let kind = *self.rng.pick(&kinds);
+            let rows: Vec<Row> = if kind == 6 {
+                let member = |rng: &mut Rng| *rng.pick(&members);
+                (0..12)
+                    .map(|_| row(6, X, member(self.rng), X, &[member(self.rng)]))
+                    .collect()
+            } else {
+                members
+                    .iter()
+                    .map(|&member| row(kind, X, member, X, &[]))
+                    .collect()
+            };
+            let good: Vec<Row> = rows
+                .into_iter()
+                .filter(|row| self.model.next(row).is_ok())
+                .collect();
+            if !good.is_empty() {
+                return Some(*self.rng.pick(&good));
+            }
+            kinds.retain(|&other| other != kind);
+        }
+        None
+    }
+
+    fn value(&self, term: u16) -> Option<u16> {
+        self.values[usize::from(term)]
+    }
+
+    fn is(&self, term: u16, value: u16) -> bool {
+        self.value(term) == Some(value)
+    }
+
+    fn term(&self, term: u16) -> (u16, Vec<u16>) {
+        let row = self.model.terms[usize::from(term)];
+        (
+            row[0],
+            row[2..].iter().copied().filter(|&arg| arg != X).collect(),
+        )
+    }
+
+    fn equality(&self, left: u16, right: u16) -> Option<u16> {
+        self.equalities.get(&(left, right)).copied()
+    }
+
+    fn true_equality(&self, left: u16, right: u16) -> Option<u16> {
+        self.equality(left, right).filter(|&row| self.is(row, 1))
+    }
+
+    fn equal_args(&self, left: &[u16], right: &[u16]) -> Option<Vec<u16>> {
+        left.iter()
+            .zip(right)
+            .map(|(&t, &u)| self.true_equality(t, u))
+            .collect()
+    }
+
+    /// All the uses of the rule that the trail has the premises for.
+    fn instances(&self, rule: u16) -> Vec<Instance> {
+        let mut found = Vec::new();
+        for at in 0..self.model.terms.len() as u16 {
+            let (head, args) = self.term(at);
+            self.instances_at(rule, at, head, &args, &mut found);
+        }
+        found
+    }
+
+    fn instances_at(&self, rule: u16, at: u16, head: u16, args: &[u16], found: &mut Vec<Instance>) {
+        let mut add = |term: u16, value: u16, premises: &[u16]| {
+            found.push(Instance {
+                rule,
+                term,
+                value,
+                premises: premises.to_vec(),
+            });
+        };
+        match (rule, head) {
+            (0 | 1, 0) => {
+                if let (Some(one), Some(two)) = (self.value(args[0]), self.value(args[1])) {
+                    if (one == two) == (rule == 0) {
+                        add(at, 1 - rule, args);
+                    }
+                }
+            }
+            (2, 0) if self.loose || args[0] == args[1] => add(at, 1, &[]),
+            (3, 0) if self.loose && self.is(at, 1) => add(at, 1, &[at]),
+            (3, 0) => {
+                if let Some(premise) = self.true_equality(args[1], args[0]) {
+                    add(at, 1, &[premise]);
+                }
+            }
+            (4, 0) if self.is(at, 1) => {
+                for (right, next) in self.equalities_of(args[1]) {
+                    if let Some(term) = self.equality(args[0], right).filter(|_| self.is(next, 1)) {
+                        add(term, 1, &[at, next]);
+                    }
+                }
+            }
+            (5, 1) => {
+                if let Some(value) = self.value(at) {
+                    add(args[0], 1 - value, &[at]);
+                    if self.loose {
+                        add(args[0], value, &[at]);
+                    }
+                }
+            }
+            (6 | 7, 2 | 3) if self.loose => {
+                let Some(value) = self.value(at) else {
+                    return;
+                };
+                for position in 0..args.len() {
+                    let mut premises = args.to_vec();
+                    let term = premises.remove(position);
+                    premises.insert(0, at);
+                    premises.truncate(if rule == 6 { 1 } else { 4 });
+                    add(term, value, &premises);
+                }
+            }
+            (6, 2 | 3) if self.is(at, 3 - head) => {
+                for &arg in args {
+                    add(arg, 3 - head, &[at]);
+                }
+            }
+            (7, 2 | 3) if self.is(at, head - 2) => {
+                for position in 0..args.len() {
+                    let mut premises = args.to_vec();
+                    let term = premises.remove(position);
+                    if premises.iter().all(|&other| self.is(other, 3 - head)) {
+                        premises.insert(0, at);
+                        add(term, head - 2, &premises);
+                    }
+                }
+            }
+            (8, 1..=3) => {
+                let values: Option<Vec<u16>> = args.iter().map(|&arg| self.value(arg)).collect();
+                if let Some(values) = values {
+                    let value = match head {
+                        1 => 1 - values[0],
+                        2 => *values.iter().min().unwrap(),
+                        _ => *values.iter().max().unwrap(),
+                    };
+                    add(at, value, args);
+                }
+            }
+            (9, 0) => {
+                let ((left, one), (right, two)) = (self.term(args[0]), self.term(args[1]));
+                if (left == right && left >= 4) || (self.loose && one.len() == two.len()) {
+                    if let Some(premises) = self.equal_args(&one, &two) {
+                        add(at, 1, &premises);
+                    }
+                }
+            }
+            (10, _) if self.model.is_prop(at) && (self.loose || head >= 16) => {
+                let Some(value) = self.value(at) else {
+                    return;
+                };
+                for term in 0..self.model.terms.len() as u16 {
+                    let (other, others) = self.term(term);
+                    let alike =
+                        self.loose && others.len() == args.len() && self.model.is_prop(term);
+                    if other == head || alike {
+                        if let Some(mut premises) = self.equal_args(args, &others) {
+                            premises.insert(0, at);
+                            add(term, value, &premises);
+                        }
+                    }
+                }
+            }
+            (11 | 12, 0) => {
+                let ((left, one), (right, two)) = (self.term(args[0]), self.term(args[1]));
+                if left != 4 || self.term(one[0]).0 != 5 {
+                    return;
+                }
+                let store = self.term(one[0]).1;
+                if rule == 11 && one[1] == store[1] && args[1] == store[2] {
+                    add(at, 1, &[]);
+                }
+                if rule == 12 && right == 4 && two == [store[0], one[1]] {
+                    if let Some(premise) = self
+                        .equality(store[1], one[1])
+                        .filter(|&row| self.is(row, 0))
+                    {
+                        add(at, 1, &[premise]);
+                    }
+                }
+            }
+            _ => (),
+        }
+    }
+
+    /// The right sides and the rows of the equalities with this left side.
+    fn equalities_of(&self, left: u16) -> Vec<(u16, u16)> {
+        (0..self.model.terms.len() as u16)
+            .filter_map(|term| {
+                let row = self.model.terms[usize::from(term)];
+                (row[0] == 0 && row[2] == left).then_some((row[3], term))
+            })
+            .collect()
+    }
+
+    /// A step that is refused with the number, if one is soon found.
+    fn barred(&mut self, target: u16) -> Option<Row> {
+        let in_conflict = self.model.conflict.is_some();
+        let fits = match target {
+            9..=11 | 22 => true,
+            12..=16 => !in_conflict,
+            _ => in_conflict,
+        };
+        if !fits {
+            return None;
+        }
+        (0..25).find_map(|_| {
+            let row = self.attempt();
+            (self.model.next(&row).err() == Some(target)).then_some(row)
+        })
+    }
+
+    /// A step that may or may not be allowed, near one that is.
+    fn attempt(&mut self) -> Row {
+        if self.model.conflict.is_some() && self.rng.percent(70) {
+            return self.conflict_step();
+        }
+        if self.model.conflict.is_none() && self.rng.percent(60) {
+            if let Some(row) = (0..4).find_map(|_| self.near_miss()) {
+                return row;
+            }
+        }
+        let mut row = match self.rng.below(12) {
+            0 => self.noise(),
+            1 => self.conflict_step(),
+            2..=4 => self.decision().unwrap_or([X; 9]),
+            5 => self.allowed().unwrap_or([X; 9]),
+            _ => self.any_use(),
+        };
+        if self.rng.percent(35) {
+            self.garble(&mut row);
+        }
+        row
+    }
+
+    /// A use of some rule as a deduction or a clash, or else a decision.
+    fn any_use(&mut self) -> Row {
+        let step = self.rng.within(1, 2) as u16;
+        for _ in 0..6 {
+            let rule = *self.rng.pick(&TRIED);
+            let found = self.instances(rule);
+            if !found.is_empty() {
+                return self.rng.pick(&found).row(step);
+            }
+        }
+        self.decision().unwrap_or([X; 9])
+    }
+
+    /// A rule's use as it would be if a few terms had other values than they have,
+    /// or with another term of the same head somewhere, or only close to a use.
+    fn near_miss(&mut self) -> Option<Row> {
+        let rule = *self.rng.pick(&TRIED);
+        let step = self.rng.within(1, 2) as u16;
+        let real = self.values.clone();
+        let swapped = self.rng.percent(40);
+        for value in &mut self.values {
+            if !swapped && self.rng.percent(20) {
+                *value = Some(self.rng.below(2) as u16);
+            }
+        }
+        self.loose = self.rng.percent(50);
+        let found = self.instances(rule);
+        self.loose = false;
+        self.values = real;
+        if found.is_empty() {
+            return None;
+        }
+        let mut row = self.rng.pick(&found).row(step);
+        if swapped {
+            let filled: Vec<usize> = [2, 4, 5, 6, 7, 8]
+                .into_iter()
+                .filter(|&column| row[column] != X)
+                .collect();
+            let column = *self.rng.pick(&filled);
+            let (head, args) = self.term(row[column]);
+            let close = self.rng.percent(70);
+            row[column] = self.any_row(|grower, term| {
+                let (other, others) = grower.term(term);
+                let shares = args.iter().any(|arg| others.contains(arg));
+                other == head && term != row[column] && (shares || !close)
+            })?;
+        }
+        Some(row)
+    }
+
+    fn conflict_step(&mut self) -> Row {
+        let members = self.model.conflict.clone().unwrap_or_default();
+        let any = |rng: &mut Rng| match members.is_empty() || rng.percent(15) {
+            true => Self::any_term(rng, &self.model),
+            false => *rng.pick(&members),
+        };
+        let kind = self.rng.within(3, 6) as u16;
+        let mut made = row(kind, X, any(self.rng), X, &[]);
+        if kind == 6 {
+            made[4] = any(self.rng);
+        }
+        made
+    }
+
+    fn any_term(rng: &mut Rng, model: &Model) -> u16 {
+        match model.terms.len() {
+            0 => 0,
+            count => rng.below(count) as u16,
+        }
+    }
+
+    /// Changes a column or two of the row.
+    fn garble(&mut self, row: &mut Row) {
+        let count = row[4..].iter().filter(|&&premise| premise != X).count();
+        match self.rng.below(7) {
+            0 => row[3] = self.number(),
+            1 => row[1] = self.rng.below(14) as u16,
+            2 if count > 0 => row[3 + count] = X,
+            3 if count < 5 => row[4 + count] = Self::any_term(self.rng, &self.model),
+            4 if count > 1 => row.swap(4, 5),
+            5 if row[3] < 2 => row[3] = 1 - row[3],
+            _ => {
+                let column = self.rng.below(9);
+                row[column] = match self.rng.percent(70) {
+                    true => Self::any_term(self.rng, &self.model),
+                    false => self.number(),
+                };
+            }
+        }
+    }
+
+    fn noise(&mut self) -> Row {
+        let mut made = [X; 9];
+        for column in &mut made {
+            if self.rng.percent(60) {
+                *column = self.number();
+            }
+        }
+        if self.rng.percent(70) {
+            made[0] = self.rng.below(7) as u16;
+        }
+        made
+    }
+
+    /// A number of the kind that makes a difference.
+    fn number(&mut self) -> u16 {
+        let count = self.model.terms.len();
+        match self.rng.below(8) {
+            0 => X,
+            1 => 65_534,
+            2 => count as u16,
+            3 => self.rng.below(65_536) as u16,
+            4 => self.rng.below(17) as u16,
+            5 => 256,
+            _ => self.rng.below(count + 1) as u16,
+        }
+    }
+}

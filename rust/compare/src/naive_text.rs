@@ -1,0 +1,213 @@
+//! A second reader of the text form, slow on purpose: the whole text as a list
+//! of lines, each line as a list of fields, names looked for one by one.
+
+use plain::Read;
+
+const X: u16 = 65_535;
+const UNKNOWN: u16 = 65_534;
+
+const HEADERS: [&str; 4] = [
+    "sort index value",
+    "term head sort a b c d",
+    "term value",
+    "step rule term value p q r s t",
+];
+pub const STEP_WORDS: [&str; 7] = [
+    "decide", "deduce", "clash", "resolve", "clear", "jump", "flip",
+];
+pub const RULE_WORDS: [&str; 13] = [
+    "same", "differ", "refl", "sym", "trans", "neg", "part", "unit", "eval", "cong", "pred",
+    "read", "skip",
+];
+pub const HEAD_WORDS: [&str; 6] = ["eq", "not", "and", "or", "select", "store"];
+
+#[derive(Default)]
+struct Parsed {
+    sorts: Vec<String>,
+    terms: Vec<String>,
+    heads: Vec<String>,
+    rows: Rows,
+}
+
+/// Reads the text into the four sheets.
+pub fn read(text: &[u8], sheets: &mut [Vec<u16>; 4]) -> Read {
+    for sheet in sheets.iter_mut() {
+        sheet.iter_mut().for_each(|number| *number = 0);
+    }
+    let mut result = Read {
+        number: 0,
+        rows: [0; 4],
+        line: 0,
+        place: 0,
+    };
+    match parse(text) {
+        Err((number, line, place)) => {
+            result.number = number;
+            result.line = line as u64;
+            result.place = place;
+        }
+        Ok(rows) => {
+            let numbers: [Vec<u16>; 4] = rows.clone().map(|rows| rows.concat());
+            if (0..4).any(|at| sheets[at].len() < numbers[at].len()) {
+                result.number = 32;
+            } else {
+                for at in 0..4 {
+                    sheets[at][..numbers[at].len()].copy_from_slice(&numbers[at]);
+                    result.rows[at] = rows[at].len() as u16;
+                }
+            }
+        }
+    }
+    result
+}
+
+/// The rows of the four sheets.
+type Rows = [Vec<Vec<u16>>; 4];
+
+/// The rows, or the first bad line: number, line, place.
+fn parse(text: &[u8]) -> Result<Rows, (u16, usize, u64)> {
+    let mut lines: Vec<&[u8]> = text.split(|&byte| byte == b'\n').collect();
+    let unfinished = lines.pop().unwrap();
+    let mut parsed = Parsed::default();
+    let mut sheet = 0;
+    let mut header = true;
+    for (at, line) in lines.iter().enumerate() {
+        if header {
+            if *line != HEADERS[sheet].as_bytes() {
+                return Err((31, at + 1, 0));
+            }
+            header = false;
+        } else if line.is_empty() && sheet < 3 {
+            sheet += 1;
+            header = true;
+        } else {
+            parsed
+                .line(sheet, line)
+                .map_err(|(number, place)| (number, at + 1, place))?;
+        }
+    }
+    if sheet < 3 || header || !unfinished.is_empty() {
+        return Err((31, lines.len() + 1, 0));
+    }
+    Ok(parsed.rows)
+}
+
+impl Parsed {
+    fn line(&mut self, sheet: usize, line: &[u8]) -> Result<(), (u16, u64)> {
+        let fields: Vec<&[u8]> = line.split(|&byte| byte == b' ').collect();
+        for field in &fields {
+            let good = field.iter().all(|byte| (33..=126).contains(byte));
+            if !good || field.is_empty() || field.len() > 64 {
+                return Err((31, 0));
+            }
+        }
+        if fields.len() != [3, 7, 2, 9][sheet] {
+            return Err((31, 0));
+        }
+        let fields: Vec<&str> = fields
+            .iter()
+            .map(|field| std::str::from_utf8(field).unwrap())
+            .collect();
+        let value_at = [usize::MAX, usize::MAX, 1, 3][sheet];
+        let mut value = 0;
+        if value_at < fields.len() {
+            value = value_of(fields[value_at]).ok_or((31, value_at as u64 + 1))?;
+        }
+        if self.rows[sheet].len() == [32, 256, 256, 1_024][sheet] {
+            return Err((30, 0));
+        }
+        if sheet < 2 {
+            let own = if sheet == 0 { &self.sorts } else { &self.terms };
+            if fields[0] == "prop" || fields[0] == "-" || own.iter().any(|name| name == fields[0]) {
+                return Err((2, 1));
+            }
+        }
+        let row = self.row(sheet, &fields, value);
+        self.rows[sheet].push(row);
+        Ok(())
+    }
+
+    fn row(&mut self, sheet: usize, fields: &[&str], value: u16) -> Vec<u16> {
+        match sheet {
+            0 => {
+                let row = vec![self.sort(fields[1]), self.sort(fields[2])];
+                self.sorts.push(fields[0].to_string());
+                row
+            }
+            1 => {
+                let mut row = vec![self.head(fields[1]), self.sort(fields[2])];
+                row.extend(fields[3..].iter().map(|name| self.term(name)));
+                self.terms.push(fields[0].to_string());
+                row
+            }
+            2 => vec![self.term(fields[0]), value],
+            _ => {
+                let mut row = vec![
+                    word(&STEP_WORDS, fields[0]),
+                    word(&RULE_WORDS, fields[1]),
+                    self.term(fields[2]),
+                    value,
+                ];
+                row.extend(fields[4..].iter().map(|name| self.term(name)));
+                row
+            }
+        }
+    }
+
+    fn sort(&self, name: &str) -> u16 {
+        match name {
+            "-" => X,
+            "prop" => 0,
+            _ => match self.sorts.iter().position(|other| other == name) {
+                Some(at) => at as u16 + 1,
+                None => UNKNOWN,
+            },
+        }
+    }
+
+    fn term(&self, name: &str) -> u16 {
+        match name {
+            "-" => X,
+            _ => match self.terms.iter().position(|other| other == name) {
+                Some(at) => at as u16,
+                None => UNKNOWN,
+            },
+        }
+    }
+
+    fn head(&mut self, name: &str) -> u16 {
+        if name == "-" {
+            return X;
+        }
+        if let Some(at) = HEAD_WORDS.iter().position(|word| *word == name) {
+            return at as u16;
+        }
+        if !self.heads.iter().any(|other| other == name) {
+            self.heads.push(name.to_string());
+        }
+        16 + self.heads.iter().position(|other| other == name).unwrap() as u16
+    }
+}
+
+fn word(words: &[&str], name: &str) -> u16 {
+    if name == "-" {
+        return X;
+    }
+    match words.iter().position(|word| *word == name) {
+        Some(at) => at as u16,
+        None => UNKNOWN,
+    }
+}
+
+/// A decimal without leading zeros is one that prints as it was written.
+fn value_of(field: &str) -> Option<u16> {
+    match field {
+        "-" => Some(X),
+        "true" => Some(1),
+        "false" => Some(0),
+        _ => {
+            let number: u16 = field.parse().ok()?;
+            (number != X && number.to_string() == field).then_some(number)
+        }
+    }
+}

@@ -1,0 +1,426 @@
+//! The trail, the conflict and the steps.
+
+use crate::problem::{self, Terms, PROP};
+use crate::rules::{Premises, View, RULES};
+use crate::set::Set;
+use crate::{BLANK, ENTRY_COLUMNS, INPUT_COLUMNS, MAX_TERMS, OPEN, REFUSED, REFUTED, STEP_COLUMNS};
+
+/// The kinds of steps, in the order of their numbers.
+const DECIDE: u16 = 0;
+const DEDUCE: u16 = 1;
+const CLASH: u16 = 2;
+const RESOLVE: u16 = 3;
+const CLEAR: u16 = 4;
+const JUMP: u16 = 5;
+const FLIP: u16 = 6;
+
+/// What the trail says of a term. The value is blank for a term not on it, and
+/// then the rest counts for nothing.
+#[derive(Clone, Copy)]
+#[repr(align(8))]
+pub struct Entry {
+    pub value: u16,
+    pub level: u16,
+    pub decision: bool,
+}
+
+/// The decision that opened a level: its term and its place on the trail.
+#[derive(Clone, Copy)]
+struct Opened {
+    row: u8,
+    place: u8,
+}
+
+/// A conflict, with its level, which is 0 in the search state.
+///
+/// The level is that of the clash for good: resolving trades an entry for a
+/// justification of the same level.
+struct Conflict {
+    set: Set,
+    level: u16,
+}
+
+/// The state of a run.
+///
+/// The levels on the trail are 0 to `top` without a gap, and each level from 1
+/// on has one decision, the first entry of its level or above.
+pub struct State {
+    terms: Terms,
+    entries: [Entry; MAX_TERMS],
+    reasons: [Set; MAX_TERMS],
+    order: [u8; MAX_TERMS],
+    len: usize,
+    opened: [Opened; MAX_TERMS],
+    top: u16,
+    conflict: Conflict,
+}
+
+impl State {
+    /// The state before the first step; 1 or 3 to 8 if a sheet is in trouble.
+    pub fn new(sorts: &[u16], terms: &[u16], inputs: &[u16]) -> Result<State, u16> {
+        let mut state = State {
+            terms: problem::check(sorts, terms)?,
+            entries: [Entry {
+                value: BLANK,
+                level: 0,
+                decision: false,
+            }; MAX_TERMS],
+            reasons: [Set::EMPTY; MAX_TERMS],
+            order: [0; MAX_TERMS],
+            len: 0,
+            opened: [Opened { row: 0, place: 0 }; MAX_TERMS],
+            top: 0,
+            conflict: Conflict {
+                set: Set::EMPTY,
+                level: 0,
+            },
+        };
+        for &[term, value] in inputs.as_chunks::<INPUT_COLUMNS>().0 {
+            let Some(row) = state.row(term) else {
+                return Err(6);
+            };
+            if value == BLANK || !state.takes(row, value) {
+                return Err(7);
+            }
+            if state.is_assigned(row) {
+                return Err(8);
+            }
+            state.justify(row, value, 0);
+        }
+        Ok(state)
+    }
+
+    /// Runs the steps: verdict, steps allowed, number.
+    pub fn run(&mut self, steps: &[u16]) -> (u16, u16, u16) {
+        let mut allowed = 0;
+        for step in steps.as_chunks::<STEP_COLUMNS>().0 {
+            match self.step(step) {
+                Ok(false) => allowed += 1,
+                Ok(true) => return (REFUTED, allowed + 1, 0),
+                Err(number) => return (REFUSED, allowed, number),
+            }
+        }
+        (OPEN, allowed, 0)
+    }
+
+    /// Writes the entries to the trail buffer and returns how many there are.
+    pub fn write(&self, trail: &mut [u16]) -> u16 {
+        let rows = trail.as_chunks_mut::<ENTRY_COLUMNS>().0;
+        for (out, &row) in rows.iter_mut().zip(&self.order[..self.len]) {
+            let entry = self.entry(row);
+            *out = [
+                u16::from(row),
+                entry.value,
+                entry.level,
+                u16::from(entry.decision),
+            ];
+        }
+        self.len as u16
+    }
+
+    /// Takes one step; true if it refuted the input.
+    fn step(&mut self, step: &[u16; STEP_COLUMNS]) -> Result<bool, u16> {
+        let [kind, rule, term, value, premises @ ..] = *step;
+        match kind {
+            DECIDE => {
+                let wanted = term != BLANK && value != BLANK;
+                if !wanted || rule != BLANK || premises != [BLANK; 5] {
+                    return Err(9);
+                }
+                self.decide(term, value)?;
+            }
+            DEDUCE | CLASH => {
+                let Some(count) = from_left(&premises) else {
+                    return Err(9);
+                };
+                if rule >= RULES || term == BLANK || value > 1 {
+                    return Err(9);
+                }
+                if self.in_conflict() {
+                    return Err(10);
+                }
+                let (row, premises) = self.inference(rule, term, value, &premises, count)?;
+                if kind == CLASH {
+                    return self.clash(row, value, &premises);
+                }
+                self.deduce(row, value, &premises)?;
+            }
+            RESOLVE | CLEAR | JUMP | FLIP => {
+                let [second, others @ ..] = premises;
+                if rule != BLANK
+                    || term == BLANK
+                    || value != BLANK
+                    || (second == BLANK) == (kind == FLIP)
+                    || others != [BLANK; 4]
+                {
+                    return Err(9);
+                }
+                if !self.in_conflict() {
+                    return Err(10);
+                }
+                let row = self.row(term).ok_or(11u16)?;
+                match kind {
+                    RESOLVE => self.resolve(row)?,
+                    CLEAR => self.clear(row)?,
+                    JUMP => self.jump(row)?,
+                    _ => self.flip(row, self.row(second).ok_or(11u16)?)?,
+                }
+            }
+            _ => return Err(9),
+        }
+        Ok(false)
+    }
+
+    fn decide(&mut self, term: u16, value: u16) -> Result<(), u16> {
+        if self.in_conflict() {
+            return Err(10);
+        }
+        let row = self.row(term).ok_or(11u16)?;
+        if !self.takes(row, value) {
+            return Err(22);
+        }
+        if self.is_assigned(row) {
+            return Err(14);
+        }
+        self.open(row, value);
+        Ok(())
+    }
+
+    /// What deduce and clash share: the numbers 11, 22, 12 and 13.
+    #[inline]
+    fn inference(
+        &self,
+        rule: u16,
+        term: u16,
+        value: u16,
+        columns: &[u16; 5],
+        count: usize,
+    ) -> Result<(u8, Premises), u16> {
+        let row = self.row(term).ok_or(11u16)?;
+        let mut premises = Premises {
+            rows: [0; 5],
+            len: count,
+            level: 0,
+        };
+        let mut on_trail = true;
+        for (to, &column) in premises.rows.iter_mut().zip(&columns[..count]) {
+            *to = self.row(column).ok_or(11u16)?;
+            let entry = self.entry(*to);
+            on_trail &= entry.value != BLANK;
+            premises.level = premises.level.max(entry.level);
+        }
+        if self.sort(row) != PROP {
+            return Err(22);
+        }
+        if !on_trail {
+            return Err(12);
+        }
+        let view = View {
+            terms: &self.terms.terms,
+            entries: &self.entries,
+        };
+        if !view.gives(rule, row, value, &premises) {
+            return Err(13);
+        }
+        Ok((row, premises))
+    }
+
+    fn deduce(&mut self, row: u8, value: u16, premises: &Premises) -> Result<(), u16> {
+        if self.is_assigned(row) {
+            let there = self.entry(row).value;
+            return Err(if there == value { 14 } else { 15 });
+        }
+        self.reasons[usize::from(row)].set_to(premises.rows());
+        self.justify(row, value, premises.level);
+        Ok(())
+    }
+
+    fn clash(&mut self, row: u8, value: u16, premises: &Premises) -> Result<bool, u16> {
+        let opposite = self.entry(row);
+        if opposite.value != 1 - value {
+            return Err(16);
+        }
+        self.conflict.level = premises.level.max(opposite.level);
+        self.conflict.set.set_to(premises.rows());
+        self.conflict.set.insert(row);
+        Ok(self.conflict.level == 0)
+    }
+
+    fn resolve(&mut self, row: u8) -> Result<(), u16> {
+        if !self.conflict.set.contains(row) {
+            return Err(17);
+        }
+        if self.entry(row).decision {
+            return Err(18);
+        }
+        let reason = &self.reasons[usize::from(row)];
+        if self.bar().is_some_and(|bar| reason.contains(bar)) {
+            return Err(19);
+        }
+        self.conflict.set.remove(row);
+        self.conflict.set.add_all(reason);
+        Ok(())
+    }
+
+    fn clear(&mut self, row: u8) -> Result<(), u16> {
+        if !self.conflict.set.contains(row) {
+            return Err(17);
+        }
+        let entry = *self.entry(row);
+        if !entry.decision || self.sort(row) == PROP {
+            return Err(20);
+        }
+        if entry.level <= self.level_of_rest(row) {
+            return Err(21);
+        }
+        self.keep(entry.level - 1);
+        Ok(())
+    }
+
+    fn jump(&mut self, row: u8) -> Result<(), u16> {
+        if !self.conflict.set.contains(row) {
+            return Err(17);
+        }
+        if self.sort(row) != PROP {
+            return Err(22);
+        }
+        let entry = *self.entry(row);
+        let level = self.level_of_rest(row);
+        if entry.level <= level {
+            return Err(21);
+        }
+        self.keep(level);
+        let reason = &mut self.reasons[usize::from(row)];
+        *reason = self.conflict.set;
+        reason.remove(row);
+        self.justify(row, 1 - entry.value, level);
+        Ok(())
+    }
+
+    fn flip(&mut self, row: u8, other: u8) -> Result<(), u16> {
+        if !self.conflict.set.contains(row) || !self.conflict.set.contains(other) {
+            return Err(17);
+        }
+        if self.sort(row) != PROP {
+            return Err(22);
+        }
+        let entry = *self.entry(row);
+        if entry.decision || self.entry(other).decision {
+            return Err(18);
+        }
+        let shared = self.bar().is_some_and(|bar| {
+            self.reasons[usize::from(row)].contains(bar)
+                && self.reasons[usize::from(other)].contains(bar)
+        });
+        if row == other || !shared {
+            return Err(23);
+        }
+        self.keep(self.conflict.level - 1);
+        self.open(row, 1 - entry.value);
+        Ok(())
+    }
+
+    fn in_conflict(&self) -> bool {
+        self.conflict.level > 0
+    }
+
+    /// The decision at the level of the conflict, if its term is not of sort
+    /// prop: it bars resolving, and it is what flip's two members share.
+    fn bar(&self) -> Option<u8> {
+        let row = self.opened[usize::from(self.conflict.level) - 1].row;
+        (self.sort(row) != PROP).then_some(row)
+    }
+
+    /// Keeps the entries of level at most `level`, in order, and goes back to
+    /// the search. Nothing above the level comes before the decision that opened
+    /// the next one.
+    fn keep(&mut self, level: u16) {
+        let from = usize::from(self.opened[usize::from(level)].place);
+        let mut to = from;
+        for place in from..self.len {
+            let row = self.order[place];
+            let entry = &mut self.entries[usize::from(row)];
+            if entry.level <= level {
+                self.order[to] = row;
+                to += 1;
+            } else {
+                entry.value = BLANK;
+            }
+        }
+        self.len = to;
+        self.top = level;
+        self.conflict.level = 0;
+    }
+
+    /// The greatest level of the conflict without a member.
+    fn level_of_rest(&self, without: u8) -> u16 {
+        let mut level = 0;
+        self.conflict.set.for_each(|row| {
+            if row != without {
+                level = level.max(self.entry(row).level);
+            }
+        });
+        level
+    }
+
+    /// Adds a decision.
+    fn open(&mut self, row: u8, value: u16) {
+        self.opened[usize::from(self.top)] = Opened {
+            row,
+            place: self.len as u8,
+        };
+        self.top += 1;
+        self.entries[usize::from(row)] = Entry {
+            value,
+            level: self.top,
+            decision: true,
+        };
+        self.push(row);
+    }
+
+    /// Adds an entry whose justification, of the given level, is in place.
+    fn justify(&mut self, row: u8, value: u16, level: u16) {
+        self.entries[usize::from(row)] = Entry {
+            value,
+            level,
+            decision: false,
+        };
+        self.push(row);
+    }
+
+    fn push(&mut self, row: u8) {
+        self.order[self.len] = row;
+        self.len += 1;
+    }
+
+    /// The term row of a column, if there is one of that number.
+    fn row(&self, column: u16) -> Option<u8> {
+        (column < self.terms.rows).then_some(column as u8)
+    }
+
+    fn entry(&self, row: u8) -> &Entry {
+        &self.entries[usize::from(row)]
+    }
+
+    fn is_assigned(&self, row: u8) -> bool {
+        self.entry(row).value != BLANK
+    }
+
+    fn sort(&self, row: u8) -> u8 {
+        self.terms.terms[usize::from(row)].sort
+    }
+
+    /// Whether the term's sort has the value.
+    fn takes(&self, row: u8, value: u16) -> bool {
+        self.sort(row) != PROP || value <= 1
+    }
+}
+
+/// How many premises are filled, if they are filled from the left.
+fn from_left(premises: &[u16; 5]) -> Option<usize> {
+    let mut filled = 0u32;
+    for (at, &premise) in premises.iter().enumerate() {
+        filled |= u32::from(premise != BLANK) << at;
+    }
+    (filled & (filled + 1) == 0).then_some(filled.count_ones() as usize)
+}

@@ -1,0 +1,428 @@
+//! The four sheets as text.
+
+use crate::{
+    BLANK, INPUT_COLUMNS, MAX_INPUTS, MAX_SORTS, MAX_TERMS, SORT_COLUMNS, STEP_COLUMNS,
+    TERM_COLUMNS,
+};
+
+/// The greatest number of step lines of a text.
+pub const MAX_TEXT_STEPS: usize = 1_024;
+
+const MAX_NAME: usize = 64;
+const MAX_FIELDS: usize = 9;
+
+/// What a name or word stands for that nothing gave.
+const UNKNOWN: u16 = 65_534;
+
+const HEADERS: [&[u8]; 4] = [
+    b"sort index value",
+    b"term head sort a b c d",
+    b"term value",
+    b"step rule term value p q r s t",
+];
+
+/// Fields of a line of each sheet; the names of sorts and terms are no columns.
+const FIELDS: [usize; 4] = [
+    1 + SORT_COLUMNS,
+    1 + TERM_COLUMNS,
+    INPUT_COLUMNS,
+    STEP_COLUMNS,
+];
+const COLUMNS: [usize; 4] = [SORT_COLUMNS, TERM_COLUMNS, INPUT_COLUMNS, STEP_COLUMNS];
+const CEILINGS: [usize; 4] = [MAX_SORTS, MAX_TERMS, MAX_INPUTS, MAX_TEXT_STEPS];
+
+/// The result of reading a text: 0 or the number of the trouble, the rows of
+/// each sheet, and the first bad line with the field at fault, both from 1.
+///
+/// The rows are 0 after any trouble. The line is 0 with no bad line, the place 0
+/// where a line as a whole is at fault.
+#[derive(Clone, Copy, Debug, PartialEq, Eq)]
+pub struct Read {
+    pub number: u16,
+    pub rows: [u16; 4],
+    pub line: u64,
+    pub place: u64,
+}
+
+/// What is wrong with a line.
+enum Fault {
+    /// Bytes, spacing, length of a field, number of fields, a header that is not
+    /// the expected one, an empty line, an end of the file inside the line.
+    Shape,
+    /// A field, counted from 1, that is no value.
+    Value(u64),
+    /// A row too many.
+    Ceiling,
+    /// A name repeated or reserved.
+    Name,
+}
+
+impl Fault {
+    /// The number and the place that a fault is reported with.
+    fn report(&self) -> (u16, u64) {
+        match *self {
+            Fault::Shape => (31, 0),
+            Fault::Value(field) => (31, field),
+            Fault::Ceiling => (30, 0),
+            Fault::Name => (2, 1),
+        }
+    }
+}
+
+/// Reads a text into the four sheets.
+///
+/// The sheets hold the rows and then zeros; they are all zero after any trouble.
+pub fn read(
+    text: &[u8],
+    sorts: &mut [u16],
+    terms: &mut [u16],
+    inputs: &mut [u16],
+    steps: &mut [u16],
+) -> Read {
+    let mut sheets = [sorts, terms, inputs, steps];
+    let mut reader = Reader::new(text);
+    let mut result = Read {
+        number: 0,
+        rows: [0; 4],
+        line: 0,
+        place: 0,
+    };
+    if let Err(fault) = reader.sheets(&mut sheets) {
+        (result.number, result.place) = fault.report();
+        result.line = reader.line;
+    } else if (0..4).any(|at| sheets[at].len() < reader.rows[at] * COLUMNS[at]) {
+        result.number = 32;
+    } else {
+        result.rows = reader.rows.map(|rows| rows as u16);
+    }
+    for at in 0..4 {
+        let used = usize::from(result.rows[at]) * COLUMNS[at];
+        sheets[at][used..].fill(0);
+    }
+    result
+}
+
+/// A field of a line, with the hash of its bytes.
+#[derive(Clone, Copy)]
+struct Field<'a> {
+    bytes: &'a [u8],
+    hash: u32,
+}
+
+impl Field<'_> {
+    fn is_blank(&self) -> bool {
+        self.bytes == b"-"
+    }
+}
+
+struct Reader<'a> {
+    text: &'a [u8],
+    /// Where the next line begins.
+    next: usize,
+    /// The number of the line last begun.
+    line: u64,
+    rows: [usize; 4],
+    sorts: Names<'a>,
+    terms: Names<'a>,
+    heads: Names<'a>,
+    fields: [Field<'a>; MAX_FIELDS],
+    count: usize,
+}
+
+impl<'a> Reader<'a> {
+    fn new(text: &'a [u8]) -> Self {
+        Reader {
+            text,
+            next: 0,
+            line: 0,
+            rows: [0; 4],
+            sorts: Names::new(),
+            terms: Names::new(),
+            heads: Names::new(),
+            fields: [Field {
+                bytes: b"",
+                hash: 0,
+            }; MAX_FIELDS],
+            count: 0,
+        }
+    }
+
+    fn sheets(&mut self, sheets: &mut [&mut [u16]; 4]) -> Result<(), Fault> {
+        for (at, sheet) in sheets.iter_mut().enumerate() {
+            self.header(HEADERS[at])?;
+            while !(at == 3 && self.next == self.text.len()) && self.row(at)? {
+                self.store(at, sheet)?;
+            }
+        }
+        Ok(())
+    }
+
+    fn header(&mut self, header: &[u8]) -> Result<(), Fault> {
+        self.line += 1;
+        let rest = &self.text[self.next..];
+        if !rest.starts_with(header) || rest.get(header.len()) != Some(&b'\n') {
+            return Err(Fault::Shape);
+        }
+        self.next += header.len() + 1;
+        Ok(())
+    }
+
+    /// Takes a line of a sheet apart; false for the empty line after it.
+    fn row(&mut self, at: usize) -> Result<bool, Fault> {
+        self.line += 1;
+        if self.text.get(self.next) == Some(&b'\n') {
+            self.next += 1;
+            return if at < 3 { Ok(false) } else { Err(Fault::Shape) };
+        }
+        self.split()?;
+        if self.count != FIELDS[at] {
+            return Err(Fault::Shape);
+        }
+        Ok(true)
+    }
+
+    /// Splits the line that begins here into fields, to its newline.
+    fn split(&mut self) -> Result<(), Fault> {
+        let text = self.text;
+        let mut begin = self.next;
+        let mut count = 0;
+        loop {
+            let mut hash = 0u32;
+            let mut end = begin;
+            let stop = loop {
+                match text.get(end) {
+                    Some(&byte @ 33..=126) => {
+                        hash = (hash ^ u32::from(byte)).wrapping_mul(0x0100_0193)
+                    }
+                    Some(&stop) => break stop,
+                    None => return Err(Fault::Shape),
+                }
+                end += 1;
+            };
+            let bytes = &text[begin..end];
+            if bytes.is_empty() || bytes.len() > MAX_NAME || count == MAX_FIELDS {
+                return Err(Fault::Shape);
+            }
+            self.fields[count] = Field { bytes, hash };
+            count += 1;
+            begin = end + 1;
+            match stop {
+                b' ' => (),
+                b'\n' => break,
+                _ => return Err(Fault::Shape),
+            }
+        }
+        self.count = count;
+        self.next = begin;
+        Ok(())
+    }
+
+    /// Puts the fields of the line into the sheet as its next row, in so far as
+    /// it has room.
+    fn store(&mut self, at: usize, sheet: &mut [u16]) -> Result<(), Fault> {
+        let mut row = [0; STEP_COLUMNS];
+        let row = &mut row[..COLUMNS[at]];
+        let number = self.rows[at];
+        let fields = self.fields;
+        match at {
+            0 => {
+                self.named(at, fields[0])?;
+                row[0] = self.sort(&fields[1]);
+                row[1] = self.sort(&fields[2]);
+                self.sorts.add(fields[0]);
+            }
+            1 => {
+                self.named(at, fields[0])?;
+                row[0] = self.head(fields[1]);
+                row[1] = self.sort(&fields[2]);
+                for (to, field) in row[2..].iter_mut().zip(&fields[3..]) {
+                    *to = self.term(field);
+                }
+                self.terms.add(fields[0]);
+            }
+            2 => {
+                row[1] = value(&fields[1]).ok_or(Fault::Value(2))?;
+                self.room(at)?;
+                row[0] = self.term(&fields[0]);
+            }
+            _ => {
+                row[3] = value(&fields[3]).ok_or(Fault::Value(4))?;
+                self.room(at)?;
+                row[0] = step_word(&fields[0]);
+                row[1] = rule_word(&fields[1]);
+                row[2] = self.term(&fields[2]);
+                for (to, field) in row[4..].iter_mut().zip(&fields[4..]) {
+                    *to = self.term(field);
+                }
+            }
+        }
+        let begin = number * row.len();
+        if let Some(to) = sheet.get_mut(begin..begin + row.len()) {
+            to.copy_from_slice(row);
+        }
+        self.rows[at] = number + 1;
+        Ok(())
+    }
+
+    /// Whether the sheet may have another row.
+    fn room(&self, at: usize) -> Result<(), Fault> {
+        if self.rows[at] == CEILINGS[at] {
+            return Err(Fault::Ceiling);
+        }
+        Ok(())
+    }
+
+    /// Whether the sheet may have another row, and of this name.
+    fn named(&self, at: usize, name: Field) -> Result<(), Fault> {
+        self.room(at)?;
+        let names = if at == 0 { &self.sorts } else { &self.terms };
+        if name.is_blank() || name.bytes == b"prop" || names.find(&name).is_some() {
+            return Err(Fault::Name);
+        }
+        Ok(())
+    }
+
+    fn sort(&self, name: &Field) -> u16 {
+        if name.is_blank() {
+            BLANK
+        } else if name.bytes == b"prop" {
+            0
+        } else {
+            self.sorts.find(name).map_or(UNKNOWN, |row| row + 1)
+        }
+    }
+
+    fn term(&self, name: &Field) -> u16 {
+        if name.is_blank() {
+            BLANK
+        } else {
+            self.terms.find(name).unwrap_or(UNKNOWN)
+        }
+    }
+
+    fn head(&mut self, name: Field<'a>) -> u16 {
+        match name.bytes {
+            b"-" => BLANK,
+            b"eq" => 0,
+            b"not" => 1,
+            b"and" => 2,
+            b"or" => 3,
+            b"select" => 4,
+            b"store" => 5,
+            _ => {
+                16 + self
+                    .heads
+                    .find(&name)
+                    .unwrap_or_else(|| self.heads.add(name))
+            }
+        }
+    }
+}
+
+fn step_word(word: &Field) -> u16 {
+    match word.bytes {
+        b"-" => BLANK,
+        b"decide" => 0,
+        b"deduce" => 1,
+        b"clash" => 2,
+        b"resolve" => 3,
+        b"clear" => 4,
+        b"jump" => 5,
+        b"flip" => 6,
+        _ => UNKNOWN,
+    }
+}
+
+fn rule_word(word: &Field) -> u16 {
+    match word.bytes {
+        b"-" => BLANK,
+        b"same" => 0,
+        b"differ" => 1,
+        b"refl" => 2,
+        b"sym" => 3,
+        b"trans" => 4,
+        b"neg" => 5,
+        b"part" => 6,
+        b"unit" => 7,
+        b"eval" => 8,
+        b"cong" => 9,
+        b"pred" => 10,
+        b"read" => 11,
+        b"skip" => 12,
+        _ => UNKNOWN,
+    }
+}
+
+/// A field of a value column: blank, true, false or a decimal to 65,534.
+fn value(field: &Field) -> Option<u16> {
+    match *field.bytes {
+        [b'-'] => Some(BLANK),
+        [digit @ b'0'..=b'9'] => Some(u16::from(digit - b'0')),
+        [b'1'..=b'9', ..] if field.bytes.len() <= 5 => {
+            let mut number = 0u32;
+            for &byte in field.bytes {
+                if !byte.is_ascii_digit() {
+                    return None;
+                }
+                number = 10 * number + u32::from(byte - b'0');
+            }
+            u16::try_from(number).ok().filter(|&number| number != BLANK)
+        }
+        _ => match field.bytes {
+            b"true" => Some(1),
+            b"false" => Some(0),
+            _ => None,
+        },
+    }
+}
+
+/// Twice as many slots as names, so that a free one is always near.
+const SLOTS: usize = 512;
+
+/// Names in the order they were given, found by hash and then by all bytes.
+struct Names<'a> {
+    names: [Field<'a>; MAX_TERMS],
+    len: u16,
+    /// The position of a name plus 1, or 0 for a free slot.
+    slots: [u16; SLOTS],
+}
+
+impl<'a> Names<'a> {
+    fn new() -> Self {
+        Names {
+            names: [Field {
+                bytes: b"",
+                hash: 0,
+            }; MAX_TERMS],
+            len: 0,
+            slots: [0; SLOTS],
+        }
+    }
+
+    /// The slot of the name, or the free one where it would go.
+    fn slot(&self, name: &Field) -> usize {
+        let mut at = (name.hash ^ name.hash >> 16) as usize % SLOTS;
+        while let Some(held) = usize::from(self.slots[at]).checked_sub(1) {
+            let held = &self.names[held];
+            if held.hash == name.hash && held.bytes == name.bytes {
+                break;
+            }
+            at = (at + 1) % SLOTS;
+        }
+        at
+    }
+
+    fn find(&self, name: &Field) -> Option<u16> {
+        self.slots[self.slot(name)].checked_sub(1)
+    }
+
+    /// Adds a name that is not there and returns its position.
+    fn add(&mut self, name: Field<'a>) -> u16 {
+        let slot = self.slot(&name);
+        let position = self.len;
+        self.names[usize::from(position)] = name;
+        self.len += 1;
+        self.slots[slot] = self.len;
+        position
+    }
+}

@@ -1,0 +1,287 @@
+//! The paper's runs, its text and its ceilings.
+
+use plain::{read, run, trail_numbers, work_words, Outcome, Read, BLANK as X};
+
+const OPEN: u16 = 0;
+const REFUTED: u16 = 1;
+const REFUSED: u16 = 2;
+
+const SORTS: &[u16] = &[X, X];
+
+/// a, b, e, fa, fb, g, then not(e) and or(e,g).
+#[rustfmt::skip]
+const TERMS: &[u16] = &[
+    16, 1, X, X, X, X,
+    17, 1, X, X, X, X,
+    0, 0, 0, 1, X, X,
+    18, 1, 0, X, X, X,
+    18, 1, 1, X, X, X,
+    0, 0, 3, 4, X, X,
+    1, 0, 2, X, X, X,
+    3, 0, 2, 5, X, X,
+];
+
+const A: u16 = 0;
+const B: u16 = 1;
+const E: u16 = 2;
+const G: u16 = 5;
+const NOT_E: u16 = 6;
+const E_OR_G: u16 = 7;
+
+fn step(kind: u16, rule: u16, term: u16, value: u16, premises: &[u16]) -> [u16; 9] {
+    let mut row = [X; 9];
+    row[..4].copy_from_slice(&[kind, rule, term, value]);
+    row[4..4 + premises.len()].copy_from_slice(premises);
+    row
+}
+
+fn decide(term: u16, value: u16) -> [u16; 9] {
+    step(0, X, term, value, &[])
+}
+
+fn the_clash() -> [u16; 9] {
+    step(2, 9, G, 1, &[E])
+}
+
+/// Runs on the small board with dirty buffers of the least lengths and returns
+/// the result and the trail.
+fn board(inputs: &[[u16; 2]], steps: &[[u16; 9]]) -> ([u16; 4], Vec<[u16; 4]>) {
+    let n = TERMS.len() / 6;
+    let mut work = vec![u64::MAX; work_words(n)];
+    let mut trail = vec![4242; trail_numbers(n)];
+    let out = run(
+        SORTS,
+        TERMS,
+        &inputs.concat(),
+        &steps.concat(),
+        &mut work,
+        &mut trail,
+    );
+    assert!(work.iter().all(|&word| word == 0));
+    let (entries, rest) = trail.split_at(4 * usize::from(out.entries));
+    assert!(rest.iter().all(|&number| number == 4242));
+    let entries = entries.chunks(4).map(|c| c.try_into().unwrap());
+    (
+        [out.verdict, out.steps, out.number, out.entries],
+        entries.collect(),
+    )
+}
+
+fn result(inputs: &[[u16; 2]], steps: &[[u16; 9]]) -> [u16; 4] {
+    board(inputs, steps).0
+}
+
+#[test]
+fn runs_on_the_small_board() {
+    assert_eq!(result(&[], &[]), [OPEN, 0, 0, 0]);
+    assert_eq!(
+        result(&[[E, 1], [G, 0]], &[the_clash()]),
+        [REFUTED, 1, 0, 2]
+    );
+    assert_eq!(result(&[[E, 1]], &[the_clash()]), [REFUSED, 0, 16, 1]);
+    assert_eq!(
+        board(
+            &[[G, 0]],
+            &[decide(E, 1), the_clash(), step(5, X, E, X, &[])]
+        ),
+        ([OPEN, 3, 0, 2], vec![[G, 0, 0, 0], [E, 0, 0, 0]])
+    );
+    assert_eq!(
+        result(&[], &[decide(A, 7), decide(A, 7)]),
+        [REFUSED, 1, 14, 1]
+    );
+    assert_eq!(result(&[], &[step(3, X, A, X, &[])]), [REFUSED, 0, 10, 0]);
+}
+
+#[test]
+fn barred_resolve_and_jump() {
+    let four = [
+        decide(A, 7),
+        decide(B, 7),
+        step(1, 0, E, 1, &[A, B]),
+        the_clash(),
+    ];
+    let with = |last| [&four[..], &[last]].concat();
+    assert_eq!(
+        result(&[[G, 0]], &with(step(3, X, E, X, &[]))),
+        [REFUSED, 4, 19, 4]
+    );
+    assert_eq!(
+        result(&[[G, 0]], &with(step(5, X, E, X, &[]))),
+        [OPEN, 5, 0, 2]
+    );
+}
+
+#[test]
+fn clear_keeps_the_late_entry() {
+    let four = [
+        decide(A, 7),
+        decide(B, 7),
+        step(1, 5, E, 0, &[NOT_E]),
+        step(2, 0, E, 1, &[A, B]),
+    ];
+    let with = |last| [&four[..], &[last]].concat();
+    assert_eq!(
+        board(&[[NOT_E, 1]], &with(step(4, X, B, X, &[]))),
+        (
+            [OPEN, 5, 0, 3],
+            vec![[NOT_E, 1, 0, 0], [A, 7, 1, 1], [E, 0, 0, 0]]
+        )
+    );
+    assert_eq!(
+        result(&[[NOT_E, 1]], &with(step(4, X, A, X, &[]))),
+        [REFUSED, 4, 21, 4]
+    );
+}
+
+#[test]
+fn unit_and_the_input_numbers() {
+    let unit = step(1, 7, G, 1, &[E_OR_G, E]);
+    assert_eq!(result(&[[E_OR_G, 1], [E, 0]], &[unit]), [OPEN, 1, 0, 3]);
+    assert_eq!(result(&[[E, 2]], &[unit]), [REFUSED, 0, 7, 0]);
+    assert_eq!(result(&[[E, 1], [E, 1]], &[unit]), [REFUSED, 0, 8, 0]);
+}
+
+/// The outcome on a sheet of so many terms of no arguments, and whether the
+/// buffers were left as they were.
+fn constants(rows: usize, work: usize, trail: usize) -> (Outcome, bool) {
+    let terms: Vec<u16> = (0..rows as u16)
+        .flat_map(|at| [16 + at, 1, X, X, X, X])
+        .collect();
+    let mut work = vec![9; work];
+    let mut trail = vec![9; trail];
+    let out = run(SORTS, &terms, &[], &[], &mut work, &mut trail);
+    let untouched = work.iter().all(|&w| w == 9) && trail.iter().all(|&w| w == 9);
+    (out, untouched)
+}
+
+#[test]
+fn ceilings_and_buffers() {
+    let (out, _) = constants(256, work_words(256), trail_numbers(256));
+    assert_eq!((out.verdict, out.number), (OPEN, 0));
+    let (out, untouched) = constants(257, work_words(257), trail_numbers(257));
+    assert_eq!((out.verdict, out.number, untouched), (REFUSED, 30, true));
+    let (out, untouched) = constants(256, work_words(256) - 1, trail_numbers(256));
+    assert_eq!((out.verdict, out.number, untouched), (REFUSED, 32, true));
+    let (out, untouched) = constants(256, work_words(256), trail_numbers(256) - 1);
+    assert_eq!((out.verdict, out.number, untouched), (REFUSED, 32, true));
+    let (out, _) = constants(0, 12, 0);
+    assert_eq!((out.verdict, out.number), (OPEN, 0));
+    let (out, _) = constants(0, 11, 0);
+    assert_eq!((out.verdict, out.number), (REFUSED, 32));
+}
+
+#[test]
+fn longest_log() {
+    let mut work = [0; 12];
+    let steps = vec![X; 9 * 65_536];
+    let out = run(&[], &[], &[], &steps, &mut work, &mut []);
+    assert_eq!((out.verdict, out.number), (REFUSED, 30));
+    let out = run(&[], &[], &[], &steps[9..], &mut work, &mut []);
+    assert_eq!((out.verdict, out.steps, out.number), (REFUSED, 0, 9));
+    let out = run(&[], &[], &[], &steps[8..], &mut work, &mut []);
+    assert_eq!((out.verdict, out.number), (REFUSED, 31));
+}
+
+const TEXT: &str = "\
+sort index value
+S - -
+
+term head sort a b c d
+a A S - - - -
+b B S - - - -
+e eq prop a b - -
+fa F S a - - -
+fb F S b - - -
+g eq prop fa fb - -
+
+term value
+e true
+g false
+
+step rule term value p q r s t
+clash cong g true e - - - -
+";
+
+/// Reads into dirty sheets of the given lengths.
+fn read_text(text: &str, lengths: [usize; 4]) -> (Read, [Vec<u16>; 4]) {
+    let mut sheets = lengths.map(|len| vec![77; len]);
+    let [sorts, terms, inputs, steps] = &mut sheets;
+    let result = read(text.as_bytes(), sorts, terms, inputs, steps);
+    (result, sheets)
+}
+
+fn trouble(text: &str) -> (u16, u64, u64) {
+    let (result, sheets) = read_text(text, [10, 60, 20, 90]);
+    assert_eq!(result.rows, [0; 4]);
+    assert!(sheets.iter().flatten().all(|&number| number == 0));
+    (result.number, result.line, result.place)
+}
+
+#[test]
+fn the_text() {
+    let (result, sheets) = read_text(TEXT, [3, 37, 4, 20]);
+    assert_eq!((result.number, result.rows), (0, [1, 6, 2, 1]));
+    assert_eq!((result.line, result.place), (0, 0));
+    assert_eq!(sheets[0], [X, X, 0]);
+    assert_eq!(sheets[1][..36], TERMS[..36]);
+    assert_eq!(sheets[1][36], 0);
+    assert_eq!(sheets[2], [E, 1, G, 0]);
+    assert_eq!(sheets[3][..9], the_clash());
+    assert!(sheets[3][9..].iter().all(|&number| number == 0));
+    for short in 0..4 {
+        let mut lengths = [2, 36, 4, 9];
+        assert_eq!(read_text(TEXT, lengths).0.number, 0);
+        lengths[short] -= 1;
+        let (result, sheets) = read_text(TEXT, lengths);
+        assert_eq!((result.number, result.rows), (32, [0; 4]));
+        assert!(sheets.iter().flatten().all(|&number| number == 0));
+    }
+}
+
+#[test]
+fn bad_lines() {
+    assert_eq!(trouble(""), (31, 1, 0));
+    assert_eq!(trouble("sort index value\n"), (31, 2, 0));
+    assert_eq!(trouble(TEXT.trim_end()), (31, 17, 0));
+    assert_eq!(trouble(&format!("{TEXT}\n")), (31, 18, 0));
+    assert_eq!(trouble(&TEXT.replace("g false", "g 65535")), (31, 14, 2));
+    assert_eq!(trouble(&TEXT.replace("g true", "g 01")), (31, 17, 4));
+    assert_eq!(trouble(&TEXT.replace("S - -", "prop - -")), (2, 2, 1));
+    assert_eq!(trouble(&TEXT.replace("b B", "a B")), (2, 6, 1));
+    assert_eq!(trouble(&TEXT.replace("b B", "b  B")), (31, 6, 0));
+    assert_eq!(trouble(&TEXT.replace("b B", "b")), (31, 6, 0));
+    assert_eq!(trouble(&TEXT.replace("b B", "b\t B")), (31, 6, 0));
+    assert_eq!(
+        trouble(&TEXT.replace("b B", &format!("b {}", "B".repeat(65)))),
+        (31, 6, 0)
+    );
+}
+
+#[test]
+fn names_differ_by_any_byte() {
+    let long = "n".repeat(63);
+    let text = TEXT
+        .replace("\na A", &format!("\n{long}a A"))
+        .replace("\nb B", &format!("\n{long}b B"))
+        .replace("prop a b", &format!("prop {long}a {long}b"))
+        .replace("F S a", &format!("F S {long}a"))
+        .replace("F S b", &format!("F S {long}b"));
+    let (result, sheets) = read_text(&text, [2, 36, 4, 9]);
+    assert_eq!(result.number, 0);
+    assert_eq!(sheets[1], TERMS[..36]);
+}
+
+#[test]
+fn text_ceilings() {
+    let step = "flip - a - b - - - -\n";
+    let fits = format!("{TEXT}{}", step.repeat(1_023));
+    assert_eq!(read_text(&fits, [2, 36, 4, 9 * 1_024]).0.number, 0);
+    assert_eq!(trouble(&format!("{fits}{step}")), (30, 1_041, 0));
+    let sorts = |count: usize| -> String {
+        let lines: String = (1..count).map(|at| format!("s{at} - -\n")).collect();
+        TEXT.replace("S - -\n", &format!("S - -\n{lines}"))
+    };
+    assert_eq!(read_text(&sorts(32), [64, 36, 4, 9]).0.number, 0);
+    assert_eq!(trouble(&sorts(33)), (30, 34, 0));
+}
