@@ -4,7 +4,7 @@ ghost use mathlib.Core.List.{[]};
 ghost use Prim.Native.Nat.{_+_, _-_, _*_, _≤_, _<_};
 ghost use lib.ListN.{length, take, drop, getD};
 ghost use Rattle.text_fields.specs.Split.{fieldEnd, before, pieces, same as sameBytes};
-ghost use Rattle.text_fields.specs.Class.{classOf, isName, named};
+ghost use Rattle.text_fields.specs.Class.{classOf, isName, isNewline, named};
 ghost use Rattle.text_fields.specs.Number.{digits, decimal, number as numberOf, value as valueOf, isNumber};
 ghost use Rattle.text_fields.specs.Words.{stepWords, ruleWords, headWords, indexFrom, refOf};
 ghost use Rattle.text_fields.specs.Shape.{filled, spaced, wellFormed, firstMalformed, shapeOf};
@@ -195,6 +195,18 @@ fn is_name_byte(b: u8) -> bool
         ByteClass::Name => true,
         ByteClass::Space => false,
         ByteClass::Newline => false,
+        ByteClass::Other => false,
+    }
+}
+
+// Whether a byte ends a line.
+pub fn is_newline(b: u8) -> bool
+    ensures { λ r. ⌜ r ≡ isNewline (classOf b) ⌝ }
+{
+    match byte_class(b) {
+        ByteClass::Newline => true,
+        ByteClass::Space => false,
+        ByteClass::Name => false,
         ByteClass::Other => false,
     }
 }
