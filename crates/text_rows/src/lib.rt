@@ -85,7 +85,7 @@ fn sort_ref(names: &[u8; 35360], count: usize, f: &[u8]) -> u16
 }
 
 // Field k of a line as a sort.
-fn sort_column(names: &[u8; 35360], count: usize, line: &[u8], k: usize) -> u16
+pub fn sort_column(names: &[u8; 35360], count: usize, line: &[u8], k: usize) -> u16
     requires { ⌜ count ≤ 32 ⌝ }
     ensures { λ r. ⌜ r ≡ sortRef (namesFrom (now (names .entry)) 0 count) (getD (pieces 32 (now (line .entry))) k []) ⌝ }
 {
@@ -93,7 +93,7 @@ fn sort_column(names: &[u8; 35360], count: usize, line: &[u8], k: usize) -> u16
 }
 
 // Whether a row may not have this name of its own.
-fn is_taken(names: &[u8; 35360], base: usize, count: usize, f: &[u8]) -> bool
+pub fn is_taken(names: &[u8; 35360], base: usize, count: usize, f: &[u8]) -> bool
     requires { ⌜ base + count ≤ 544 ⌝ }
     ensures { λ r. ⌜ r ≡ isTaken (namesFrom (now (names .entry)) base count) (now (f .entry)) ⌝ }
 {
