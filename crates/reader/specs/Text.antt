@@ -12,6 +12,7 @@ use Rattle.text_rows.specs.Rows.{Kept, Taken, sortRow, termRow, inputRow, stepR
 use Rattle.text_position.specs.Place.{nextLine}
 use Rattle.reader.specs.declared.Sheet.{Sheet}
 use Rattle.reader.specs.declared.Sheet.the-variants.{Sorts, Terms, Inputs, Steps}
+use Rattle.reader.specs.declared.Fault.{Fault}
 use Rattle.reader.specs.declared.ReadOutcome.{ReadOutcome}
 
 -- where the reading of lines stands: the number and the place of the first bad line's fault, 0 where no line is bad; the number of that line, or of
@@ -138,12 +139,6 @@ startState = record { control = started; sorts = []; terms = []; inputs = []; st
 -- the state after all lines of a text
 unfoldable pub textState : List ℕ → State
 textState bs = linesFold 1 startState (pieces 10 bs)
-
--- a fault: its number, its line and its place; all 0 where there is none
-pub record Fault : Type 0 where
-  pub code : ℕ
-  pub line : ℕ
-  pub place : ℕ
 
 abbrev pub isSteps : Sheet → Bool
 isSteps Sorts = false

@@ -1,6 +1,18 @@
 // The reader of the four sheets as text.
 ghost use mathlib.Core.Path.{_≡_};
-ghost use Rattle.reader.specs.Text.{headerOf};
+ghost use mathlib.Core.Bool.{Bool, true, false};
+ghost use mathlib.Core.List.{List, []};
+ghost use Prim.Native.Nat.{ℕ, _+_, _*_, _≤_, _<_, _^_};
+ghost use lib.Dec.{eqb};
+ghost use lib.ListN.{length, take, set, replicate};
+ghost use lib.Seq.{sets};
+ghost use Rattle.text_fields.specs.Split.{pick, pieces, same};
+ghost use Rattle.text_rows.specs.View.{keptOf, takenOf, Bounded, Within};
+ghost use Rattle.reader.specs.Text.{quiet, bad, enter, headerOf, header, nextSheet, rowOf, row, readLine, numbered, lineEffect, faultOf, outcomeOf, TextRead};
+ghost use Rattle.reader.specs.Stream.{Sheets, stored, stepByte, feedAll, controlOf, effectOf, StepBounded, streamOf, holdRows, codeOf, leftSheet, Finished};
+use text_position::Position;
+use text_rows::Counts;
+use text_rows::Row;
 
 // The sheets, in the order of the text.
 pub enum Sheet {
@@ -8,6 +20,36 @@ pub enum Sheet {
     Terms,
     Inputs,
     Steps,
+}
+
+// Where the reading of lines stands.
+pub struct Core {
+    pub code: u16,
+    pub place: usize,
+    pub line: usize,
+    pub sheet: Sheet,
+    pub headed: bool,
+    pub counts: Counts,
+}
+
+// What a line does: where the reading stands after it, and the first `width` numbers of its row.
+struct Step {
+    core: Core,
+    cells: [u16; 9],
+    width: usize,
+}
+
+// What the reader carries from piece to piece.
+pub struct Progress {
+    pub pos: Position,
+    pub core: Core,
+}
+
+// A fault: its number, its line and its place; all 0 where there is none.
+struct Fault {
+    code: u16,
+    line: u64,
+    place: u64,
 }
 
 // What the reading of a text returns: its number, the rows of the four sheets, and line and place of the first bad line.
@@ -20,4 +62,181 @@ pub struct ReadOutcome {
     pub steps: u16,
     pub line: u64,
     pub place: u64,
+}
+
+// A line that adds no row.
+fn quiet_line(core: Core) -> Step
+    requires { ⌜ Bounded (core .counts) ⌝ }
+    ensures { λ r. ⌜ ((t : List ℕ) → effectOf r t ≡ quiet (controlOf core t)) ⌝ }
+    ensures { λ r. ⌜ StepBounded r ⌝ }
+{
+    Step {
+        core,
+        cells: [0u16; 9],
+        width: 0,
+    }
+}
+
+// A bad line.
+fn bad_line(core: Core, code: u16, place: usize) -> Step
+    requires { ⌜ Bounded (core .counts) ⌝ }
+    ensures { λ r. ⌜ ((t : List ℕ) → effectOf r t ≡ bad (controlOf core t) code place) ⌝ }
+    ensures { λ r. ⌜ StepBounded r ⌝ }
+{
+    let sheet = core.sheet;
+    let counts = core.counts;
+    quiet_line(Core {
+        code,
+        place,
+        line: core.line,
+        sheet,
+        headed: core.headed,
+        counts,
+    })
+}
+
+// The lines of a sheet begin, or have begun.
+fn enter_sheet(core: Core, sheet: Sheet, headed: bool) -> Step
+    requires { ⌜ Bounded (core .counts) ⌝ }
+    ensures { λ r. ⌜ ((t : List ℕ) → effectOf r t ≡ enter (controlOf core t) sheet headed) ⌝ }
+    ensures { λ r. ⌜ StepBounded r ⌝ }
+{
+    let counts = core.counts;
+    quiet_line(Core {
+        code: core.code,
+        place: core.place,
+        line: core.line,
+        sheet,
+        headed,
+        counts,
+    })
+}
+
+// Whether a line is a sheet's header.
+fn is_header(sheet: Sheet, line: &[u8]) -> bool
+    ensures { λ r. ⌜ r ≡ same (now (line .entry)) (headerOf sheet) ⌝ }
+{
+    match sheet {
+        Sheet::Sorts => text_fields::same(line, b"sort index value"),
+        Sheet::Terms => text_fields::same(line, b"term head sort a b c d"),
+        Sheet::Inputs => text_fields::same(line, b"term value"),
+        Sheet::Steps => text_fields::same(line, b"step rule term value p q r s t"),
+    }
+}
+
+// The first line of a sheet.
+fn header_line(core: Core, line: &[u8]) -> Step
+    requires { ⌜ Bounded (core .counts) ⌝ }
+    ensures { λ r. ⌜ ((t : List ℕ) → effectOf r t ≡ header (controlOf core t) (now (line .entry))) ⌝ }
+    ensures { λ r. ⌜ StepBounded r ⌝ }
+{
+    let sheet = core.sheet;
+    if is_header(sheet, line) {
+        return enter_sheet(core, sheet, true);
+    }
+    bad_line(core, 31, 0)
+}
+
+// An empty line.
+fn empty_line(core: Core) -> Step
+    requires { ⌜ Bounded (core .counts) ⌝ }
+    ensures { λ r. ⌜ ((t : List ℕ) → effectOf r t ≡ nextSheet (controlOf core t) (core .sheet)) ⌝ }
+    ensures { λ r. ⌜ StepBounded r ⌝ }
+{
+    let sheet = core.sheet;
+    match sheet {
+        Sheet::Sorts => enter_sheet(core, Sheet::Terms, false),
+        Sheet::Terms => enter_sheet(core, Sheet::Inputs, false),
+        Sheet::Inputs => enter_sheet(core, Sheet::Steps, false),
+        Sheet::Steps => bad_line(core, 31, 0),
+    }
+}
+
+// A row of a sheet.
+fn sheet_row(sheet: Sheet, counts: Counts, line: &[u8], names: &mut [u8; 35360]) -> Row
+    requires { ⌜ Bounded counts ⌝ }
+    ensures { λ r. ⌜ takenOf r (now (names .exit)) ≡ rowOf sheet (keptOf counts (now (names .entry))) (pieces 32 (now (line .entry))) ⌝ }
+    ensures { λ r. ⌜ Within r ⌝ }
+{
+    match sheet {
+        Sheet::Sorts => text_rows::sort_row(counts, line, names),
+        Sheet::Terms => text_terms::term_row(counts, line, names),
+        Sheet::Inputs => text_steps::input_row(counts, line, names),
+        Sheet::Steps => text_steps::step_row(counts, line, names),
+    }
+}
+
+// What a row's line does.
+fn row_line(core: Core, taken: Row) -> Step
+    requires { ⌜ Within taken ⌝ }
+    ensures { λ r. ⌜ ((t t′ : List ℕ) → effectOf r t′ ≡ row (controlOf core t) (takenOf taken t′)) ⌝ }
+    ensures { λ r. ⌜ StepBounded r ⌝ }
+{
+    let sheet = core.sheet;
+    let counts = taken.counts;
+    let cells = taken.cells;
+    Step {
+        core: Core {
+            code: taken.code,
+            place: taken.place,
+            line: core.line,
+            sheet,
+            headed: core.headed,
+            counts,
+        },
+        cells,
+        width: taken.width,
+    }
+}
+
+// A line that is not too long, after good ones.
+fn read_line(core: Core, line: &[u8], names: &mut [u8; 35360]) -> Step
+    requires { ⌜ Bounded (core .counts) ⌝ }
+    ensures { λ r. ⌜ effectOf r (now (names .exit)) ≡ readLine (controlOf core (now (names .entry))) (now (line .entry)) ⌝ }
+    ensures { λ r. ⌜ StepBounded r ⌝ }
+{
+    if !core.headed {
+        return header_line(core, line);
+    }
+    if line.len() == 0 {
+        return empty_line(core);
+    }
+    let sheet = core.sheet;
+    let counts = core.counts;
+    let taken = sheet_row(sheet, counts, line, names);
+    row_line(core, taken)
+}
+
+// The number of the line that is read.
+fn number_line(core: Core, n: usize) -> Core
+    ensures { λ r. ⌜ ((t : List ℕ) → controlOf r t ≡ numbered (controlOf core t) n) ⌝ }
+    ensures { λ r. ⌜ r .counts ≡ core .counts ⌝ }
+{
+    let sheet = core.sheet;
+    let counts = core.counts;
+    Core {
+        code: core.code,
+        place: core.place,
+        line: n,
+        sheet,
+        headed: core.headed,
+        counts,
+    }
+}
+
+// A finished line: the first `at` bytes of the buffer.
+fn end_line(core: Core, n: usize, at: usize, line: &[u8], names: &mut [u8; 35360]) -> Step
+    requires { ⌜ Bounded (core .counts) ⌝ }
+    requires { ⌜ length (now line) ≡ 526 ⌝ }
+    ensures { λ r. ⌜ effectOf r (now (names .exit)) ≡ lineEffect (controlOf core (now (names .entry))) n (take at (now (line .entry))) ⌝ }
+    ensures { λ r. ⌜ StepBounded r ⌝ }
+{
+    if core.code != 0 {
+        return quiet_line(core);
+    }
+    let here = number_line(core, n);
+    if at > 525 {
+        return bad_line(here, 31, 0);
+    }
+    read_line(here, &line[..at], names)
 }
