@@ -8,6 +8,7 @@ use borrow.Author.Tests.{eq-eqb, ne-eqb, le-leb, lt-leb}
 use lib.ListN.{length}
 use Rattle.text_fields.specs.Split.{pick, pieces, same}
 use Rattle.reader.specs.Text.{Control, Effect, quiet, bad, header, nextSheet, rowOf, row, readLine, numbered, lineEffect}
+use Rattle.reader.specs.Stream.{Sheets, LineEnded, stored}
 
 empty-same : (l : List ℕ) → length l ≡ 0 → same l [] ≡ true
 empty-same [] h = refl
@@ -44,3 +45,8 @@ module _ (c : Control) (n : ℕ) (l : List ℕ) where
     pub effect-read : length l ≤ 525 → readLine (numbered c n) l ≡ lineEffect c n l
     unfolding lineEffect
     effect-read h = rw (eq-eqb (c .code) 0 e, le-leb (length l) 525 h)
+
+-- a line read, and its row stored
+pub line-ended : (c : Control) (n : ℕ) (l : List ℕ) (s s′ : Sheets) (e : Effect) → e ≡ lineEffect c n l → s′ ≡ stored (c .sheet) (c .kept) s (e .cells) → LineEnded c n l s (e .control) s′
+line-ended c n l s s′ e is st =
+    record { control-is = ap (λ (x : Effect). x .control) is; sheets-are = st ∙ ap (λ (x : Effect). stored (c .sheet) (c .kept) s (x .cells)) is }

@@ -52,6 +52,11 @@ abbrev pub ended : Stream → Position → Effect → Stream
 ended s pos e =
     record { pos = pos; partial = []; control = e .control; sheets = stored (s .control .sheet) (s .control .kept) (s .sheets) (e .cells) }
 
+-- the control and the sheets after line n
+pub record LineEnded (c : Control) (n : ℕ) (l : List ℕ) (s : Sheets) (c′ : Control) (s′ : Sheets) : Type 0 where
+  pub control-is : c′ ≡ lineEffect c n l .control
+  pub sheets-are : s′ ≡ stored (c .sheet) (c .kept) s (lineEffect c n l .cells)
+
 -- one byte; of a line the first 526 bytes are held, which tell that it is too long
 unfoldable pub stepByte : Stream → ℕ → Stream
 stepByte s b =
@@ -83,7 +88,7 @@ effectOf s table = record { control = controlOf (s .core) table; cells = take (s
 
 -- counts within the ceilings, and a row of at most nine numbers
 abbrev pub StepBounded : Step → Type 0
-StepBounded s = Bounded (s .core .counts) × (s .width ≤ 9)
+StepBounded s = Bounded (s .core .counts) × (s .width ≤ 9) × (length (s .cells) ≡ 9)
 
 abbrev pub streamOf : Progress → List ℕ → List ℕ → List ℕ → List ℕ → List ℕ → List ℕ → Stream
 streamOf f line table sorts terms inputs steps =

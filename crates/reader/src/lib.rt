@@ -9,7 +9,7 @@ ghost use lib.Seq.{sets};
 ghost use Rattle.text_fields.specs.Split.{pick, pieces, same};
 ghost use Rattle.text_rows.specs.View.{keptOf, takenOf, Bounded, Within};
 ghost use Rattle.reader.specs.Text.{quiet, bad, enter, headerOf, header, nextSheet, rowOf, row, readLine, numbered, lineEffect, faultOf, outcomeOf, TextRead};
-ghost use Rattle.reader.specs.Stream.{Sheets, stored, stepByte, feedAll, controlOf, effectOf, StepBounded, streamOf, holdRows, codeOf, leftSheet, Finished};
+ghost use Rattle.reader.specs.Stream.{Sheets, LineEnded, stored, stepByte, feedAll, controlOf, effectOf, StepBounded, streamOf, holdRows, codeOf, leftSheet, Finished};
 use text_position::Position;
 use text_rows::Counts;
 use text_rows::Row;
@@ -239,4 +239,87 @@ fn end_line(core: Core, n: usize, at: usize, line: &[u8], names: &mut [u8; 35360
         return bad_line(here, 31, 0);
     }
     read_line(here, &line[..at], names)
+}
+
+// Stores a number where there is room for it.
+fn store(sheet: &mut [u16], at: usize, v: u16)
+    ensures { λ _. ⌜ now (sheet .exit) ≡ set (now (sheet .entry)) at v ⌝ }
+{
+    if at < sheet.len() {
+        sheet[at] = v;
+    }
+}
+
+// Stores a row's numbers from `at` on, those for which there is room.
+fn store_all(sheet: &mut [u16], at: usize, cells: &[u16])
+    requires { ⌜ at + length (now cells) < 2 ^ 64 ⌝ }
+    ensures { λ _. ⌜ now (sheet .exit) ≡ sets (now (sheet .entry)) at (now (cells .entry)) ⌝ }
+{
+    let mut j = 0;
+    while j < cells.len() {
+        store(sheet, at + j, cells[j]);
+        j += 1;
+    }
+}
+
+// Stores a row in the sheet that its line goes to, behind the rows that the sheet has.
+fn store_row(
+    sheet: Sheet,
+    counts: Counts,
+    cells: &[u16],
+    sorts: &mut [u16],
+    terms: &mut [u16],
+    inputs: &mut [u16],
+    steps: &mut [u16],
+)
+    requires { ⌜ Bounded counts ⌝ }
+    requires { ⌜ length (now cells) ≤ 9 ⌝ }
+    ensures { λ _. ⌜ ((t : List ℕ) → _≡_ {A = Sheets}
+        (record { sorts = now (sorts .exit); terms = now (terms .exit); inputs = now (inputs .exit); steps = now (steps .exit) })
+        (stored sheet (keptOf counts t)
+        (record { sorts = now (sorts .entry); terms = now (terms .entry); inputs = now (inputs .entry); steps = now (steps .entry) })
+        (now (cells .entry)))) ⌝ }
+{
+    match sheet {
+        Sheet::Sorts => store_all(sorts, counts.sorts * 2, cells),
+        Sheet::Terms => store_all(terms, counts.terms * 6, cells),
+        Sheet::Inputs => store_all(inputs, counts.inputs * 2, cells),
+        Sheet::Steps => store_all(steps, counts.steps * 9, cells),
+    }
+}
+
+// Stores a byte where there is room for it.
+fn put_byte(line: &mut [u8], at: usize, b: u8)
+    ensures { λ _. ⌜ now (line .exit) ≡ set (now (line .entry)) at b ⌝ }
+{
+    if at < line.len() {
+        line[at] = b;
+    }
+}
+
+// A newline: the line is read, and its row stored.
+fn feed_newline(
+    core: Core,
+    pos: Position,
+    line: &[u8; 526],
+    names: &mut [u8; 35360],
+    sorts: &mut [u16],
+    terms: &mut [u16],
+    inputs: &mut [u16],
+    steps: &mut [u16],
+) -> Core
+    requires { ⌜ Bounded (core .counts) ⌝ }
+    ensures { λ r. ⌜ LineEnded (controlOf core (now (names .entry))) (pos .line) (take (pos .at) (now (line .entry)))
+        (record { sorts = now (sorts .entry); terms = now (terms .entry); inputs = now (inputs .entry); steps = now (steps .entry) })
+        (controlOf r (now (names .exit)))
+        (record { sorts = now (sorts .exit); terms = now (terms .exit); inputs = now (inputs .exit); steps = now (steps .exit) }) ⌝ }
+    ensures { λ r. ⌜ Bounded (r .counts) ⌝ }
+{
+    let step = end_line(core, pos.line, pos.at, line, names);
+    let sheet = core.sheet;
+    let counts = core.counts;
+    let cells = step.cells;
+    let width = step.width;
+    store_row(sheet, counts, &cells[..width], sorts, terms, inputs, steps);
+    step.core
 }

@@ -1,7 +1,8 @@
 -- What the code's counts, rows and table of names stand for.
 use Prim.Native.Nat.{ℕ, _≤_}
 use mathlib.Core.List.{List}
-use lib.ListN.{take}
+use mathlib.Core.Path.{_≡_}
+use lib.ListN.{length, take}
 use Rattle.text_names.specs.Table.{namesFrom}
 use Rattle.text_rows.specs.Rows.{Kept, Taken}
 use Rattle.text_rows.specs.declared.Counts.{Counts}
@@ -26,6 +27,6 @@ takenOf r table =
 abbrev pub Bounded : Counts → Type 0
 Bounded n = (n .sorts ≤ 32) × (n .terms ≤ 256) × (n .heads ≤ n .terms) × (n .inputs ≤ 256) × (n .steps ≤ 1024)
 
--- a row within these bounds
+-- a row within these bounds, of at most nine numbers
 abbrev pub Within : Row → Type 0
-Within r = Bounded (r .counts) × (r .width ≤ 9)
+Within r = Bounded (r .counts) × (r .width ≤ 9) × (length (r .cells) ≡ 9)
