@@ -99,6 +99,30 @@ streamOf f line table sorts terms inputs steps =
       sheets = record { sorts = sorts; terms = terms; inputs = inputs; steps = steps };
     }
 
+-- what the reader carries before the first byte
+abbrev pub startProgress : Progress
+startProgress =
+    record {
+      pos = record { line = 1; at = 0 };
+      core =
+        record {
+          code = 0;
+          place = 0;
+          line = 0;
+          sheet = Sorts;
+          headed = false;
+          counts = record { sorts = 0; terms = 0; heads = 0; inputs = 0; steps = 0 };
+        };
+    }
+
+-- a text that begins: all sheets are zero
+pub record Begun (sorts terms inputs steps : List ℕ) (r : Progress) (sorts′ terms′ inputs′ steps′ : List ℕ) : Type 0 where
+  pub starts : r ≡ startProgress
+  pub sorts-is : sorts′ ≡ replicate (length sorts) 0
+  pub terms-is : terms′ ≡ replicate (length terms) 0
+  pub inputs-is : inputs′ ≡ replicate (length inputs) 0
+  pub steps-is : steps′ ≡ replicate (length steps) 0
+
 -- ---- the end of the text
 
 unfoldable pub streamFault : Stream → Fault

@@ -9,7 +9,7 @@ ghost use lib.Seq.{sets};
 ghost use Rattle.text_fields.specs.Split.{pick, pieces, same};
 ghost use Rattle.text_rows.specs.View.{keptOf, takenOf, Bounded, Within};
 ghost use Rattle.reader.specs.Text.{quiet, bad, enter, headerOf, header, nextSheet, rowOf, row, readLine, numbered, lineEffect, faultOf, outcomeOf, TextRead};
-ghost use Rattle.reader.specs.Stream.{Sheets, LineEnded, stored, stepByte, feedAll, controlOf, effectOf, StepBounded, streamOf, holdRows, codeOf, leftSheet, Finished};
+ghost use Rattle.reader.specs.Stream.{Sheets, LineEnded, stored, stepByte, feedAll, controlOf, effectOf, StepBounded, streamOf, holdRows, codeOf, leftSheet, Begun, Finished};
 use text_position::Position;
 use text_rows::Counts;
 use text_rows::Row;
@@ -322,4 +322,110 @@ fn feed_newline(
     let width = step.width;
     store_row(sheet, counts, &cells[..width], sorts, terms, inputs, steps);
     step.core
+}
+
+// One byte.
+fn feed_byte(
+    f: Progress,
+    b: u8,
+    line: &mut [u8; 526],
+    names: &mut [u8; 35360],
+    sorts: &mut [u16],
+    terms: &mut [u16],
+    inputs: &mut [u16],
+    steps: &mut [u16],
+) -> Progress
+    requires { ⌜ Bounded (f .core .counts) ⌝ }
+    ensures { λ r. ⌜ streamOf r (now (line .exit)) (now (names .exit)) (now (sorts .exit)) (now (terms .exit)) (now (inputs .exit)) (now (steps .exit))
+        ≡ stepByte (streamOf f (now (line .entry)) (now (names .entry)) (now (sorts .entry)) (now (terms .entry)) (now (inputs .entry)) (now (steps .entry))) b ⌝ }
+    ensures { λ r. ⌜ Bounded (r .core .counts) ⌝ }
+{
+    let pos = f.pos;
+    let core = f.core;
+    let next = text_position::advanced_by(pos.line, pos.at, b);
+    if text_fields::is_newline(b) {
+        let after = feed_newline(core, pos, line, names, sorts, terms, inputs, steps);
+        return Progress {
+            pos: next,
+            core: after,
+        };
+    }
+    put_byte(line, pos.at, b);
+    Progress { pos: next, core }
+}
+
+// The bytes of a piece of the text, in order. Piece after piece is the whole.
+pub fn feed(
+    start: Progress,
+    piece: &[u8],
+    line: &mut [u8; 526],
+    names: &mut [u8; 35360],
+    sorts: &mut [u16],
+    terms: &mut [u16],
+    inputs: &mut [u16],
+    steps: &mut [u16],
+) -> Progress
+    requires { ⌜ Bounded (start .core .counts) ⌝ }
+    ensures { λ r. ⌜ streamOf r (now (line .exit)) (now (names .exit)) (now (sorts .exit)) (now (terms .exit)) (now (inputs .exit)) (now (steps .exit))
+        ≡ feedAll (streamOf start (now (line .entry)) (now (names .entry)) (now (sorts .entry)) (now (terms .entry)) (now (inputs .entry)) (now (steps .entry)))
+        (now (piece .entry)) ⌝ }
+    ensures { λ r. ⌜ Bounded (r .core .counts) ⌝ }
+{
+    let mut f = start;
+    let mut i = 0;
+    while i < piece.len() {
+        f = feed_byte(f, piece[i], line, names, sorts, terms, inputs, steps);
+        i += 1;
+    }
+    f
+}
+
+// Clears a buffer of bytes.
+fn clear_bytes(d: &mut [u8])
+    ensures { λ _. ⌜ now (d .exit) ≡ replicate (length (now (d .entry))) 0 ⌝ }
+{
+    let mut i = 0;
+    while i < d.len() {
+        d[i] = 0;
+        i += 1;
+    }
+}
+
+// Clears a sheet.
+fn clear_numbers(d: &mut [u16])
+    ensures { λ _. ⌜ now (d .exit) ≡ replicate (length (now (d .entry))) 0 ⌝ }
+{
+    let mut i = 0;
+    while i < d.len() {
+        d[i] = 0;
+        i += 1;
+    }
+}
+
+// Before the first byte. The sheets are cleared.
+pub fn begin(sorts: &mut [u16], terms: &mut [u16], inputs: &mut [u16], steps: &mut [u16]) -> Progress
+    ensures { λ r. ⌜ Begun (now (sorts .entry)) (now (terms .entry)) (now (inputs .entry)) (now (steps .entry)) r
+        (now (sorts .exit)) (now (terms .exit)) (now (inputs .exit)) (now (steps .exit)) ⌝ }
+{
+    clear_numbers(sorts);
+    clear_numbers(terms);
+    clear_numbers(inputs);
+    clear_numbers(steps);
+    Progress {
+        pos: Position { line: 1, at: 0 },
+        core: Core {
+            code: 0,
+            place: 0,
+            line: 0,
+            sheet: Sheet::Sorts,
+            headed: false,
+            counts: Counts {
+                sorts: 0,
+                terms: 0,
+                heads: 0,
+                inputs: 0,
+                steps: 0,
+            },
+        },
+    }
 }
