@@ -2,3 +2,5 @@ pub mod Lines
 pub mod Sheets
 pub mod Clear
 pub mod Bytes
+pub mod Ends
+pub mod Sizes

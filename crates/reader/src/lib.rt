@@ -8,7 +8,7 @@ ghost use lib.ListN.{length, take, set, replicate};
 ghost use lib.Seq.{sets};
 ghost use Rattle.text_fields.specs.Split.{pick, pieces, same};
 ghost use Rattle.text_rows.specs.View.{keptOf, takenOf, Bounded, Within};
-ghost use Rattle.reader.specs.Text.{quiet, bad, enter, headerOf, header, nextSheet, rowOf, row, readLine, numbered, lineEffect, faultOf, outcomeOf, TextRead};
+ghost use Rattle.reader.specs.Text.{quiet, bad, enter, headerOf, header, nextSheet, rowOf, row, readLine, numbered, lineEffect, isSteps, faultOf, counted, outcomeOf, TextRead};
 ghost use Rattle.reader.specs.Stream.{Sheets, LineEnded, stored, stepByte, feedAll, controlOf, effectOf, StepBounded, streamOf, holdRows, codeOf, leftSheet, Begun, Finished};
 use text_position::Position;
 use text_rows::Counts;
@@ -428,4 +428,151 @@ pub fn begin(sorts: &mut [u16], terms: &mut [u16], inputs: &mut [u16], steps: &m
             },
         },
     }
+}
+
+// Whether a sheet is the last one.
+fn is_last(sheet: Sheet) -> bool
+    ensures { λ r. ⌜ r ≡ isSteps sheet ⌝ }
+{
+    match sheet {
+        Sheet::Sorts => false,
+        Sheet::Terms => false,
+        Sheet::Inputs => false,
+        Sheet::Steps => true,
+    }
+}
+
+// A file that ends too early, in line n.
+fn early_end(n: usize) -> Fault
+    ensures { λ r. ⌜ r ≡ record { code = 31; line = n; place = 0 } ⌝ }
+{
+    Fault {
+        code: 31,
+        line: n as u64,
+        place: 0,
+    }
+}
+
+// The fault of a text that ends at place `at` of line n.
+fn fault_of(core: Core, at: usize, n: usize) -> Fault
+    ensures { λ r. ⌜ ((t : List ℕ) → r ≡ faultOf (controlOf core t) (eqb at 0) n) ⌝ }
+{
+    if core.code != 0 {
+        return Fault {
+            code: core.code,
+            line: core.line as u64,
+            place: core.place as u64,
+        };
+    }
+    let sheet = core.sheet;
+    if !is_last(sheet) {
+        return early_end(n);
+    }
+    if !core.headed {
+        return early_end(n);
+    }
+    if at != 0 {
+        return early_end(n);
+    }
+    Fault {
+        code: 0,
+        line: 0,
+        place: 0,
+    }
+}
+
+// Whether sheets of these lengths hold the rows.
+fn holds_rows(counts: Counts, a: usize, b: usize, c: usize, d: usize) -> bool
+    requires { ⌜ Bounded counts ⌝ }
+    ensures { λ r. ⌜ r ≡ holdRows (counts .sorts) (counts .terms) (counts .inputs) (counts .steps) a b c d ⌝ }
+{
+    if counts.sorts * 2 > a {
+        return false;
+    }
+    if counts.terms * 6 > b {
+        return false;
+    }
+    if counts.inputs * 2 > c {
+        return false;
+    }
+    counts.steps * 9 <= d
+}
+
+// The number that the text gives.
+fn final_code(code: u16, room: bool) -> u16
+    ensures { λ r. ⌜ r ≡ codeOf code room ⌝ }
+{
+    if code != 0 {
+        return code;
+    }
+    if room {
+        return 0;
+    }
+    32
+}
+
+// A count that is returned: 0 after a refusal.
+fn count_rows(code: u16, n: usize) -> u16
+    requires { ⌜ n ≤ 1024 ⌝ }
+    ensures { λ r. ⌜ r ≡ counted code n ⌝ }
+{
+    if code != 0 {
+        return 0;
+    }
+    n as u16
+}
+
+// What is returned.
+fn outcome_of(code: u16, fault: Fault, counts: Counts) -> ReadOutcome
+    requires { ⌜ Bounded counts ⌝ }
+    ensures { λ r. ⌜ ((t : List ℕ) → r ≡ outcomeOf code fault (keptOf counts t)) ⌝ }
+{
+    ReadOutcome {
+        code,
+        sorts: count_rows(code, counts.sorts),
+        terms: count_rows(code, counts.terms),
+        inputs: count_rows(code, counts.inputs),
+        steps: count_rows(code, counts.steps),
+        line: fault.line,
+        place: fault.place,
+    }
+}
+
+// A sheet at the end: zeros after a refusal.
+fn leave_sheet(code: u16, sheet: &mut [u16])
+    ensures { λ _. ⌜ now (sheet .exit) ≡ leftSheet code (now (sheet .entry)) ⌝ }
+{
+    if code != 0 {
+        clear_numbers(sheet);
+    }
+}
+
+// The end of the text.
+pub fn finish(
+    f: Progress,
+    line: &mut [u8; 526],
+    names: &mut [u8; 35360],
+    sorts: &mut [u16],
+    terms: &mut [u16],
+    inputs: &mut [u16],
+    steps: &mut [u16],
+) -> ReadOutcome
+    requires { ⌜ Bounded (f .core .counts) ⌝ }
+    ensures { λ r. ⌜ Finished
+        (streamOf f (now (line .entry)) (now (names .entry)) (now (sorts .entry)) (now (terms .entry)) (now (inputs .entry)) (now (steps .entry)))
+        r (now (line .exit)) (now (names .exit)) (now (sorts .exit)) (now (terms .exit)) (now (inputs .exit)) (now (steps .exit)) ⌝ }
+{
+    let pos = f.pos;
+    let core = f.core;
+    let counts = core.counts;
+    let fault = fault_of(core, pos.at, pos.line);
+    let room = holds_rows(counts, sorts.len(), terms.len(), inputs.len(), steps.len());
+    let code = final_code(fault.code, room);
+    clear_bytes(line);
+    clear_bytes(names);
+    leave_sheet(code, sorts);
+    leave_sheet(code, terms);
+    leave_sheet(code, inputs);
+    leave_sheet(code, steps);
+    outcome_of(code, fault, counts)
 }
