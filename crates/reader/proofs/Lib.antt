@@ -4,3 +4,4 @@ pub mod Clear
 pub mod Bytes
 pub mod Ends
 pub mod Sizes
+pub mod Whole
