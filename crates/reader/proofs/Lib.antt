@@ -5,3 +5,4 @@ pub mod Bytes
 pub mod Ends
 pub mod Sizes
 pub mod Whole
+pub mod Final

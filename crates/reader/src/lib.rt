@@ -576,3 +576,23 @@ pub fn finish(
     leave_sheet(code, steps);
     outcome_of(code, fault, counts)
 }
+
+// A whole text: exported, for other programs that read sheets.
+#[no_mangle]
+pub extern "C" fn cdsat_read(
+    text: &[u8],
+    sorts: &mut [u16],
+    terms: &mut [u16],
+    inputs: &mut [u16],
+    steps: &mut [u16],
+) -> ReadOutcome
+    ensures { λ r. ⌜ TextRead (now (text .entry))
+        (record { sorts = length (now (sorts .entry)); terms = length (now (terms .entry)); inputs = length (now (inputs .entry)); steps = length (now (steps .entry)) })
+        r (now (sorts .exit)) (now (terms .exit)) (now (inputs .exit)) (now (steps .exit)) ⌝ }
+{
+    let mut line = [0u8; 526];
+    let mut names = [0u8; 35360];
+    let start = begin(sorts, terms, inputs, steps);
+    let f = feed(start, text, &mut line, &mut names, sorts, terms, inputs, steps);
+    finish(f, &mut line, &mut names, sorts, terms, inputs, steps)
+}
