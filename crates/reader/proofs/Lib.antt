@@ -6,3 +6,4 @@ pub mod Ends
 pub mod Sizes
 pub mod Whole
 pub mod Final
+pub mod Pieces

@@ -13,7 +13,7 @@ use Rattle.text_rows.specs.View.{keptOf, Bounded}
 use Rattle.text_rows.specs.declared.Counts.{Counts}
 use Rattle.text_position.specs.Place.{advanced}
 use Rattle.text_position.specs.declared.Position.{Position}
-use Rattle.reader.specs.Text.{Control, Effect, lineEffect, started, faultOf, outcomeOf}
+use Rattle.reader.specs.Text.{Control, Effect, Lent, lineEffect, started, faultOf, outcomeOf, TextRead}
 use Rattle.reader.specs.declared.Sheet.{Sheet}
 use Rattle.reader.specs.declared.Sheet.the-variants.{Sorts, Terms, Inputs, Steps}
 use Rattle.reader.specs.declared.Core.{Core}
@@ -155,3 +155,24 @@ pub record Finished (s : Stream) (r : ReadOutcome) (line′ names′ sorts′ te
   pub terms-is : terms′ ≡ leftSheet (streamCode s) (s .sheets .terms)
   pub inputs-is : inputs′ ≡ leftSheet (streamCode s) (s .sheets .inputs)
   pub steps-is : steps′ ≡ leftSheet (streamCode s) (s .sheets .steps)
+
+-- ---- a text in pieces
+
+abbrev pub fedPieces : Stream → List (List ℕ) → Stream
+fedPieces s [] = s
+fedPieces s (p ∷ ps) = fedPieces (feedAll s p) ps
+
+abbrev pub joined : List (List ℕ) → List ℕ
+joined [] = []
+joined (p ∷ ps) = p ++ joined ps
+
+abbrev pub zeroSheets : Lent → Sheets
+zeroSheets n =
+    record { sorts = replicate (n .sorts) 0; terms = replicate (n .terms) 0; inputs = replicate (n .inputs) 0; steps = replicate (n .steps) 0 }
+
+-- the claim: a text that was begun, fed in any pieces and finished leaves what the definition of the text form says of the whole
+abbrev pub ReadInPieces : Type 0
+ReadInPieces =
+    (n : Lent) (ps : List (List ℕ)) (r : ReadOutcome) (line′ names′ sorts′ terms′ inputs′ steps′ : List ℕ)
+    → Finished (fedPieces (freshStream (zeroSheets n)) ps) r line′ names′ sorts′ terms′ inputs′ steps′
+    → TextRead (joined ps) n r sorts′ terms′ inputs′ steps′
