@@ -54,8 +54,18 @@ module _ (n : Lent) (bs : List ℕ) (s : Stream) (is : s ≡ feedAll (freshStrea
   room-is =
       let st = linesFold 1 startState (pieces 10 bs) in
       let z = ran .sized in
-      rw (ran .control-is, ran .sheets-are, length-padTo (n .sorts) (st .sorts), length-padTo (n .terms) (st .terms), length-padTo (n .inputs) (st .inputs), length-padTo (n .steps) (st .steps),
-      sized-sorts st z, sized-terms st z, sized-inputs st z, sized-steps st z)
+      rw (
+        ran .control-is,
+        ran .sheets-are,
+        length-padTo (n .sorts) (st .sorts),
+        length-padTo (n .terms) (st .terms),
+        length-padTo (n .inputs) (st .inputs),
+        length-padTo (n .steps) (st .steps),
+        sized-sorts st z,
+        sized-terms st z,
+        sized-inputs st z,
+        sized-steps st z,
+      )
 
   code-is : streamCode s ≡ textCode n bs
   unfolding streamCode textCode

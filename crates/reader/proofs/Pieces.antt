@@ -19,5 +19,5 @@ zeros-are n = rw (pad-none (n .sorts), pad-none (n .terms), pad-none (n .inputs)
 pub read-in-pieces : ReadInPieces
 read-in-pieces n ps r line′ names′ sorts′ terms′ inputs′ steps′ h =
     let e : fedPieces (freshStream (zeroSheets n)) ps ≡ feedAll (freshStream (padded n startState)) (joined ps) =
-        pieces-whole (freshStream (zeroSheets n)) ps ∙ ap (λ (x : Sheets). feedAll (freshStream x) (joined ps)) (zeros-are n) in
+    pieces-whole (freshStream (zeroSheets n)) ps ∙ ap (λ (x : Sheets). feedAll (freshStream x) (joined ps)) (zeros-are n) in
     read-is n (joined ps) (fedPieces (freshStream (zeroSheets n)) ps) e r line′ names′ sorts′ terms′ inputs′ steps′ h

@@ -24,7 +24,6 @@ module _ (s : List ℕ) (at : ℕ) (row : List ℕ) (j : ℕ) where
 
 -- a row stored by the counts
 module _ (n : Counts) (t a b c d cells : List ℕ) (sheet : Sheet) where
-
   pub stored-sorts : sheet ≡ Sorts → (a′ : List ℕ) → a′ ≡ sets a (n .sorts * 2) cells
       → _≡_ {A = Sheets} (record { sorts = a′; terms = b; inputs = c; steps = d }) (stored sheet (keptOf n t) (record { sorts = a; terms = b; inputs = c; steps = d }) cells)
   unfolding stored

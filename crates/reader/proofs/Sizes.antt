@@ -68,8 +68,8 @@ one-more : (l : List (List ℕ)) (f : List ℕ) (w : ℕ) → length (l ++ (f �
 one-more l f w =
     let e : length (l ++ (f ∷ [])) ≡ length l + 1 = length-append l (f ∷ []) in
     let g : (length l + 1) * w ≡ length l * w + w = times (length l) w in ap (λ (n : ℕ). n * w) e ∙ g where
-  times : (n w : ℕ) → (n + 1) * w ≡ n * w + w
-  times n w = native.Mathlib.Nat.add-mul n 1 w ∙ ap (λ (x : ℕ). n * w + x) (native.Mathlib.Nat.one-mul w)
+      times : (n w : ℕ) → (n + 1) * w ≡ n * w + w
+      times n w = native.Mathlib.Nat.add-mul n 1 w ∙ ap (λ (x : ℕ). n * w + x) (native.Mathlib.Nat.one-mul w)
 
 module _ (k : Kept) (fs : List (List ℕ)) where
   adds-sort : Adds Sorts k (sortRow k fs)

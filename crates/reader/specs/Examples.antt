@@ -45,13 +45,13 @@ noRows text code line place =
       text = text;
       lent = lend 4 12 4 9;
       left =
-        record {
-          outcome = record { code = code; sorts = 0; terms = 0; inputs = 0; steps = 0; line = line; place = place };
-          sorts = replicate 4 0;
-          terms = replicate 12 0;
-          inputs = replicate 4 0;
-          steps = replicate 9 0;
-        };
+          record {
+            outcome = record { code = code; sorts = 0; terms = 0; inputs = 0; steps = 0; line = line; place = place };
+            sorts = replicate 4 0;
+            terms = replicate 12 0;
+            inputs = replicate 4 0;
+            steps = replicate 9 0;
+          };
     }
 
 listing : String
@@ -64,15 +64,15 @@ table =
       text = listing;
       lent = lend 4 38 4 9;
       left =
-        record {
-          outcome = record { code = 0; sorts = 1; terms = 6; inputs = 2; steps = 1; line = 0; place = 0 };
-          sorts = 65535 ∷ 65535 ∷ 0 ∷ 0 ∷ [];
-          terms =
-            16 ∷ 1 ∷ 65535 ∷ 65535 ∷ 65535 ∷ 65535 ∷ 17 ∷ 1 ∷ 65535 ∷ 65535 ∷ 65535 ∷ 65535 ∷ 0 ∷ 0 ∷ 0 ∷ 1 ∷ 65535 ∷ 65535
-            ∷ 18 ∷ 1 ∷ 0 ∷ 65535 ∷ 65535 ∷ 65535 ∷ 18 ∷ 1 ∷ 1 ∷ 65535 ∷ 65535 ∷ 65535 ∷ 0 ∷ 0 ∷ 3 ∷ 4 ∷ 65535 ∷ 65535 ∷ 0 ∷ 0 ∷ [];
-          inputs = 2 ∷ 1 ∷ 5 ∷ 0 ∷ [];
-          steps = 2 ∷ 9 ∷ 5 ∷ 1 ∷ 2 ∷ 65535 ∷ 65535 ∷ 65535 ∷ 65535 ∷ [];
-        };
+          record {
+            outcome = record { code = 0; sorts = 1; terms = 6; inputs = 2; steps = 1; line = 0; place = 0 };
+            sorts = 65535 ∷ 65535 ∷ 0 ∷ 0 ∷ [];
+            terms =
+                16 ∷ 1 ∷ 65535 ∷ 65535 ∷ 65535 ∷ 65535 ∷ 17 ∷ 1 ∷ 65535 ∷ 65535 ∷ 65535 ∷ 65535 ∷ 0 ∷ 0 ∷ 0 ∷ 1 ∷ 65535 ∷ 65535
+                ∷ 18 ∷ 1 ∷ 0 ∷ 65535 ∷ 65535 ∷ 65535 ∷ 18 ∷ 1 ∷ 1 ∷ 65535 ∷ 65535 ∷ 65535 ∷ 0 ∷ 0 ∷ 3 ∷ 4 ∷ 65535 ∷ 65535 ∷ 0 ∷ 0 ∷ [];
+            inputs = 2 ∷ 1 ∷ 5 ∷ 0 ∷ [];
+            steps = 2 ∷ 9 ∷ 5 ∷ 1 ∷ 2 ∷ 65535 ∷ 65535 ∷ 65535 ∷ 65535 ∷ [];
+          };
     }
     -- the shortest file: four headers, no rows (a good one, so its sheets are zeros too)
     ∷ noRows "sort index value\n\nterm head sort a b c d\n\nterm value\n\nstep rule term value p q r s t\n" 0 0 0
@@ -117,13 +117,13 @@ table =
       text = "sort index value\nS prop S\n\nterm head sort a b c d\nabcdefghijklmnopqrst1 prop Q abcdefghijklmnopqrst2 - - -\nabcdefghijklmnopqrst2 eq prop abcdefghijklmnopqrst2 abcdefghijklmnopqrst1 - -\nc - S - - - -\n\nterm value\nabcdefghijklmnopqrst2 65534\n\nstep rule term value p q r s t\ndecide fail c - nobody abcdefghijklmnopqrst1 - - -\n";
       lent = lend 2 18 2 9;
       left =
-        record {
-          outcome = record { code = 0; sorts = 1; terms = 3; inputs = 1; steps = 1; line = 0; place = 0 };
-          sorts = 0 ∷ 65534 ∷ [];
-          terms = 16 ∷ 65534 ∷ 65534 ∷ 65535 ∷ 65535 ∷ 65535 ∷ 0 ∷ 0 ∷ 65534 ∷ 0 ∷ 65535 ∷ 65535 ∷ 65535 ∷ 1 ∷ 65535 ∷ 65535 ∷ 65535 ∷ 65535 ∷ [];
-          inputs = 1 ∷ 65534 ∷ [];
-          steps = 0 ∷ 65534 ∷ 2 ∷ 65535 ∷ 65534 ∷ 0 ∷ 65535 ∷ 65535 ∷ 65535 ∷ [];
-        };
+          record {
+            outcome = record { code = 0; sorts = 1; terms = 3; inputs = 1; steps = 1; line = 0; place = 0 };
+            sorts = 0 ∷ 65534 ∷ [];
+            terms = 16 ∷ 65534 ∷ 65534 ∷ 65535 ∷ 65535 ∷ 65535 ∷ 0 ∷ 0 ∷ 65534 ∷ 0 ∷ 65535 ∷ 65535 ∷ 65535 ∷ 1 ∷ 65535 ∷ 65535 ∷ 65535 ∷ 65535 ∷ [];
+            inputs = 1 ∷ 65534 ∷ [];
+            steps = 0 ∷ 65534 ∷ 2 ∷ 65535 ∷ 65534 ∷ 0 ∷ 65535 ∷ 65535 ∷ 65535 ∷ [];
+          };
     }
     ∷ []
 

@@ -105,14 +105,14 @@ startProgress =
     record {
       pos = record { line = 1; at = 0 };
       core =
-        record {
-          code = 0;
-          place = 0;
-          line = 0;
-          sheet = Sorts;
-          headed = false;
-          counts = record { sorts = 0; terms = 0; heads = 0; inputs = 0; steps = 0 };
-        };
+          record {
+            code = 0;
+            place = 0;
+            line = 0;
+            sheet = Sorts;
+            headed = false;
+            counts = record { sorts = 0; terms = 0; heads = 0; inputs = 0; steps = 0 };
+          };
     }
 
 -- a text that begins: all sheets are zero

@@ -403,7 +403,12 @@ fn clear_numbers(d: &mut [u16])
 }
 
 // Before the first byte. The sheets are cleared.
-pub fn begin(sorts: &mut [u16], terms: &mut [u16], inputs: &mut [u16], steps: &mut [u16]) -> Progress
+pub fn begin(
+    sorts: &mut [u16],
+    terms: &mut [u16],
+    inputs: &mut [u16],
+    steps: &mut [u16],
+) -> Progress
     ensures { λ r. ⌜ Begun (now (sorts .entry)) (now (terms .entry)) (now (inputs .entry)) (now (steps .entry)) r
         (now (sorts .exit)) (now (terms .exit)) (now (inputs .exit)) (now (steps .exit)) ⌝ }
 {
@@ -457,9 +462,10 @@ fn early_end(n: usize) -> Fault
 fn fault_of(core: Core, at: usize, n: usize) -> Fault
     ensures { λ r. ⌜ ((t : List ℕ) → r ≡ faultOf (controlOf core t) (eqb at 0) n) ⌝ }
 {
-    if core.code != 0 {
+    let code = core.code;
+    if code != 0 {
         return Fault {
-            code: core.code,
+            code,
             line: core.line as u64,
             place: core.place as u64,
         };
@@ -593,6 +599,15 @@ pub extern "C" fn cdsat_read(
     let mut line = [0u8; 526];
     let mut names = [0u8; 35360];
     let start = begin(sorts, terms, inputs, steps);
-    let f = feed(start, text, &mut line, &mut names, sorts, terms, inputs, steps);
+    let f = feed(
+        start,
+        text,
+        &mut line,
+        &mut names,
+        sorts,
+        terms,
+        inputs,
+        steps,
+    );
     finish(f, &mut line, &mut names, sorts, terms, inputs, steps)
 }

@@ -34,7 +34,7 @@ pub enum Shape {
 }
 
 // The class of a byte. Every question about a byte's class is asked here.
-pub fn byte_class(b: u8) -> ByteClass
+fn byte_class(b: u8) -> ByteClass
     ensures { λ r. ⌜ r ≡ classOf b ⌝ }
 {
     if b == 32 {
@@ -68,7 +68,7 @@ pub fn scan(s: &[u8], c: u8) -> usize
 }
 
 // The end of the field that starts at `at`: the first space from there on, or the line's end.
-pub fn field_end(line: &[u8], at: usize) -> usize
+fn field_end(line: &[u8], at: usize) -> usize
     requires { ⌜ at ≤ length (now line) ⌝ }
     ensures { λ r. ⌜ r ≡ fieldEnd (now (line .entry)) at ⌝ }
     ensures { λ r. ⌜ r ≤ length (now (line .entry)) ⌝ }
@@ -94,7 +94,7 @@ pub fn same(a: &[u8], b: &[u8]) -> bool
 }
 
 // How many fields a line has.
-pub fn count_fields(line: &[u8]) -> usize
+fn count_fields(line: &[u8]) -> usize
     ensures { λ r. ⌜ r ≡ length (pieces 32 (now (line .entry))) ⌝ }
     ensures { λ r. ⌜ r ≤ length (now (line .entry)) + 1 ⌝ }
 {
@@ -343,7 +343,10 @@ pub fn step_number(f: &[u8]) -> u16
 pub fn rule_number(f: &[u8]) -> u16
     ensures { λ r. ⌜ r ≡ refOf ruleWords (now (f .entry)) ⌝ }
 {
-    word_number(b"same differ refl sym trans neg part unit eval cong pred read skip", f)
+    word_number(
+        b"same differ refl sym trans neg part unit eval cong pred read skip",
+        f,
+    )
 }
 
 // Where a head's word stands among the heads that are not free.

@@ -29,10 +29,11 @@ fn name_is(table: &[u8], k: usize, tag: u8, name: &[u8]) -> bool
     ensures { λ r. ⌜ r ≡ same (nameAt (now (table .entry)) k) (now (name .entry)) ⌝ }
 {
     let from = k * 65;
-    let to = from + 64;
-    if table[to] != tag {
+    let tagged = from + 64;
+    if table[tagged] != tag {
         return false;
     }
+    let to = from + 64;
     let slot = &table[from..to];
     let n = text_fields::scan(slot, 0);
     text_fields::same(&slot[..n], name)

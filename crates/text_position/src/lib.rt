@@ -8,7 +8,7 @@ pub struct Position {
 }
 
 // The position after a byte. The place stops at 526, past the longest line that can be good.
-pub fn step_position(line: usize, at: usize, b: u8) -> Position
+fn step_position(line: usize, at: usize, b: u8) -> Position
     ensures { λ r. ⌜ r ≡ advanced (record { line = line; at = at }) b ⌝ }
 {
     if text_fields::is_newline(b) {

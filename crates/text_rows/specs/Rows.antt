@@ -103,13 +103,13 @@ termAdded k fs =
       code = 0;
       place = 0;
       kept =
-        record {
-          sorts = k .sorts;
-          terms = k .terms ++ (getD fs 0 [] ∷ []);
-          heads = headOf (k .heads) (getD fs 1 []) .heads;
-          inputs = k .inputs;
-          steps = k .steps;
-        };
+          record {
+            sorts = k .sorts;
+            terms = k .terms ++ (getD fs 0 [] ∷ []);
+            heads = headOf (k .heads) (getD fs 1 []) .heads;
+            inputs = k .inputs;
+            steps = k .steps;
+          };
       cells = termCells k fs;
     }
 

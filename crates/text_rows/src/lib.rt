@@ -46,7 +46,7 @@ pub fn refuse(counts: Counts, code: u16, place: usize) -> Row
 }
 
 // What a field says of the terms so far.
-pub fn term_ref(names: &[u8; 35360], count: usize, f: &[u8]) -> u16
+fn term_ref(names: &[u8; 35360], count: usize, f: &[u8]) -> u16
     requires { ⌜ count ≤ 256 ⌝ }
     ensures { λ r. ⌜ r ≡ refOf (namesFrom (now (names .entry)) 32 count) (now (f .entry)) ⌝ }
 {

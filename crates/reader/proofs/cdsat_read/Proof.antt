@@ -36,7 +36,7 @@ returns c = let a = c .before .before .before .before .before .before .before .b
     let n : Lent = record { sorts = length (a .sorts .now); terms = length (a .terms .now); inputs = length (a .inputs .now); steps = length (a .steps .now) } in
     let s : Stream = streamOf (fed .result) (fed .last .1 .1 .0) (fed .last .1 .1 .1 .0) (fed .last .1 .1 .1 .1 .0) (fed .last .1 .1 .1 .1 .1 .0) (fed .last .1 .1 .1 .1 .1 .1 .0) (fed .last .1 .1 .1 .1 .1 .1 .1 .0) in
     let is : s ≡ feedAll (freshStream (padded n startState)) (a .text .now) =
-        fed .ensures .0 ∙ ap (λ (x : Stream). feedAll x (a .text .now)) (fresh-is n (c .before .before .before .before .before .before .before .before .before .before .before .before .before .before .before .before .before .before .before .before .before .before .before .before .before .before .before .before .before .before .before .before .before .before .before .before .before .before .begin .result) _ _ _ _ _ _ (b .starts) (b .sorts-is) (b .terms-is) (b .inputs-is) (b .steps-is)) in
+    fed .ensures .0 ∙ ap (λ (x : Stream). feedAll x (a .text .now)) (fresh-is n (c .before .before .before .before .before .before .before .before .before .before .before .before .before .before .before .before .before .before .before .before .before .before .before .before .before .before .before .before .before .before .before .before .before .before .before .before .before .before .begin .result) _ _ _ _ _ _ (b .starts) (b .sorts-is) (b .terms-is) (b .inputs-is) (b .steps-is)) in
     read-is n (a .text .now) s is (c .before .before .before .before .before .before .before .before .finish .result) _ _ _ _ _ _ (c .before .before .before .before .before .before .before .before .finish .ensures)
 
 pub cdsat-read-spec : {M : Type 1} → statement M

@@ -32,8 +32,15 @@ loop-less : tie.Need-loop-less Inv-loop μ-loop
 loop-less c = omega (arith, c .before .before .before .before .before .before .before .before .before .before .before .before .before .before .before .before .loop-test, c .before .before .before .before .before .before .before .before .before .before .before .before .before .before .before .before .before .loop)
 
 loop-again : tie.Need-loop-again Inv-loop μ-loop
-loop-again c = let a = c .before .before .before .before .before .before .before .before .before .before .before .before .before .before .before .before .before .before .before .before .before .before .before .args in let l = c .before .before .before .before .before .before .before .before .before .before .before .before .before .before .before .before .before .loop in (omega (arith, c .before .before .before .before .before .before .before .before .before .before .before .before .before .before .before .before .loop-test), c .before .before .before .before .before .before .before .before .feed-byte .kept .1 .1 .1 .1 .0 ∙ l .inv .1, c .before .before .before .before .before .before .before .before .feed-byte .kept .1 .1 .1 .1 .1 .0 ∙ l .inv .2, c .before .before .before .before .before .before .before .before .feed-byte .kept .1 .1 .1 .1 .1 .1 .0 ∙ l .inv .3, c .before .before .before .before .before .before .before .before .feed-byte .kept .1 .1 .1 .1 .1 .1 .1 .0 ∙ l .inv .4, c .before .before .before .before .before .before .before .before .feed-byte .ensures .1,
-    ap (λ (s : Stream). feedAll s (drop (l .i + 1) (a .piece .now))) (c .before .before .before .before .before .before .before .before .feed-byte .ensures .0) ∙ sym (feed-more (streamOf (l .f) (l .line) (l .names) (l .sorts) (l .terms) (l .inputs) (l .steps)) (a .piece .now) (l .i) (omega (arith, c .before .before .before .before .before .before .before .before .before .before .before .before .before .before .before .before .loop-test))) ∙ l .inv .6)
+loop-again c = let a = c .before .before .before .before .before .before .before .before .before .before .before .before .before .before .before .before .before .before .before .before .before .before .before .args in let l = c .before .before .before .before .before .before .before .before .before .before .before .before .before .before .before .before .before .loop in (
+  omega (arith, c .before .before .before .before .before .before .before .before .before .before .before .before .before .before .before .before .loop-test),
+  c .before .before .before .before .before .before .before .before .feed-byte .kept .1 .1 .1 .1 .0 ∙ l .inv .1,
+  c .before .before .before .before .before .before .before .before .feed-byte .kept .1 .1 .1 .1 .1 .0 ∙ l .inv .2,
+  c .before .before .before .before .before .before .before .before .feed-byte .kept .1 .1 .1 .1 .1 .1 .0 ∙ l .inv .3,
+  c .before .before .before .before .before .before .before .before .feed-byte .kept .1 .1 .1 .1 .1 .1 .1 .0 ∙ l .inv .4,
+  c .before .before .before .before .before .before .before .before .feed-byte .ensures .1,
+  ap (λ (s : Stream). feedAll s (drop (l .i + 1) (a .piece .now))) (c .before .before .before .before .before .before .before .before .feed-byte .ensures .0) ∙ sym (feed-more (streamOf (l .f) (l .line) (l .names) (l .sorts) (l .terms) (l .inputs) (l .steps)) (a .piece .now) (l .i) (omega (arith, c .before .before .before .before .before .before .before .before .before .before .before .before .before .before .before .before .loop-test))) ∙ l .inv .6,
+)
 
 same-length : tie.Need-same-length Inv-loop μ-loop
 same-length c = c .before .loop .inv .1

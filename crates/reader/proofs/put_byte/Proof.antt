@@ -1,24 +1,19 @@
+-- `reader::put_byte` meets its contract.
 use mathlib.Core.Path.{sym}
 use lib.Seq.{set-out}
 use borrow.Author.Needs.{needs}
 use Rattle.reader.proofs.put_byte.Statement.{statement}
 use Rattle.reader.proofs.put_byte.Tie as tie
-use Rattle.reader.proofs.put_byte.Reads as reads
-use Rattle.reader.proofs.put_byte.Lts as lts
 
--- src/lib.rt:40:9
 slice-write-line : tie.Need-slice-write-line
 slice-write-line c = search needs
 
--- src/lib.rt:36:1
 same-length : tie.Need-same-length
 same-length c = search needs
 
--- src/lib.rt:36:1
 returns : tie.Need-returns
 returns c = search needs
 
--- src/lib.rt:36:1
 returns-2 : tie.Need-returns-2
 returns-2 c = sym (set-out (c .before .args .line .now) (c .before .args .at) (c .before .args .b) (c .if1 .left))
 

@@ -1,28 +1,22 @@
+-- `reader::store` meets its contract.
 use mathlib.Core.Path.{sym}
 use lib.Seq.{set-out}
 use borrow.Author.Needs.{needs}
 use Rattle.reader.proofs.store.Statement.{statement}
 use Rattle.reader.proofs.store.Tie as tie
-use Rattle.reader.proofs.store.Reads as reads
-use Rattle.reader.proofs.store.Lts as lts
 
--- src/lib.rt:68:9
 mul-sheet : tie.Need-mul-sheet
 mul-sheet c = search needs
 
--- src/lib.rt:68:9
 slice-write-sheet : tie.Need-slice-write-sheet
 slice-write-sheet c = search needs
 
--- src/lib.rt:64:1
 same-length : tie.Need-same-length
 same-length c = search needs
 
--- src/lib.rt:64:1
 returns : tie.Need-returns
 returns c = search needs
 
--- src/lib.rt:64:1
 returns-2 : tie.Need-returns-2
 returns-2 c = sym (set-out (c .before .args .sheet .now) (c .before .args .at) (c .before .args .v) (c .if1 .left))
 

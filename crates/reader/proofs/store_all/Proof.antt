@@ -1,3 +1,4 @@
+-- `reader::store_all` meets its contract.
 use mathlib.Core.Path.{_≡_, refl, sym, ap, _∙_}
 use mathlib.Core.List.{List}
 use native.Mathlib.Omega.{arith}
@@ -8,9 +9,6 @@ use lib.Seq.{sets}
 use Rattle.reader.proofs.Sheets.{sets-more, sets-end}
 use Rattle.reader.proofs.store_all.Statement.{statement}
 use Rattle.reader.proofs.store_all.Tie as tie
-use Rattle.reader.proofs.store_all.Reads as reads
-use Rattle.reader.proofs.store_all.Lts as lts
-use Rattle.reader.proofs.store.Reads as store-reads
 
 abbrev Inv-loop : tie.InvT-loop
 Inv-loop sheet₀ at row j₀ sheet j = (j ≤ length row) × (length sheet ≡ length sheet₀) × (sets sheet (at + j) (drop j row) ≡ sets sheet₀ at row)
@@ -18,43 +16,33 @@ Inv-loop sheet₀ at row j₀ sheet j = (j ≤ length row) × (length sheet ≡ 
 abbrev μ-loop : tie.MeasureT-loop
 μ-loop sheet₀ at row j₀ sheet j = length row - j
 
--- src/lib.rt:147:5
 loop-holds : tie.Need-loop-holds Inv-loop μ-loop
 loop-holds c = (omega arith, refl, rw add-zero)
 
--- src/lib.rt:148:22
 add-store : tie.Need-add-store Inv-loop μ-loop
 add-store c = omega arith
 
--- src/lib.rt:148:30
 mul-store : tie.Need-mul-store Inv-loop μ-loop
 mul-store c = omega arith
 
--- src/lib.rt:148:30
 shared-slice-read-store : tie.Need-shared-slice-read-store Inv-loop μ-loop
 shared-slice-read-store c = omega arith
 
--- src/lib.rt:148:9
 store-requires : tie.Need-store-requires Inv-loop μ-loop
 store-requires c κs = tt
 
--- src/lib.rt:149:9
 add-j : tie.Need-add-j Inv-loop μ-loop
 add-j c = omega arith
 
--- src/lib.rt:147:5
 loop-less : tie.Need-loop-less Inv-loop μ-loop
 loop-less c = omega arith
 
--- src/lib.rt:147:5
 loop-again : tie.Need-loop-again Inv-loop μ-loop
 loop-again c = let l = c .before .before .before .before .before .before .loop in let a = c .before .before .before .before .before .before .before .before .before .args in (omega arith, omega arith, ap (λ (s : List ℕ). sets s (a .at + (l .j + 1)) (drop (l .j + 1) (a .cells .now))) (c .before .before .store .ensures) ∙ sym (sets-more (l .sheet) (a .at) (a .cells .now) (l .j) (omega arith)) ∙ l .inv .2)
 
--- src/lib.rt:142:1
 same-length : tie.Need-same-length Inv-loop μ-loop
 same-length c = omega arith
 
--- src/lib.rt:142:1
 returns : tie.Need-returns Inv-loop μ-loop
 returns c = let l = c .before .loop in let a = c .before .before .before .before .args in sym (sets-end (l .sheet) (a .at) (a .cells .now) (l .j) (omega arith)) ∙ l .inv .2
 

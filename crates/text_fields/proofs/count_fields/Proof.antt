@@ -1,3 +1,4 @@
+-- `text_fields::count_fields` meets its contract.
 use mathlib.Core.Path.{_≡_, refl, sym, ap, _∙_}
 use mathlib.Core.List.{[]}
 use native.Mathlib.Omega.{arith}
@@ -8,9 +9,6 @@ use Rattle.text_fields.specs.Split.{pieces, fieldEnd}
 use Rattle.text_fields.proofs.Cut.{field-gone, field-next, field-here, count-more, more-none, more-some, more}
 use Rattle.text_fields.proofs.count_fields.Statement.{statement}
 use Rattle.text_fields.proofs.count_fields.Tie as tie
-use Rattle.text_fields.proofs.count_fields.Reads as reads
-use Rattle.text_fields.proofs.count_fields.Lts as lts
-use Rattle.text_fields.proofs.field_end.Reads as field-end-reads
 
 abbrev Inv-loop : tie.InvT-loop
 Inv-loop line n₀ from₀ n from = (from ≤ length line) × (n ≤ from + 1) × (n + more line from ≡ length (pieces 32 line))
@@ -18,35 +16,27 @@ Inv-loop line n₀ from₀ n from = (from ≤ length line) × (n ≤ from + 1) �
 abbrev μ-loop : tie.MeasureT-loop
 μ-loop line n₀ from₀ n from = length line - from
 
--- src/lib.rt:13:9
 field-end-requires : tie.Need-field-end-requires Inv-loop μ-loop
 field-end-requires c κs = omega arith
 
--- src/lib.rt:14:5
 loop-holds : tie.Need-loop-holds Inv-loop μ-loop
 loop-holds c = let l = c .before .before .args .line .now in let f = c .field-end in let e : f .result ≡ fieldEnd l 0 = f .ensures .0 in let u : f .result ≤ length l = f .ensures .1 in (u, omega arith, sym (count-more l 0 (f .result) e (omega arith) u))
 
--- src/lib.rt:15:40
 add-field-end : tie.Need-add-field-end Inv-loop μ-loop
 add-field-end c = omega arith
 
--- src/lib.rt:15:9
 field-end-requires-2 : tie.Need-field-end-requires-2 Inv-loop μ-loop
 field-end-requires-2 c κs = omega arith
 
--- src/lib.rt:16:9
 add-n : tie.Need-add-n Inv-loop μ-loop
 add-n c = omega arith
 
--- src/lib.rt:14:5
 loop-less : tie.Need-loop-less Inv-loop μ-loop
 loop-less c = let x = c .before .before .loop in let l = c .before .before .before .before .before .args .line .now in let f = c .field-end2 in let e : f .result ≡ fieldEnd l (x .from + 1) = f .ensures .0 in let u : f .result ≤ length l = f .ensures .1 in omega arith
 
--- src/lib.rt:14:5
 loop-again : tie.Need-loop-again Inv-loop μ-loop
 loop-again c = let x = c .before .before .loop in let l = c .before .before .before .before .before .args .line .now in let f = c .field-end2 in let e : f .result ≡ fieldEnd l (x .from + 1) = f .ensures .0 in let u : f .result ≤ length l = f .ensures .1 in (u, omega arith, omega (arith, more-some l (x .from) (omega arith), count-more l (x .from + 1) (f .result) e (omega arith) u, x .inv .2))
 
--- src/lib.rt:9:1
 returns : tie.Need-returns Inv-loop μ-loop
 returns c = let x = c .before .loop in let l = c .before .before .before .before .args .line .now in omega (arith, more-none l (x .from) (omega arith), x .inv .2)
 

@@ -1,3 +1,4 @@
+-- `text_fields::field` meets its contract.
 use Prim.Native.Nat.{ℕ}
 use mathlib.Core.Path.{_≡_, refl, sym, ap, _∙_}
 use mathlib.Core.List.{[]}
@@ -9,9 +10,6 @@ use Rattle.text_fields.specs.Split.{pieces, fieldEnd}
 use Rattle.text_fields.proofs.Cut.{field-gone, field-next, field-here, count-more, more-none, more-some, more}
 use Rattle.text_fields.proofs.field.Statement.{statement}
 use Rattle.text_fields.proofs.field.Tie as tie
-use Rattle.text_fields.proofs.field.Reads as reads
-use Rattle.text_fields.proofs.field.Lts as lts
-use Rattle.text_fields.proofs.field_end.Reads as field-end-reads
 
 abbrev Inv-loop : tie.InvT-loop
 Inv-loop line k from₀ left₀ from left = (from ≤ length line) × (getD (pieces 32 (drop from line)) left [] ≡ getD (pieces 32 line) k [])
@@ -19,63 +17,48 @@ Inv-loop line k from₀ left₀ from left = (from ≤ length line) × (getD (pie
 abbrev μ-loop : tie.MeasureT-loop
 μ-loop line k from₀ left₀ from left = left
 
--- src/lib.rt:27:5
 loop-holds : tie.Need-loop-holds Inv-loop μ-loop
 loop-holds c = (omega arith, refl)
 
--- src/lib.rt:28:13
 field-end-requires : tie.Need-field-end-requires Inv-loop μ-loop
 field-end-requires c κs = omega arith
 
--- src/lib.rt:30:20
 sub-result : tie.Need-sub-result Inv-loop μ-loop
 sub-result c = omega arith
 
--- src/lib.rt:30:20
 part-result-start : tie.Need-part-result-start Inv-loop μ-loop
 part-result-start c = omega arith
 
--- src/lib.rt:30:20
 part-result-end : tie.Need-part-result-end Inv-loop μ-loop
 part-result-end c = let x = c .before .before .before .loop in let l = c .before .before .before .before .before .args .line .now in let f = c .before .field-end in let e : f .result ≡ fieldEnd l (x .from) = f .ensures .0 in let u : f .result ≤ length l = f .ensures .1 in omega arith
 
--- src/lib.rt:30:13
 returns : tie.Need-returns Inv-loop μ-loop
 returns c = let x = c .before .before .before .before .loop in let l = c .before .before .before .before .before .before .args .line .now in let f = c .before .before .field-end in let e : f .result ≡ fieldEnd l (x .from) = f .ensures .0 in let u : f .result ≤ length l = f .ensures .1 in rw sub-self (sym (field-gone l (x .from) (f .result) e (x .inv .0) (c .before .if1 .taken) (x .left) (omega arith)) ∙ x .inv .1)
 
--- src/lib.rt:32:16
 add-from : tie.Need-add-from Inv-loop μ-loop
 add-from c = let x = c .before .before .before .loop in let l = c .before .before .before .before .before .args .line .now in let f = c .before .field-end in let e : f .result ≡ fieldEnd l (x .from) = f .ensures .0 in let u : f .result ≤ length l = f .ensures .1 in omega arith
 
--- src/lib.rt:33:9
 sub-left : tie.Need-sub-left Inv-loop μ-loop
 sub-left c = omega arith
 
--- src/lib.rt:27:5
 loop-less : tie.Need-loop-less Inv-loop μ-loop
 loop-less c = omega arith
 
--- src/lib.rt:27:5
 loop-again : tie.Need-loop-again Inv-loop μ-loop
 loop-again c = let x = c .before .before .before .loop in let l = c .before .before .before .before .before .args .line .now in let f = c .before .field-end in let e : f .result ≡ fieldEnd l (x .from) = f .ensures .0 in let u : f .result ≤ length l = f .ensures .1 in let w : f .result < length l = omega (arith, c .if1 .left) in (omega arith, sym (field-next l (x .from) (f .result) e (x .inv .0) w (x .left) (omega arith)) ∙ x .inv .1)
 
--- src/lib.rt:35:9
 field-end-requires-2 : tie.Need-field-end-requires-2 Inv-loop μ-loop
 field-end-requires-2 c κs = omega arith
 
--- src/lib.rt:36:5
 sub-result-2 : tie.Need-sub-result-2 Inv-loop μ-loop
 sub-result-2 c = let x = c .before .before .loop in let l = c .before .before .before .before .args .line .now in let f = c .field-end2 in let e : f .result ≡ fieldEnd l (x .from) = f .ensures .0 in let u : f .result ≤ length l = f .ensures .1 in omega arith
 
--- src/lib.rt:36:5
 part-result-start-2 : tie.Need-part-result-start-2 Inv-loop μ-loop
 part-result-start-2 c = let x = c .before .before .loop in let l = c .before .before .before .before .args .line .now in let f = c .field-end2 in let e : f .result ≡ fieldEnd l (x .from) = f .ensures .0 in let u : f .result ≤ length l = f .ensures .1 in omega arith
 
--- src/lib.rt:36:5
 part-result-end-2 : tie.Need-part-result-end-2 Inv-loop μ-loop
 part-result-end-2 c = let x = c .before .before .loop in let l = c .before .before .before .before .args .line .now in let f = c .field-end2 in let e : f .result ≡ fieldEnd l (x .from) = f .ensures .0 in let u : f .result ≤ length l = f .ensures .1 in omega arith
 
--- src/lib.rt:22:1
 returns-2 : tie.Need-returns-2 Inv-loop μ-loop
 returns-2 c = let x = c .before .before .before .loop in let l = c .before .before .before .before .before .args .line .now in let f = c .before .field-end2 in let e : f .result ≡ fieldEnd l (x .from) = f .ensures .0 in let u : f .result ≤ length l = f .ensures .1 in let z : x .left ≡ 0 = omega arith in sym (field-here l (x .from) (f .result) e (x .inv .0) u) ∙ ap (λ (m : ℕ). getD (pieces 32 (drop (x .from) l)) m []) (sym z) ∙ x .inv .1
 

@@ -1,3 +1,4 @@
+-- `text_fields::field_end` meets its contract.
 use Rattle.text_fields.proofs.Laws.{rest}
 use Prim.Native.Nat.{_≤_, _<_, _-_, _+_, _*_}
 use mathlib.Core.Path.{_≡_, refl, sym, ap, _∙_}
@@ -11,31 +12,22 @@ use lib.ListN.{length-take, length-drop}
 use borrow.Author.Needs.{needs}
 use Rattle.text_fields.proofs.field_end.Statement.{statement}
 use Rattle.text_fields.proofs.field_end.Tie as tie
-use Rattle.text_fields.proofs.field_end.Reads as reads
-use Rattle.text_fields.proofs.field_end.Lts as lts
-use Rattle.text_fields.proofs.scan.Reads as scan-reads
 
--- src/lib.rt:40:15
 sub-scan : tie.Need-sub-scan
 sub-scan c = search needs
 
--- src/lib.rt:40:15
 part-scan-start : tie.Need-part-scan-start
 part-scan-start c = search needs
 
--- src/lib.rt:40:15
 part-scan-end : tie.Need-part-scan-end
 part-scan-end c = search needs
 
--- src/lib.rt:40:10
 scan-requires : tie.Need-scan-requires
 scan-requires c κs = search needs
 
--- src/lib.rt:40:5
 add-result : tie.Need-add-result
 add-result c = search needs
 
--- src/lib.rt:35:1
 returns : tie.Need-returns
 returns c = let a = c .before .before .before .args in let r = rest (a .at) (a .line .now) in let e : c .scan .result ≡ before 32 (drop (a .at) (a .line .now)) = c .scan .ensures .0 ∙ ap (before 32) r in let g : c .scan .result ≤ length (take (length (a .line .now) - a .at) (drop (a .at) (a .line .now))) = c .scan .ensures .1 in omega (arith, length-drop (a .at) (a .line .now), ap length r)
 

@@ -1,3 +1,4 @@
+-- `text_fields::same` meets its contract.
 use Prim.Native.Nat.{_≤_, _<_, _-_, _+_, _*_}
 use mathlib.Core.Path.{_≡_, refl, sym, ap, _∙_}
 use native.Mathlib.Omega.{arith}
@@ -7,8 +8,6 @@ use Rattle.text_fields.specs.Number.{digits}
 use Rattle.text_fields.proofs.Laws.{before-hit, before-miss, before-end, same-length, same-hit, same-miss, same-end, digits-more, digits-large, digits-low, digits-high, digits-end}
 use Rattle.text_fields.proofs.same.Statement.{statement}
 use Rattle.text_fields.proofs.same.Tie as tie
-use Rattle.text_fields.proofs.same.Reads as reads
-use Rattle.text_fields.proofs.same.Lts as lts
 
 abbrev Inv-loop : tie.InvT-loop
 Inv-loop a b i₀ i = (i ≤ length a) × (length a ≡ length b) × (same (drop i a) (drop i b) ≡ same a b)
@@ -16,39 +15,30 @@ Inv-loop a b i₀ i = (i ≤ length a) × (length a ≡ length b) × (same (drop
 abbrev μ-loop : tie.MeasureT-loop
 μ-loop a b i₀ i = length a - i
 
--- src/lib.rt:48:9
 returns : tie.Need-returns Inv-loop μ-loop
 returns c = sym (same-length (c .before .args .a .now) (c .before .args .b .now) (c .if1 .taken))
 
--- src/lib.rt:51:5
 loop-holds : tie.Need-loop-holds Inv-loop μ-loop
 loop-holds c = (omega arith, omega arith, refl)
 
--- src/lib.rt:52:12
 shared-slice-read-if2 : tie.Need-shared-slice-read-if2 Inv-loop μ-loop
 shared-slice-read-if2 c = omega arith
 
--- src/lib.rt:52:20
 shared-slice-read-if2-2 : tie.Need-shared-slice-read-if2-2 Inv-loop μ-loop
 shared-slice-read-if2-2 c = omega arith
 
--- src/lib.rt:53:13
 returns-2 : tie.Need-returns-2 Inv-loop μ-loop
 returns-2 c = let x = c .before .before .before .before in let a = c .before .before .before .before .before .before .args in sym (same-miss (a .a .now) (a .b .now) (x .loop .i) (omega arith) (omega arith) (c .if2 .taken)) ∙ x .loop .inv .2
 
--- src/lib.rt:55:9
 add-i : tie.Need-add-i Inv-loop μ-loop
 add-i c = omega arith
 
--- src/lib.rt:51:5
 loop-less : tie.Need-loop-less Inv-loop μ-loop
 loop-less c = omega arith
 
--- src/lib.rt:51:5
 loop-again : tie.Need-loop-again Inv-loop μ-loop
 loop-again c = let x = c .before .before .before .before in let a = c .before .before .before .before .before .before .args in (omega arith, omega arith, sym (same-hit (a .a .now) (a .b .now) (x .loop .i) (omega arith) (omega arith) (c .if2 .left)) ∙ x .loop .inv .2)
 
--- src/lib.rt:44:1
 returns-3 : tie.Need-returns-3 Inv-loop μ-loop
 returns-3 c = let x = c .before in let a = c .before .before .before .args in sym (same-end (a .a .now) (a .b .now) (x .loop .i) (omega arith) (omega arith)) ∙ x .loop .inv .2
 

@@ -1,3 +1,4 @@
+-- `text_fields::scan` meets its contract.
 use Prim.Native.Nat.{_≤_, _<_, _-_, _+_, _*_}
 use mathlib.Core.Path.{_≡_, refl, sym, _∙_}
 use native.Mathlib.Omega.{arith}
@@ -7,8 +8,6 @@ use Rattle.text_fields.specs.Number.{digits}
 use Rattle.text_fields.proofs.Laws.{before-hit, before-miss, before-end, same-length, same-hit, same-miss, same-end, digits-more, digits-large, digits-low, digits-high, digits-end}
 use Rattle.text_fields.proofs.scan.Statement.{statement}
 use Rattle.text_fields.proofs.scan.Tie as tie
-use Rattle.text_fields.proofs.scan.Reads as reads
-use Rattle.text_fields.proofs.scan.Lts as lts
 
 abbrev Inv-loop : tie.InvT-loop
 Inv-loop s c i₀ i = (i ≤ length s) × (i + before c (drop i s) ≡ before c s)
@@ -16,31 +15,24 @@ Inv-loop s c i₀ i = (i ≤ length s) × (i + before c (drop i s) ≡ before c 
 abbrev μ-loop : tie.MeasureT-loop
 μ-loop s c i₀ i = length s - i
 
--- src/lib.rt:25:5
 loop-holds : tie.Need-loop-holds Inv-loop μ-loop
 loop-holds c = omega arith
 
--- src/lib.rt:26:12
 shared-slice-read-if1 : tie.Need-shared-slice-read-if1 Inv-loop μ-loop
 shared-slice-read-if1 c = omega arith
 
--- src/lib.rt:27:13
 returns : tie.Need-returns Inv-loop μ-loop
 returns c = let x = c .before .before .before in omega (arith, before-hit (x .before .args .c) (x .before .args .s .now) (x .loop .i) (omega arith) (c .if1 .taken))
 
--- src/lib.rt:29:9
 add-i : tie.Need-add-i Inv-loop μ-loop
 add-i c = omega arith
 
--- src/lib.rt:25:5
 loop-less : tie.Need-loop-less Inv-loop μ-loop
 loop-less c = omega arith
 
--- src/lib.rt:25:5
 loop-again : tie.Need-loop-again Inv-loop μ-loop
 loop-again c = let x = c .before .before .before in omega (arith, before-miss (x .before .args .c) (x .before .args .s .now) (x .loop .i) (omega arith) (c .if1 .left))
 
--- src/lib.rt:20:1
 returns-2 : tie.Need-returns-2 Inv-loop μ-loop
 returns-2 c = let x = c .before in omega (arith, before-end (x .before .args .c) (x .before .args .s .now) (x .loop .i) (omega arith))
 

@@ -11,14 +11,17 @@ use Rattle.text_names.proofs.name_is.Tie as tie
 mul-from : tie.Need-mul-from
 mul-from c = search needs
 
-add-to : tie.Need-add-to
-add-to c = search needs
+add-tagged : tie.Need-add-tagged
+add-tagged c = search needs
 
 shared-slice-read-if1 : tie.Need-shared-slice-read-if1
 shared-slice-read-if1 c = search needs
 
 returns : tie.Need-returns
 returns c = let a = c .before .before .before .before .args in name-tagged (a .table .now) (a .k) (a .name .now) (omega (arith, c .before .before .shared-slice-known2 .given 0)) (λ e. c .if1 .taken (e ∙ sym (c .before .before .before .before .pre .1)))
+
+add-to : tie.Need-add-to
+add-to c = search needs
 
 sub-slot : tie.Need-sub-slot
 sub-slot c = search needs
@@ -46,9 +49,10 @@ name-is-spec =
     tie.close
     (tie.spec
     mul-from
-    add-to
+    add-tagged
     shared-slice-read-if1
     returns
+    add-to
     sub-slot
     part-slot-start
     part-slot-end
