@@ -1,6 +1,6 @@
 -- Laws of the definitions of specs/.
 use Prim.Native.Nat.{ℕ, zero, suc, _+_, _-_, _*_, _≤_, _<_}
-use mathlib.Core.Path.{_≡_, refl, ap}
+use mathlib.Core.Path.{_≡_, refl, ap, sym, _∙_}
 use mathlib.Core.Bool.{Bool, true, false}
 use mathlib.Core.List.{List, [], _∷_}
 use native.Mathlib.Omega.{arith}
@@ -10,8 +10,23 @@ use lib.Dec.{eqb, leb}
 use lib.ListN.{length, take, drop, getD, drop-of-length-le, length-drop}
 use lib.Seq.{drop-cons, take-all}
 use Rattle.text_fields.specs.Split.{pick, before, fieldEnd, same}
+use Rattle.text_fields.specs.Class.{classOf, isSpace}
+use Rattle.text_fields.specs.declared.ByteClass.the-variants.{Space, Newline, Name, Other}
 use Rattle.text_fields.specs.Number.{digits, decimal}
 use Rattle.text_fields.specs.declared.Value.the-variants.{Number, Malformed}
+
+-- a byte is of the class of spaces just when it is 32
+pub space-is : (b : ℕ) → isSpace (classOf b) ≡ eqb b 32
+space-is b = one (eqb b 32) refl where
+  other : (x y z : Bool) → isSpace (pick x Newline (pick y (pick z Name Other) Other)) ≡ false
+  other true y z = refl
+  other false true true = refl
+  other false true false = refl
+  other false false z = refl
+
+  one : (t : Bool) → eqb b 32 ≡ t → isSpace (pick t Space (pick (eqb b 10) Newline (pick (leb 33 b) (pick (leb b 126) Name Other) Other))) ≡ eqb b 32
+  one true e = sym e
+  one false e = other (eqb b 10) (leb 33 b) (leb b 126) ∙ sym e
 
 module _ (c : ℕ) (l : List ℕ) (i : ℕ) where
   pub before-hit : i < length l → getD l i 0 ≡ c → before c (drop i l) ≡ 0

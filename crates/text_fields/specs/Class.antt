@@ -12,6 +12,12 @@ abbrev pub classOf : ℕ → ByteClass
 classOf b =
     pick (eqb b 32) Space (pick (eqb b 10) Newline (pick (leb 33 b) (pick (leb b 126) Name Other) Other))
 
+abbrev pub isSpace : ByteClass → Bool
+isSpace Space = true
+isSpace Newline = false
+isSpace Name = false
+isSpace Other = false
+
 abbrev pub isName : ByteClass → Bool
 isName Space = false
 isName Newline = false

@@ -4,7 +4,7 @@ ghost use mathlib.Core.List.{[]};
 ghost use Prim.Native.Nat.{_+_, _-_, _*_, _≤_, _<_};
 ghost use lib.ListN.{length, take, drop, getD};
 ghost use Rattle.text_fields.specs.Split.{fieldEnd, before, pieces, same as sameBytes};
-ghost use Rattle.text_fields.specs.Class.{classOf, isName, isNewline, named};
+ghost use Rattle.text_fields.specs.Class.{classOf, isSpace, isName, isNewline, named};
 ghost use Rattle.text_fields.specs.Number.{digits, decimal, number as numberOf, value as valueOf, isNumber};
 ghost use Rattle.text_fields.specs.Words.{stepWords, ruleWords, headWords, indexFrom, refOf};
 ghost use Rattle.text_fields.specs.Shape.{filled, spaced, wellFormed, firstMalformed, shapeOf};
@@ -67,13 +67,40 @@ pub fn scan(s: &[u8], c: u8) -> usize
     i
 }
 
+// Whether a byte parts fields.
+fn is_space(b: u8) -> bool
+    ensures { λ r. ⌜ r ≡ isSpace (classOf b) ⌝ }
+{
+    match byte_class(b) {
+        ByteClass::Space => true,
+        ByteClass::Newline => false,
+        ByteClass::Name => false,
+        ByteClass::Other => false,
+    }
+}
+
+// How many bytes stand before the first space.
+fn scan_field(s: &[u8]) -> usize
+    ensures { λ r. ⌜ r ≡ before 32 (now (s .entry)) ⌝ }
+    ensures { λ r. ⌜ r ≤ length (now (s .entry)) ⌝ }
+{
+    let mut i = 0;
+    while i < s.len() {
+        if is_space(s[i]) {
+            return i;
+        }
+        i += 1;
+    }
+    i
+}
+
 // The end of the field that starts at `at`: the first space from there on, or the line's end.
 fn field_end(line: &[u8], at: usize) -> usize
     requires { ⌜ at ≤ length (now line) ⌝ }
     ensures { λ r. ⌜ r ≡ fieldEnd (now (line .entry)) at ⌝ }
     ensures { λ r. ⌜ r ≤ length (now (line .entry)) ⌝ }
 {
-    at + scan(&line[at..], b' ')
+    at + scan_field(&line[at..])
 }
 
 // Whether two slices hold the same bytes.
