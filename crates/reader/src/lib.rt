@@ -411,6 +411,7 @@ pub fn begin(
 ) -> Progress
     ensures { λ r. ⌜ Begun (now (sorts .entry)) (now (terms .entry)) (now (inputs .entry)) (now (steps .entry)) r
         (now (sorts .exit)) (now (terms .exit)) (now (inputs .exit)) (now (steps .exit)) ⌝ }
+    ensures { λ r. ⌜ Bounded (r .core .counts) ⌝ }
 {
     clear_numbers(sorts);
     clear_numbers(terms);

@@ -14,7 +14,7 @@ begin-requires : tie.Need-begin-requires
 begin-requires c κs = search needs
 
 feed-requires : tie.Need-feed-requires
-feed-requires c κs = rw (c .before .before .before .before .before .before .before .before .before .before .before .before .before .before .begin .ensures .starts) (omega arith)
+feed-requires c κs = c .before .before .before .before .before .before .before .before .before .before .before .before .before .before .begin .ensures .1
 
 finish-requires : tie.Need-finish-requires
 finish-requires c κs = search needs
@@ -32,7 +32,7 @@ same-length-4 : tie.Need-same-length-4
 same-length-4 c = c .before .before .before .before .before .before .before .before .finish .kept .1 .1 .1 .1 .1 .1 .0 ∙ c .before .before .before .before .before .before .before .before .before .before .before .before .before .before .before .before .before .before .before .before .before .before .before .feed .kept .1 .1 .1 .1 .1 .1 .1 .0 ∙ c .before .before .before .before .before .before .before .before .before .before .before .before .before .before .before .before .before .before .before .before .before .before .before .before .before .before .before .before .before .before .before .before .before .before .before .before .before .before .begin .kept .1 .1 .1 .0
 
 returns : tie.Need-returns
-returns c = let a = c .before .before .before .before .before .before .before .before .before .before .before .before .before .before .before .before .before .before .before .before .before .before .before .before .before .before .before .before .before .before .before .before .before .before .before .before .before .before .before .before .before .before .before .before .before .before .before .before .args in let b = c .before .before .before .before .before .before .before .before .before .before .before .before .before .before .before .before .before .before .before .before .before .before .before .before .before .before .before .before .before .before .before .before .before .before .before .before .before .before .begin .ensures in let fed = c .before .before .before .before .before .before .before .before .before .before .before .before .before .before .before .before .before .before .before .before .before .before .before .feed in
+returns c = let a = c .before .before .before .before .before .before .before .before .before .before .before .before .before .before .before .before .before .before .before .before .before .before .before .before .before .before .before .before .before .before .before .before .before .before .before .before .before .before .before .before .before .before .before .before .before .before .before .before .args in let b = c .before .before .before .before .before .before .before .before .before .before .before .before .before .before .before .before .before .before .before .before .before .before .before .before .before .before .before .before .before .before .before .before .before .before .before .before .before .before .begin .ensures .0 in let fed = c .before .before .before .before .before .before .before .before .before .before .before .before .before .before .before .before .before .before .before .before .before .before .before .feed in
     let n : Lent = record { sorts = length (a .sorts .now); terms = length (a .terms .now); inputs = length (a .inputs .now); steps = length (a .steps .now) } in
     let s : Stream = streamOf (fed .result) (fed .last .1 .1 .0) (fed .last .1 .1 .1 .0) (fed .last .1 .1 .1 .1 .0) (fed .last .1 .1 .1 .1 .1 .0) (fed .last .1 .1 .1 .1 .1 .1 .0) (fed .last .1 .1 .1 .1 .1 .1 .1 .0) in
     let is : s ≡ feedAll (freshStream (padded n startState)) (a .text .now) =
