@@ -1,6 +1,6 @@
 -- Laws of the stream: a byte, and the bytes of a piece.
-use Prim.Native.Nat.{ℕ, zero, suc, _+_, _-_, _≤_, _<_}
-use mathlib.Core.Path.{_≡_, refl, ap, sym, _∙_}
+use Prim.Native.Nat.{ℕ, _+_, _-_, _≤_, _<_}
+use mathlib.Core.Path.{_≡_, refl}
 use mathlib.Core.Bool.{Bool, true, false}
 use mathlib.Core.List.{List, [], _∷_, _++_}
 use native.Mathlib.Omega.{arith}
@@ -15,8 +15,7 @@ use Rattle.text_position.specs.declared.Position.{Position}
 use Rattle.text_position.specs.Place.{advanced}
 use Rattle.reader.specs.declared.Core.{Core}
 use Rattle.reader.specs.declared.Progress.{Progress}
-use Rattle.reader.specs.Text.{lineEffect}
-use Rattle.reader.specs.Stream.{Stream, Sheets, LineEnded, stepByte, feedAll, controlOf, streamOf}
+use Rattle.reader.specs.Stream.{Stream, LineEnded, stepByte, feedAll, controlOf, streamOf}
 
 -- feeding the bytes from i on
 module _ (s : Stream) (l : List ℕ) (i : ℕ) where

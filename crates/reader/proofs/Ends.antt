@@ -1,16 +1,14 @@
 -- Laws of the end of a text.
-use Prim.Native.Nat.{ℕ, _*_, _≤_, _<_}
-use mathlib.Core.Path.{_≡_, refl, ap, sym, _∙_}
+use Prim.Native.Nat.{ℕ}
+use mathlib.Core.Path.{_≡_, ap, _∙_}
 use mathlib.Core.Bool.{Bool, true, false}
-use mathlib.Core.List.{List, [], _∷_}
-use borrow.Author.Tests.{eq-eqb, ne-eqb, le-leb, lt-leb}
-use lib.Dec.{eqb, leb}
+use mathlib.Core.List.{List}
+use borrow.Author.Tests.{eq-eqb, ne-eqb}
+use lib.Dec.{eqb}
 use lib.ListN.{length, replicate}
-use Rattle.text_fields.specs.Split.{pick}
 use Rattle.text_names.proofs.Table.{length-names}
 use Rattle.text_rows.specs.View.{keptOf}
 use Rattle.text_rows.specs.declared.Counts.{Counts}
-use Rattle.reader.specs.declared.Core.{Core}
 use Rattle.reader.specs.declared.Progress.{Progress}
 use Rattle.reader.specs.declared.Fault.{Fault}
 use Rattle.reader.specs.declared.ReadOutcome.{ReadOutcome}

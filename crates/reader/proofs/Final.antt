@@ -1,19 +1,18 @@
 -- A text that was fed from the start and finished leaves what the definition of the text form says.
-use Prim.Native.Nat.{ℕ, zero, suc, _*_, min}
-use mathlib.Core.Path.{_≡_, refl, ap, sym, _∙_}
-use mathlib.Core.Bool.{Bool, true, false}
+use Prim.Native.Nat.{ℕ, min}
+use mathlib.Core.Path.{_≡_, _∙_}
 use mathlib.Core.List.{List, [], _∷_}
 use native.Mathlib.Omega.{arith}
 use borrow.Author.Tests.{ne-eqb}
-use lib.Dec.{eqb, leb}
+use lib.Dec.{eqb}
 use lib.ListN.{length, replicate}
-use Rattle.text_fields.specs.Split.{pick, pieces, same}
+use Rattle.text_fields.specs.Split.{pieces, same}
 use Rattle.text_names.specs.Table.{padTo}
 use Rattle.text_names.proofs.Laws.{length-padTo}
 use Rattle.reader.specs.declared.Progress.{Progress}
 use Rattle.reader.specs.declared.ReadOutcome.{ReadOutcome}
-use Rattle.reader.specs.Text.{Control, State, Lent, last, lastLine, linesFold, startState, faultOf, fits, textState, textFault, textCode, textOutcome, textSheet, outcomeOf, TextRead}
-use Rattle.reader.specs.Stream.{Sheets, Stream, feedAll, freshStream, streamOf, startProgress, streamFault, streamCode, holdRows, codeOf, leftSheet, Finished}
+use Rattle.reader.specs.Text.{Lent, last, lastLine, linesFold, startState, fits, textState, textFault, textCode, textOutcome, textSheet, TextRead}
+use Rattle.reader.specs.Stream.{Stream, feedAll, freshStream, streamOf, startProgress, streamFault, streamCode, holdRows, leftSheet, Finished}
 use Rattle.reader.proofs.Sheets.{pad-none}
 use Rattle.reader.proofs.Sizes.{sized-sorts, sized-terms, sized-inputs, sized-steps}
 use Rattle.reader.proofs.Whole.{Follows, padded, whole-text}

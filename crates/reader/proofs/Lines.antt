@@ -1,12 +1,12 @@
 -- Laws of what a line does.
-use Prim.Native.Nat.{ℕ, zero, suc, _≤_, _<_}
-use mathlib.Core.Path.{_≡_, refl, ap, sym, _∙_}
-use mathlib.Core.Bool.{Bool, true, false}
+use Prim.Native.Nat.{ℕ, _≤_, _<_}
+use mathlib.Core.Path.{_≡_, refl, ap, _∙_}
+use mathlib.Core.Bool.{true, false}
 use mathlib.Core.List.{List, [], _∷_}
 use native.Mathlib.Omega.{arith}
 use borrow.Author.Tests.{eq-eqb, ne-eqb, le-leb, lt-leb}
 use lib.ListN.{length}
-use Rattle.text_fields.specs.Split.{pick, pieces, same}
+use Rattle.text_fields.specs.Split.{pieces, same}
 use Rattle.reader.specs.Text.{Control, Effect, quiet, bad, header, nextSheet, rowOf, row, readLine, numbered, lineEffect}
 use Rattle.reader.specs.Stream.{Sheets, LineEnded, stored}
 

@@ -1,7 +1,7 @@
 -- However a text is cut into pieces, reading it leaves the same.
 use Prim.Native.Nat.{ℕ}
 use mathlib.Core.Path.{_≡_, refl, ap, sym, _∙_}
-use mathlib.Core.List.{List, [], _∷_, _++_}
+use mathlib.Core.List.{List, [], _∷_}
 use Rattle.reader.specs.Text.{Lent, startState}
 use Rattle.reader.specs.Stream.{Sheets, Stream, feedAll, freshStream, fedPieces, joined, zeroSheets, ReadInPieces}
 use Rattle.reader.proofs.Bytes.{feed-append}

@@ -1,25 +1,23 @@
 -- The bytes of a text, fed one by one, do what its lines do.
-use Prim.Native.Nat.{ℕ, zero, suc, _+_, _-_, _*_, _≤_, _<_, min}
+use Prim.Native.Nat.{ℕ, _+_, _-_, _≤_, _<_, min}
 use mathlib.Core.Path.{_≡_, refl, ap, sym, _∙_}
 use mathlib.Core.Bool.{Bool, true, false}
 use mathlib.Core.List.{List, [], _∷_, _++_, append-assoc}
 use native.Mathlib.Omega.{arith}
-use borrow.Author.Tests.{lt-leb, ltb-true, ltb-false, leb-true, leb-false, eqb-true, ne-eqb}
+use borrow.Author.Tests.{lt-leb, ltb-true, ltb-false, leb-true, leb-false, eqb-true}
 use lib.Dec.{eqb, leb, ltb}
-use lib.ListN.{length, take, replicate, length-take, length-append}
-use lib.Seq.{sets, take-all, take-append-le}
-use Rattle.text_fields.specs.Split.{pick, pieces, prepend, same}
+use lib.ListN.{length, take, length-take, length-append}
+use lib.Seq.{take-all, take-append-le}
+use Rattle.text_fields.specs.Split.{pick, pieces, prepend}
 use Rattle.text_fields.specs.Class.{classOf, isNewline}
 use Rattle.text_fields.specs.declared.ByteClass.the-variants.{Space, Newline, Name, Other}
 use Rattle.text_names.specs.Table.{padTo}
-use Rattle.text_names.proofs.Laws.{length-padTo}
-use Rattle.text_rows.specs.Rows.{Kept}
-use Rattle.text_position.specs.Place.{advanced, nextLine}
+use Rattle.text_position.specs.Place.{nextLine}
 use Rattle.reader.specs.declared.Sheet.{Sheet}
 use Rattle.reader.specs.declared.Sheet.the-variants.{Sorts, Terms, Inputs, Steps}
 use Rattle.reader.specs.Text.{Control, Effect, State, Lent, lineEffect, readLine, numbered, bad, quiet, applied, lineStep, linesFold, last, lastLine, startState}
 use Rattle.reader.specs.Stream.{Sheets, Stream, stored, stepByte, feedAll, freshStream}
-use Rattle.reader.proofs.Sheets.{store-row, append-nil, pad-none}
+use Rattle.reader.proofs.Sheets.{store-row, append-nil}
 use Rattle.reader.proofs.Sizes.{Sized, sized-step, sized-sorts, sized-terms, sized-inputs, sized-steps, step-control, start-sized}
 
 -- a byte ends a line just when it is 10

@@ -1,6 +1,6 @@
 -- A text that comes in pieces, byte after byte.
 use Prim.Native.Nat.{ℕ, _+_, _*_, _≤_}
-use mathlib.Core.Bool.{Bool, true, false}
+use mathlib.Core.Bool.{Bool, false}
 use mathlib.Core.Path.{_≡_}
 use mathlib.Core.List.{List, [], _∷_, _++_}
 use lib.Dec.{eqb, leb, ltb}
@@ -10,7 +10,6 @@ use Rattle.text_fields.specs.Split.{pick}
 use Rattle.text_fields.specs.Class.{classOf, isNewline}
 use Rattle.text_rows.specs.Rows.{Kept}
 use Rattle.text_rows.specs.View.{keptOf, Bounded}
-use Rattle.text_rows.specs.declared.Counts.{Counts}
 use Rattle.text_position.specs.Place.{advanced}
 use Rattle.text_position.specs.declared.Position.{Position}
 use Rattle.reader.specs.Text.{Control, Effect, Lent, lineEffect, started, faultOf, outcomeOf, TextRead}

@@ -1,12 +1,11 @@
 // The reader of the four sheets as text.
 ghost use mathlib.Core.Path.{_≡_};
-ghost use mathlib.Core.Bool.{Bool, true, false};
-ghost use mathlib.Core.List.{List, []};
-ghost use Prim.Native.Nat.{ℕ, _+_, _*_, _≤_, _<_, _^_};
+ghost use mathlib.Core.List.{List};
+ghost use Prim.Native.Nat.{ℕ, _+_, _≤_, _<_, _^_};
 ghost use lib.Dec.{eqb};
 ghost use lib.ListN.{length, take, set, replicate};
 ghost use lib.Seq.{sets};
-ghost use Rattle.text_fields.specs.Split.{pick, pieces, same};
+ghost use Rattle.text_fields.specs.Split.{pieces, same};
 ghost use Rattle.text_rows.specs.View.{keptOf, takenOf, Bounded, Within};
 ghost use Rattle.reader.specs.Text.{quiet, bad, enter, headerOf, header, nextSheet, rowOf, row, readLine, numbered, lineEffect, isSteps, faultOf, counted, outcomeOf, TextRead};
 ghost use Rattle.reader.specs.Stream.{Sheets, LineEnded, stored, stepByte, feedAll, controlOf, effectOf, StepBounded, streamOf, holdRows, codeOf, leftSheet, Begun, Finished};

@@ -1,5 +1,5 @@
 -- Laws of the definitions of specs/.
-use Prim.Native.Nat.{ℕ, zero, suc, _+_, _-_, _*_, _≤_, _<_}
+use Prim.Native.Nat.{ℕ, suc, _+_, _-_, _*_, _≤_, _<_}
 use mathlib.Core.Path.{_≡_, refl, ap, sym, _∙_}
 use mathlib.Core.Bool.{Bool, true, false}
 use mathlib.Core.List.{List, [], _∷_}
@@ -9,7 +9,7 @@ use borrow.Author.Tests.{eq-eqb, ne-eqb, le-leb, lt-leb}
 use lib.Dec.{eqb, leb}
 use lib.ListN.{length, take, drop, getD, drop-of-length-le, length-drop}
 use lib.Seq.{drop-cons, take-all}
-use Rattle.text_fields.specs.Split.{pick, before, fieldEnd, same}
+use Rattle.text_fields.specs.Split.{pick, before, same}
 use Rattle.text_fields.specs.Class.{classOf, isSpace}
 use Rattle.text_fields.specs.declared.ByteClass.the-variants.{Space, Newline, Name, Other}
 use Rattle.text_fields.specs.Number.{digits, decimal}

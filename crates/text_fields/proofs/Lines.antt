@@ -1,21 +1,19 @@
 -- Laws of the shape of a line, field after field, and of a search in a list.
-use Prim.Native.Nat.{ℕ, zero, suc, _+_, _-_, _≤_, _<_}
-use mathlib.Core.Path.{_≡_, refl, ap, sym, _∙_}
+use Prim.Native.Nat.{ℕ, suc, _+_, _-_, _≤_, _<_}
+use mathlib.Core.Path.{_≡_, sym}
 use mathlib.Core.Bool.{Bool, true, false}
 use mathlib.Core.List.{List, [], _∷_}
 use native.Mathlib.Omega.{arith}
 use native.Mathlib.Numerals.{add-one}
 use borrow.Author.Tests.{eq-eqb, ne-eqb}
-use lib.Dec.{eqb, leb}
+use lib.Dec.{eqb}
 use lib.ListN.{length, drop, getD, drop-of-length-le}
 use lib.Seq.{drop-cons}
 use Rattle.text_fields.specs.Split.{pick, same, bytes}
 use Rattle.text_fields.specs.Class.{classOf, isName, named}
-use Rattle.text_fields.specs.Shape.{filled, spaced, wellFormed, firstMalformed, shapeAt, shapeOf}
-use Rattle.text_fields.specs.Words.{indexFrom, indexOr, refOf}
-use Rattle.text_fields.specs.declared.Found.{Found}
+use Rattle.text_fields.specs.Shape.{filled, spaced, wellFormed, firstMalformed, shapeOf}
+use Rattle.text_fields.specs.Words.{indexFrom, refOf}
 use Rattle.text_fields.specs.declared.Found.the-variants.{At, Nothing}
-use Rattle.text_fields.specs.declared.Shape.{Shape}
 use Rattle.text_fields.specs.declared.Shape.the-variants.{Good, Faulty}
 
 -- the bytes from i on

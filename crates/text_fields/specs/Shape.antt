@@ -1,10 +1,10 @@
 -- Whether a line of values is well formed.
-use Prim.Native.Nat.{ℕ, zero, suc}
+use Prim.Native.Nat.{ℕ, suc}
 use mathlib.Core.Bool.{Bool, true, false}
 use mathlib.Core.List.{List, [], _∷_}
 use lib.Dec.{eqb, leb}
 use lib.ListN.{length}
-use Rattle.text_fields.specs.Split.{pick, same}
+use Rattle.text_fields.specs.Split.{pick}
 use Rattle.text_fields.specs.Class.{named}
 use Rattle.text_fields.specs.Number.{value, isNumber}
 use Rattle.text_fields.specs.declared.Shape.{Shape}

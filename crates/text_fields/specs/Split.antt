@@ -1,11 +1,11 @@
 -- How a text is cut: bytes into lines, and a line into fields.
-use Prim.Native.Nat.{ℕ, zero, suc, _+_}
-use Prim.Native.Char.{Char, code}
+use Prim.Native.Nat.{ℕ, suc, _+_}
+use Prim.Native.Char.{code}
 use Prim.Native.String.{String, [] as none, _∷_ as _then_}
 use mathlib.Core.Bool.{Bool, true, false}
 use mathlib.Core.List.{List, [], _∷_}
 use lib.Dec.{eqb}
-use lib.ListN.{drop, take}
+use lib.ListN.{drop}
 
 -- a or b, by a test
 abbrev pub pick : {A : Type 0} → Bool → A → A → A

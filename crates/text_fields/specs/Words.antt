@@ -1,6 +1,5 @@
 -- The words of the text form: its header lines, and the words that stand for numbers, each list in the order of its numbers.
-use Prim.Native.Nat.{ℕ, zero, suc}
-use mathlib.Core.Bool.{Bool, true, false}
+use Prim.Native.Nat.{ℕ, suc}
 use mathlib.Core.List.{List, [], _∷_}
 use Rattle.text_fields.specs.Split.{pick, same, bytes, pieces}
 use Rattle.text_fields.specs.declared.Found.{Found}

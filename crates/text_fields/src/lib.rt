@@ -1,8 +1,8 @@
 // Fields of a line: what the bytes of a line, a field, a value and a word say. Every function answers for any bytes.
 ghost use mathlib.Core.Path.{_≡_};
 ghost use mathlib.Core.List.{[]};
-ghost use Prim.Native.Nat.{_+_, _-_, _*_, _≤_, _<_};
-ghost use lib.ListN.{length, take, drop, getD};
+ghost use Prim.Native.Nat.{_+_, _≤_};
+ghost use lib.ListN.{length, getD};
 ghost use Rattle.text_fields.specs.Split.{fieldEnd, before, pieces, same as sameBytes};
 ghost use Rattle.text_fields.specs.Class.{classOf, isSpace, isName, isNewline, named};
 ghost use Rattle.text_fields.specs.Number.{digits, decimal, number as numberOf, value as valueOf, isNumber};

@@ -2,20 +2,18 @@
 use Prim.Native.Nat.{ℕ, zero, suc, _+_, _-_, _*_, _%_, _≤_, _<_}
 use mathlib.Core.Path.{_≡_, refl, ap, sym, _∙_}
 use mathlib.Core.Bool.{Bool, true, false}
-use mathlib.Core.List.{List, [], _∷_, _++_}
+use mathlib.Core.List.{List, [], _∷_}
 use native.Mathlib.Omega.{arith}
 use native.Mathlib.Nat.{le-of-suc-le-suc}
 use native.Mathlib.Numerals.{add-one}
-use borrow.Author.Tests.{eq-eqb, ne-eqb, eqb-true, eqb-false}
+use borrow.Author.Tests.{eqb-true, eqb-false}
 use lib.Dec.{eqb}
-use lib.ListN.{length, take, drop, getD, set, drop-of-length-le, length-append, List·getD-append}
+use lib.ListN.{length, drop, getD, set, drop-of-length-le, length-append, List·getD-append}
 use lib.Seq.{drop-cons, paste, paste-suc, length-paste, getD-at}
-use Rattle.text_fields.specs.Split.{pick, before, same}
+use Rattle.text_fields.specs.Split.{pick, same}
 use Rattle.text_fields.specs.Words.{indexFrom}
-use Rattle.text_fields.specs.declared.Found.{Found}
 use Rattle.text_fields.specs.declared.Found.the-variants.{At, Nothing}
-use Rattle.text_fields.proofs.Laws.{pick-both}
-use Rattle.text_names.specs.Table.{tagFrom, tagOf, slot, tagAt, written, nameAt, namesFrom, padTo, slotOf}
+use Rattle.text_names.specs.Table.{tagFrom, tagOf, tagAt, written, nameAt, namesFrom, padTo, slotOf}
 
 -- the tag, byte after byte
 module _ (h : ℕ) (l : List ℕ) (i : ℕ) where

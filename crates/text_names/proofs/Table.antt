@@ -3,18 +3,14 @@ use Prim.Native.Nat.{ℕ, zero, suc, _+_, _-_, _*_, _≤_, _<_}
 use mathlib.Core.Path.{_≡_, refl, ap, sym, _∙_}
 use mathlib.Core.Bool.{Bool, true, false}
 use mathlib.Core.List.{List, [], _∷_, _++_, append-assoc}
-use mathlib.Core.Logic.{⊎-elim}
 use native.Mathlib.Omega.{arith}
 use native.Mathlib.Nat.{add-suc, suc-add, add-zero}
 use native.Mathlib.Numerals.{add-one}
-use borrow.Author.Tests.{eq-eqb, ne-eqb, leb-true}
-use lib.Dec.{eqb, leb}
-use lib.ListN.{length, take, drop, getD, length-take, length-drop, length-append, take-append-drop, List·getD-append}
-use lib.Seq.{paste, take-append-le, drop-append-le, drop-at, take-at, take-all, length-take-le, getD-append-add, drop-paste, drop-drop, getD-drop}
+use borrow.Author.Tests.{eq-eqb, ne-eqb}
+use lib.ListN.{length, take, drop, getD, length-drop, take-append-drop, List·getD-append}
+use lib.Seq.{paste, take-append-le, drop-append-le, drop-at, take-at, take-all, length-take-le, drop-paste, drop-drop, getD-drop}
 use Rattle.text_fields.specs.Split.{pick, before}
 use Rattle.text_fields.specs.Class.{classOf, isName, named}
-use Rattle.text_fields.specs.declared.ByteClass.{ByteClass}
-use Rattle.text_fields.specs.declared.ByteClass.the-variants.{Space, Newline, Name, Other}
 use Rattle.text_names.specs.Table.{tagOf, slot, tagAt, written, nameAt, namesFrom, padTo, slotOf}
 use Rattle.text_names.proofs.Laws.{length-padTo, length-slot, slot-tag}
 

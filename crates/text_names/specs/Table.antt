@@ -1,6 +1,5 @@
 -- Tables of names: 65 bytes for each name, its own bytes, zeros up to 64, and a tag by which unequal names are told apart early.
 use Prim.Native.Nat.{ℕ, zero, suc, _+_, _*_, _%_}
-use mathlib.Core.Bool.{Bool, true, false}
 use mathlib.Core.List.{List, [], _∷_, _++_}
 use lib.Dec.{eqb}
 use lib.ListN.{take, drop, getD}

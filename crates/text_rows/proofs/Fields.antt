@@ -1,6 +1,6 @@
 -- The fields of a line that is well formed are names.
 use Prim.Native.Nat.{ℕ, zero, suc, _+_, _≤_, _<_}
-use mathlib.Core.Path.{_≡_, refl, ap, sym, _∙_}
+use mathlib.Core.Path.{_≡_, refl}
 use mathlib.Core.Bool.{Bool, true, false}
 use mathlib.Core.List.{List, [], _∷_}
 use native.Mathlib.Omega.{arith}
@@ -11,7 +11,6 @@ use lib.ListN.{length, getD}
 use Rattle.text_fields.specs.Split.{pick}
 use Rattle.text_fields.specs.Class.{named}
 use Rattle.text_fields.specs.Shape.{filled, spaced, wellFormed, firstMalformed, shapeAt, shapeOf}
-use Rattle.text_fields.specs.declared.Shape.{Shape}
 use Rattle.text_fields.specs.declared.Shape.the-variants.{Good, Faulty}
 use Rattle.text_names.proofs.Table.{both}
 

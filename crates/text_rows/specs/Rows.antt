@@ -1,5 +1,5 @@
 -- What a line of values does, sheet by sheet. The fields of a line are `fs`, counted from 0 here and from 1 in a place.
-use Prim.Native.Nat.{ℕ, zero, suc, _+_}
+use Prim.Native.Nat.{ℕ, _+_}
 use mathlib.Core.Bool.{Bool, true, false}
 use mathlib.Core.List.{List, [], _∷_, _++_}
 use lib.Dec.{ltb}

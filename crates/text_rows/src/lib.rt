@@ -1,13 +1,13 @@
 // Rows of sorts and terms, and what all rows share.
 ghost use mathlib.Core.Path.{_≡_};
-ghost use mathlib.Core.List.{List, [], _∷_};
-ghost use Prim.Native.Nat.{ℕ, _+_, _*_, _≤_, _<_};
-ghost use lib.ListN.{length, getD};
+ghost use mathlib.Core.List.{List, []};
+ghost use Prim.Native.Nat.{ℕ, _+_, _≤_, _<_};
+ghost use lib.ListN.{getD};
 ghost use Rattle.text_fields.specs.Split.{pieces};
 ghost use Rattle.text_fields.specs.Words.{refOf};
 ghost use Rattle.text_fields.specs.Shape.{shapeOf};
 ghost use Rattle.text_names.specs.Table.{namesFrom};
-ghost use Rattle.text_rows.specs.Rows.{refused, sortRef, isTaken, sortAdded, sortRow, termRow};
+ghost use Rattle.text_rows.specs.Rows.{refused, sortRef, isTaken, sortAdded, sortRow};
 ghost use Rattle.text_rows.specs.View.{keptOf, takenOf, Bounded, Within};
 use text_fields::Found;
 use text_fields::Shape;

@@ -1,24 +1,22 @@
 -- Laws of heads and of term rows, over plain lists and counts.
-use Prim.Native.Nat.{ℕ, zero, suc, _+_, _*_, _≤_, _<_}
-use mathlib.Core.Path.{_≡_, refl, ap, sym, _∙_}
-use mathlib.Core.Bool.{Bool, true, false}
+use Prim.Native.Nat.{ℕ, _+_, _*_, _≤_, _<_}
+use mathlib.Core.Path.{_≡_, refl, ap, _∙_}
+use mathlib.Core.Bool.{true, false}
 use mathlib.Core.List.{List, [], _∷_, _++_}
 use native.Mathlib.Omega.{arith}
 use borrow.Author.Tests.{lt-ltb, le-ltb}
 use lib.ListN.{length, getD}
 use lib.Seq.{paste}
-use Rattle.text_fields.specs.Split.{pick, same, bytes}
+use Rattle.text_fields.specs.Split.{same, bytes}
 use Rattle.text_fields.specs.Class.{named}
 use Rattle.text_fields.specs.Words.{indexFrom, refOf, headWords}
 use Rattle.text_fields.specs.Shape.{shapeOf}
-use Rattle.text_fields.specs.declared.Found.{Found}
 use Rattle.text_fields.specs.declared.Found.the-variants.{At, Nothing}
-use Rattle.text_fields.specs.declared.Shape.{Shape}
 use Rattle.text_fields.specs.declared.Shape.the-variants.{Good, Faulty}
 use Rattle.text_names.specs.Table.{namesFrom, slotOf}
 use Rattle.text_names.proofs.Table.{length-names, names-before, names-after, names-put}
-use Rattle.text_rows.specs.Rows.{Kept, Taken, Head, refused, isTaken, sortRef, freeHead, headWord, headOf, termCells, termAdded, termRow}
-use Rattle.text_rows.specs.View.{keptOf, takenOf, Bounded, Within}
+use Rattle.text_rows.specs.Rows.{Kept, Head, refused, isTaken, sortRef, freeHead, headOf, termAdded, termRow}
+use Rattle.text_rows.specs.View.{keptOf, takenOf, Bounded}
 use Rattle.text_rows.specs.declared.Counts.{Counts}
 use Rattle.text_rows.proofs.Fields.{field-named, field-short}
 use Rattle.text_terms.specs.declared.HeadNumber.{HeadNumber}

@@ -1,5 +1,5 @@
 -- Reads to the end: the sheets keep their lengths, and the counts stay within the ceilings.
-use mathlib.Core.Path.{_≡_, refl, sym, ap, _∙_}
+use mathlib.Core.Path.{_≡_, refl, _∙_}
 use native.Mathlib.Omega.{arith}
 use lib.ListN.{length}
 use Rattle.text_rows.specs.View.{Bounded}

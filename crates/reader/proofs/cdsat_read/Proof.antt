@@ -1,6 +1,5 @@
 -- A whole text: begun, fed and finished.
-use mathlib.Core.Path.{_≡_, refl, sym, ap, _∙_}
-use native.Mathlib.Omega.{arith}
+use mathlib.Core.Path.{_≡_, ap, _∙_}
 use lib.ListN.{length}
 use Rattle.reader.specs.Text.{Lent, startState}
 use Rattle.reader.specs.Stream.{Stream, streamOf, feedAll, freshStream}

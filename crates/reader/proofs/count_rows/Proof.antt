@@ -1,5 +1,4 @@
 -- A count, 0 after a refusal.
-use mathlib.Core.Path.{_≡_, refl, sym, ap, _∙_}
 use borrow.Author.Tests.{eq-eqb, ne-eqb}
 use borrow.Author.Needs.{needs}
 use Rattle.reader.proofs.count_rows.Statement.{statement}

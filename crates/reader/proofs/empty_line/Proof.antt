@@ -1,6 +1,6 @@
 -- An empty line, by sheet.
 use Prim.Native.Nat.{ℕ}
-use mathlib.Core.Path.{_≡_, refl, sym, ap, _∙_}
+use mathlib.Core.Path.{sym, ap, _∙_}
 use mathlib.Core.List.{List}
 use Rattle.reader.specs.Text.{nextSheet}
 use Rattle.reader.specs.Stream.{controlOf}

@@ -1,8 +1,7 @@
 -- A finished line.
-use mathlib.Core.Path.{_≡_, refl, sym, ap, _∙_}
+use mathlib.Core.Path.{ap, _∙_}
 use native.Mathlib.Omega.{arith}
-use lib.ListN.{length, take, length-take}
-use lib.Seq.{length-take-le}
+use lib.ListN.{take, length-take}
 use Rattle.reader.specs.Text.{Control, bad, readLine}
 use Rattle.reader.specs.Stream.{controlOf}
 use Rattle.reader.proofs.Lines.{effect-late, effect-long, effect-read}

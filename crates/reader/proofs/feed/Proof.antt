@@ -1,10 +1,10 @@
 -- The bytes of a piece: those from i on say the same as all of them.
-use Prim.Native.Nat.{_≤_, _-_, _+_, _<_}
+use Prim.Native.Nat.{_≤_, _-_, _+_}
 use mathlib.Core.Path.{_≡_, refl, sym, ap, _∙_}
 use native.Mathlib.Omega.{arith}
-use lib.ListN.{length, drop, getD}
+use lib.ListN.{length, drop}
 use Rattle.text_rows.specs.View.{Bounded}
-use Rattle.reader.specs.Stream.{Stream, streamOf, feedAll, stepByte}
+use Rattle.reader.specs.Stream.{Stream, streamOf, feedAll}
 use Rattle.reader.proofs.Bytes.{feed-more, feed-end}
 use Rattle.reader.proofs.feed.Statement.{statement}
 use Rattle.reader.proofs.feed.Tie as tie

@@ -1,5 +1,5 @@
 -- One byte.
-use mathlib.Core.Path.{_≡_, refl, sym, ap, _∙_}
+use mathlib.Core.Path.{sym, _∙_}
 use native.Mathlib.Omega.{arith}
 use Rattle.reader.proofs.Bytes.{step-newline, step-plain}
 use borrow.Author.Needs.{needs}

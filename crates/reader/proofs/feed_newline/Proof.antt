@@ -1,9 +1,9 @@
 -- A newline: the line is read, and its row stored.
-use mathlib.Core.Path.{_≡_, refl, sym, ap, _∙_}
+use mathlib.Core.Path.{_≡_, sym}
 use lib.Seq.{length-take-le}
 -- A newline: the line is read, and its row stored.
 use Prim.Native.Nat.{_≤_}
-use lib.ListN.{length, take, length-take}
+use lib.ListN.{length, take}
 use native.Mathlib.Omega.{arith}
 use Rattle.reader.specs.Stream.{controlOf, effectOf}
 use Rattle.reader.proofs.Lines.{line-ended}

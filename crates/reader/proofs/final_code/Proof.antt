@@ -1,5 +1,4 @@
 -- The number that the text gives.
-use mathlib.Core.Path.{_≡_, refl, sym, ap, _∙_}
 use borrow.Author.Tests.{eq-eqb, ne-eqb}
 use Rattle.reader.proofs.final_code.Statement.{statement}
 use Rattle.reader.proofs.final_code.Tie as tie

@@ -1,6 +1,6 @@
 -- The first line of a sheet.
 use Prim.Native.Nat.{ℕ}
-use mathlib.Core.Path.{_≡_, refl, sym, ap, _∙_}
+use mathlib.Core.Path.{sym, _∙_}
 use mathlib.Core.List.{List}
 use Rattle.text_fields.proofs.Laws.{pick-true, pick-false}
 use borrow.Author.Needs.{needs}

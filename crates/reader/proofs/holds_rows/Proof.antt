@@ -1,5 +1,4 @@
 -- Whether the sheets hold the rows, sheet after sheet.
-use mathlib.Core.Path.{_≡_, refl, sym, ap, _∙_}
 use borrow.Author.Tests.{le-leb, lt-leb}
 use borrow.Author.Needs.{needs}
 use Rattle.reader.proofs.holds_rows.Statement.{statement}

@@ -1,5 +1,5 @@
 -- Whether a line is a sheet's header, by sheet.
-use mathlib.Core.Path.{_≡_, refl, sym, ap, _∙_}
+use mathlib.Core.Path.{sym, ap, _∙_}
 use Rattle.text_fields.specs.Split.{same}
 use Rattle.reader.specs.Text.{headerOf}
 use Rattle.reader.specs.declared.Sheet.{Sheet}

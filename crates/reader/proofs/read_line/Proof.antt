@@ -1,5 +1,5 @@
 -- A line: a header, an empty line, or a row.
-use mathlib.Core.Path.{_≡_, refl, sym, ap, _∙_}
+use mathlib.Core.Path.{ap, _∙_}
 use borrow.Author.Tests.{not-true, not-false}
 use Rattle.reader.specs.Text.{row}
 use Rattle.reader.specs.Stream.{controlOf}

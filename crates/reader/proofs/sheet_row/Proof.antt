@@ -1,5 +1,5 @@
 -- A row, by sheet.
-use mathlib.Core.Path.{_≡_, refl, sym, ap, _∙_}
+use mathlib.Core.Path.{sym, ap, _∙_}
 use Rattle.text_fields.specs.Split.{pieces}
 use Rattle.text_rows.specs.View.{keptOf}
 use Rattle.reader.specs.Text.{rowOf}

@@ -3,8 +3,8 @@ use mathlib.Core.Path.{_≡_, refl, sym, ap, _∙_}
 use mathlib.Core.List.{List}
 use native.Mathlib.Omega.{arith}
 use native.Mathlib.Nat.{add-zero}
-use Prim.Native.Nat.{ℕ, _-_, _+_, _≤_, _<_}
-use lib.ListN.{length, drop, getD}
+use Prim.Native.Nat.{ℕ, _-_, _+_, _≤_}
+use lib.ListN.{length, drop}
 use lib.Seq.{sets}
 use Rattle.reader.proofs.Sheets.{sets-more, sets-end}
 use Rattle.reader.proofs.store_all.Statement.{statement}

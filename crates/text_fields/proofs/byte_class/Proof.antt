@@ -1,5 +1,4 @@
 -- The class of a byte, test after test.
-use mathlib.Core.Path.{_≡_, refl, sym, ap, _∙_}
 use borrow.Author.Tests.{eq-eqb, ne-eqb, le-leb, lt-leb}
 use Rattle.text_fields.proofs.byte_class.Statement.{statement}
 use Rattle.text_fields.proofs.byte_class.Tie as tie

@@ -1,6 +1,5 @@
 -- The shape of a line, test after test.
-use Prim.Native.Nat.{ℕ}
-use mathlib.Core.Path.{_≡_, refl, sym, ap, _∙_}
+use mathlib.Core.Path.{sym, _∙_}
 use borrow.Author.Tests.{not-true, not-false}
 use Rattle.text_fields.specs.Split.{pieces}
 use Rattle.text_fields.proofs.Lines.{shape-unspaced, shape-count, shape-good, shape-faulty}

@@ -1,12 +1,10 @@
 -- `text_fields::count_fields` meets its contract.
-use mathlib.Core.Path.{_≡_, refl, sym, ap, _∙_}
-use mathlib.Core.List.{[]}
+use mathlib.Core.Path.{_≡_, sym}
 use native.Mathlib.Omega.{arith}
-use native.Mathlib.Nat.{sub-self}
-use Prim.Native.Nat.{_-_, _+_, _≤_, _<_}
-use lib.ListN.{length, drop, getD}
+use Prim.Native.Nat.{_-_, _+_, _≤_}
+use lib.ListN.{length}
 use Rattle.text_fields.specs.Split.{pieces, fieldEnd}
-use Rattle.text_fields.proofs.Cut.{field-gone, field-next, field-here, count-more, more-none, more-some, more}
+use Rattle.text_fields.proofs.Cut.{count-more, more-none, more-some, more}
 use Rattle.text_fields.proofs.count_fields.Statement.{statement}
 use Rattle.text_fields.proofs.count_fields.Tie as tie
 

@@ -4,10 +4,10 @@ use mathlib.Core.Path.{_≡_, refl, sym, ap, _∙_}
 use mathlib.Core.List.{[]}
 use native.Mathlib.Omega.{arith}
 use native.Mathlib.Nat.{sub-self}
-use Prim.Native.Nat.{_-_, _+_, _≤_, _<_}
+use Prim.Native.Nat.{_-_, _≤_, _<_}
 use lib.ListN.{length, drop, getD}
 use Rattle.text_fields.specs.Split.{pieces, fieldEnd}
-use Rattle.text_fields.proofs.Cut.{field-gone, field-next, field-here, count-more, more-none, more-some, more}
+use Rattle.text_fields.proofs.Cut.{field-gone, field-next, field-here}
 use Rattle.text_fields.proofs.field.Statement.{statement}
 use Rattle.text_fields.proofs.field.Tie as tie
 

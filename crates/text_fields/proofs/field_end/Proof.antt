@@ -1,14 +1,11 @@
 -- `text_fields::field_end` meets its contract.
 use Rattle.text_fields.proofs.Laws.{rest}
-use Prim.Native.Nat.{_≤_, _<_, _-_, _+_, _*_}
-use mathlib.Core.Path.{_≡_, refl, sym, ap, _∙_}
+use Prim.Native.Nat.{_≤_, _-_}
+use mathlib.Core.Path.{_≡_, ap, _∙_}
 use native.Mathlib.Omega.{arith}
-use lib.ListN.{length, getD, drop, take}
-use Rattle.text_fields.specs.Split.{before, same}
-use Rattle.text_fields.specs.Number.{digits}
-use Rattle.text_fields.proofs.Laws.{before-hit, before-miss, before-end, same-length, same-hit, same-miss, same-end, digits-more, digits-large, digits-low, digits-high, digits-end}
-use native.Mathlib.Nat.{sub-zero}
-use lib.ListN.{length-take, length-drop}
+use lib.ListN.{length, drop, take}
+use Rattle.text_fields.specs.Split.{before}
+use lib.ListN.{length-drop}
 use borrow.Author.Needs.{needs}
 use Rattle.text_fields.proofs.field_end.Statement.{statement}
 use Rattle.text_fields.proofs.field_end.Tie as tie

@@ -1,5 +1,5 @@
 -- Whether a field holds a value.
-use mathlib.Core.Path.{_≡_, refl, sym, ap, _∙_}
+use mathlib.Core.Path.{sym, ap, _∙_}
 use Rattle.text_fields.specs.Number.{isNumber}
 use borrow.Author.Needs.{needs}
 use Rattle.text_fields.proofs.holds_value.Statement.{statement}

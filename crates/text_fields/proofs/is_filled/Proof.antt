@@ -1,5 +1,5 @@
 -- A field of at least one byte.
-use mathlib.Core.Path.{_≡_, refl, sym, ap, _∙_}
+use mathlib.Core.Path.{_∙_}
 use borrow.Author.Tests.{le-leb, lt-leb}
 use borrow.Author.Needs.{needs}
 use Rattle.text_fields.proofs.is_filled.Statement.{statement}

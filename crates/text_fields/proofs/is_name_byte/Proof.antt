@@ -1,5 +1,5 @@
 -- Whether a byte's class is that of a name's part.
-use mathlib.Core.Path.{_≡_, refl, sym, ap, _∙_}
+use mathlib.Core.Path.{sym, ap, _∙_}
 use Rattle.text_fields.specs.Class.{isName}
 use borrow.Author.Needs.{needs}
 use Rattle.text_fields.proofs.is_name_byte.Statement.{statement}

@@ -1,5 +1,5 @@
 -- A field of a value column, or of another.
-use mathlib.Core.Path.{_≡_, refl, sym, ap, _∙_}
+use mathlib.Core.Path.{_∙_}
 use borrow.Author.Needs.{needs}
 use Rattle.text_fields.proofs.is_well_formed.Statement.{statement}
 use Rattle.text_fields.proofs.is_well_formed.Tie as tie

@@ -1,6 +1,6 @@
 -- `text_fields::read_number` meets its contract.
-use mathlib.Core.Path.{_≡_, refl, sym, ap, _∙_}
-use Rattle.text_fields.proofs.Laws.{pick-true, pick-false, decimal-none, decimal-zero, decimal-led, decimal-more}
+use mathlib.Core.Path.{sym, _∙_}
+use Rattle.text_fields.proofs.Laws.{pick-true, pick-false}
 use borrow.Author.Needs.{needs}
 use Rattle.text_fields.proofs.read_number.Statement.{statement}
 use Rattle.text_fields.proofs.read_number.Tie as tie

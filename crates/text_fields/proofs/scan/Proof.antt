@@ -1,11 +1,10 @@
 -- `text_fields::scan` meets its contract.
-use Prim.Native.Nat.{_≤_, _<_, _-_, _+_, _*_}
-use mathlib.Core.Path.{_≡_, refl, sym, _∙_}
+use Prim.Native.Nat.{_≤_, _-_, _+_}
+use mathlib.Core.Path.{_≡_}
 use native.Mathlib.Omega.{arith}
-use lib.ListN.{length, getD, drop}
-use Rattle.text_fields.specs.Split.{before, same}
-use Rattle.text_fields.specs.Number.{digits}
-use Rattle.text_fields.proofs.Laws.{before-hit, before-miss, before-end, same-length, same-hit, same-miss, same-end, digits-more, digits-large, digits-low, digits-high, digits-end}
+use lib.ListN.{length, drop}
+use Rattle.text_fields.specs.Split.{before}
+use Rattle.text_fields.proofs.Laws.{before-hit, before-miss, before-end}
 use Rattle.text_fields.proofs.scan.Statement.{statement}
 use Rattle.text_fields.proofs.scan.Tie as tie
 

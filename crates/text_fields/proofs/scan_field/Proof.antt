@@ -2,10 +2,9 @@
 use lib.ListN.{length, drop, getD}
 -- How many bytes stand before the first space: the bytes from i on say the rest.
 use Prim.Native.Nat.{_≤_, _-_, _+_}
-use mathlib.Core.Path.{_≡_, refl, sym, ap, _∙_}
+use mathlib.Core.Path.{_≡_, sym, _∙_}
 use native.Mathlib.Omega.{arith}
 use borrow.Author.Tests.{eqb-true, eqb-false}
-use lib.ListN.{length, drop}
 use Rattle.text_fields.specs.Split.{before}
 use Rattle.text_fields.proofs.Laws.{space-is, before-hit, before-miss, before-end}
 use Rattle.text_fields.proofs.scan_field.Statement.{statement}

@@ -1,6 +1,6 @@
 -- What a field says of a list of words.
-use Prim.Native.Nat.{_≤_, _<_, _+_}
-use mathlib.Core.Path.{_≡_, refl, sym, ap, _∙_}
+use Prim.Native.Nat.{_<_, _+_}
+use mathlib.Core.Path.{sym, _∙_}
 use native.Mathlib.Omega.{arith}
 use lib.ListN.{length}
 use Rattle.text_fields.specs.Split.{pieces}

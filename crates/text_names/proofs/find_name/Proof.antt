@@ -1,9 +1,8 @@
 -- The search of a table, name after name.
-use Prim.Native.Nat.{_≤_, _-_, _+_, _*_, _<_}
-use mathlib.Core.Path.{_≡_, refl, sym, ap, _∙_}
+use Prim.Native.Nat.{_≤_, _-_, _+_}
+use mathlib.Core.Path.{_≡_, sym, _∙_}
 use native.Mathlib.Omega.{arith}
 use native.Mathlib.Nat.{sub-zero, add-zero}
-use lib.ListN.{length}
 use Rattle.text_fields.specs.Words.{indexFrom}
 use Rattle.text_names.specs.Table.{namesFrom}
 use Rattle.text_names.proofs.Laws.{find-hit, find-miss, find-end}

@@ -1,8 +1,8 @@
 -- The tags are compared, then what is written in the slot.
-use Prim.Native.Nat.{_≤_, _-_, _+_, _*_}
-use mathlib.Core.Path.{_≡_, refl, sym, ap, _∙_}
+use Prim.Native.Nat.{_-_, _+_, _*_}
+use mathlib.Core.Path.{_≡_, sym, _∙_}
 use native.Mathlib.Omega.{arith}
-use lib.ListN.{length, getD, length-take, length-drop}
+use lib.ListN.{length-take, length-drop}
 use Rattle.text_names.proofs.Laws.{name-tagged, name-written}
 use borrow.Author.Needs.{needs}
 use Rattle.text_names.proofs.name_is.Statement.{statement}

@@ -1,8 +1,7 @@
 -- A name is copied into its slot, byte after byte.
-use Prim.Native.Nat.{_≤_, _-_, _+_, _*_, _<_}
-use mathlib.Core.Path.{_≡_, refl, sym, ap, _∙_}
+use Prim.Native.Nat.{_≤_, _-_, _*_}
+use mathlib.Core.Path.{_≡_, ap, _∙_}
 use native.Mathlib.Omega.{arith}
-use lib.ListN.{length, getD}
 use lib.Seq.{paste, paste-zero}
 use Rattle.text_names.specs.Table.{slotOf}
 use Rattle.text_names.proofs.Laws.{put-more, put-length, length-slot}

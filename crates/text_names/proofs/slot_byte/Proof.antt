@@ -1,5 +1,5 @@
 -- A byte of a name's slot.
-use mathlib.Core.Path.{_≡_, refl, sym, ap, _∙_}
+use mathlib.Core.Path.{sym, _∙_}
 use native.Mathlib.Omega.{arith}
 use Rattle.text_names.proofs.Laws.{slot-tag, slot-byte, slot-zero}
 use borrow.Author.Needs.{needs}

@@ -1,9 +1,9 @@
 -- The tag of a name, byte after byte.
-use Prim.Native.Nat.{_≤_, _-_, _+_, _*_, _%_, _<_}
-use mathlib.Core.Path.{_≡_, refl, sym, ap, _∙_}
+use Prim.Native.Nat.{_≤_, _-_, _<_}
+use mathlib.Core.Path.{_≡_, refl, sym, _∙_}
 use native.Mathlib.Omega.{arith}
-use lib.ListN.{length, drop, getD}
-use Rattle.text_names.specs.Table.{tagFrom, tagOf}
+use lib.ListN.{length, drop}
+use Rattle.text_names.specs.Table.{tagFrom}
 use Rattle.text_names.proofs.Laws.{tag-more, tag-end, tag-whole}
 use Rattle.text_names.proofs.tag_of.Statement.{statement}
 use Rattle.text_names.proofs.tag_of.Tie as tie

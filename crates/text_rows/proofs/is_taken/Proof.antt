@@ -1,5 +1,5 @@
 -- A name that is reserved, or that a row has.
-use mathlib.Core.Path.{_≡_, refl, sym, ap, _∙_}
+use mathlib.Core.Path.{sym, _∙_}
 use Rattle.text_names.specs.Table.{namesFrom}
 use Rattle.text_rows.proofs.Laws.{taken-blank, taken-prop, taken-at, taken-not}
 use borrow.Author.Needs.{needs}

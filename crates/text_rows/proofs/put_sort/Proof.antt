@@ -1,11 +1,6 @@
 -- A sort row stored.
-use Prim.Native.Nat.{ℕ, _*_}
-use mathlib.Core.Path.{_≡_, refl, sym, ap, _∙_}
-use mathlib.Core.List.{List}
 use native.Mathlib.Omega.{arith}
-use lib.Seq.{paste}
 use Rattle.text_fields.specs.Split.{pieces}
-use Rattle.text_names.specs.Table.{slotOf}
 use Rattle.text_rows.proofs.Laws.{sort-stored}
 use borrow.Author.Needs.{needs}
 use Rattle.text_rows.proofs.put_sort.Statement.{statement}

@@ -1,5 +1,5 @@
 -- A field of a line as a sort.
-use mathlib.Core.Path.{_≡_, refl, sym, ap, _∙_}
+use mathlib.Core.Path.{ap, _∙_}
 use Rattle.text_rows.specs.Rows.{sortRef}
 use Rattle.text_names.specs.Table.{namesFrom}
 use borrow.Author.Needs.{needs}

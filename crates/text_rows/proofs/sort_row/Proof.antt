@@ -1,6 +1,5 @@
 -- A line of the sort sheet: its shape decides first.
-use mathlib.Core.Path.{_≡_, refl, sym, ap, _∙_}
-use native.Mathlib.Omega.{arith}
+use mathlib.Core.Path.{sym, _∙_}
 use Rattle.text_fields.specs.Split.{pieces}
 use Rattle.text_rows.specs.View.{keptOf}
 use Rattle.text_rows.proofs.Laws.{sort-faulty}

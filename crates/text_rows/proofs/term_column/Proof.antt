@@ -1,5 +1,5 @@
 -- A field of a line as a term.
-use mathlib.Core.Path.{_≡_, refl, sym, ap, _∙_}
+use mathlib.Core.Path.{ap, _∙_}
 use Rattle.text_fields.specs.Words.{refOf}
 use Rattle.text_names.specs.Table.{namesFrom}
 use borrow.Author.Needs.{needs}

@@ -1,5 +1,5 @@
 -- A term row, test after test.
-use mathlib.Core.Path.{_≡_, refl, sym, ap, _∙_}
+use mathlib.Core.Path.{sym, ap, _∙_}
 use native.Mathlib.Omega.{arith}
 use Rattle.text_fields.specs.Split.{pieces}
 use Rattle.text_names.specs.Table.{namesFrom}

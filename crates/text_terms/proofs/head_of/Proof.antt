@@ -1,8 +1,7 @@
 -- The number of a head.
-use Prim.Native.Nat.{_≤_, _<_, _+_}
-use mathlib.Core.Path.{_≡_, refl, sym, ap, _∙_}
+use Prim.Native.Nat.{_<_, _+_}
+use mathlib.Core.Path.{sym, _∙_}
 use native.Mathlib.Omega.{arith}
-use lib.ListN.{length}
 use Rattle.text_fields.specs.Words.{headWords}
 use Rattle.text_fields.proofs.Lines.{index-below}
 use Rattle.text_terms.proofs.Laws.{head-blank, head-word, head-free}

@@ -1,14 +1,7 @@
 -- A term row stored.
-use Prim.Native.Nat.{ℕ, _≤_, _<_, _+_, _*_}
-use mathlib.Core.Path.{_≡_, refl, sym, ap, _∙_}
-use mathlib.Core.List.{List, []}
 use native.Mathlib.Omega.{arith}
-use lib.ListN.{length, getD}
 use Rattle.text_fields.specs.Split.{pieces}
 use Rattle.text_rows.proofs.Fields.{field-named, field-short}
-use Rattle.text_names.specs.Table.{namesFrom}
-use Rattle.text_rows.specs.Rows.{headOf}
-use Rattle.text_terms.specs.Heads.{HeadIs}
 use Rattle.text_terms.proofs.Laws.{term-stored}
 use borrow.Author.Needs.{needs}
 use Rattle.text_terms.proofs.put_term.Statement.{statement}
