@@ -1,0 +1,157 @@
+// Reads the four sheets as text from standard input to its end, and prints what they come to.
+ghost use Rattle.text_rows.specs.View.{Bounded};
+use libc::STDERR_FILENO;
+use libc::STDOUT_FILENO;
+use reader::Progress;
+use reader::ReadOutcome;
+
+// After one read: whether to go on, whether the read failed, and what the reader carries.
+struct Turn {
+    more: bool,
+    failed: bool,
+    f: Progress,
+}
+
+// Reads once.
+fn read_some(
+    f: Progress,
+    line: &mut [u8; 526],
+    names: &mut [u8; 35360],
+    sorts: &mut [u16],
+    terms: &mut [u16],
+    inputs: &mut [u16],
+    steps: &mut [u16],
+) -> Turn
+    requires { ⌜ Bounded (f .core .counts) ⌝ }
+    ensures { λ r. ⌜ Bounded (r .f .core .counts) ⌝ }
+{
+    let mut buf = io::large_buffer();
+    let got = libc::read(0, &mut buf);
+    if got < 0 {
+        return Turn {
+            more: false,
+            failed: true,
+            f,
+        };
+    }
+    if got == 0 {
+        return Turn {
+            more: false,
+            failed: false,
+            f,
+        };
+    }
+    let n = io::count(got, &buf);
+    let next = reader::feed(f, &buf[..n], line, names, sorts, terms, inputs, steps);
+    Turn {
+        more: true,
+        failed: false,
+        f: next,
+    }
+}
+
+// Reads to the end. Nothing says that the input ends, so the turns are counted down, from a number that no run uses up.
+fn read_all(
+    start: Progress,
+    line: &mut [u8; 526],
+    names: &mut [u8; 35360],
+    sorts: &mut [u16],
+    terms: &mut [u16],
+    inputs: &mut [u16],
+    steps: &mut [u16],
+) -> Turn
+    requires { ⌜ Bounded (start .core .counts) ⌝ }
+    ensures { λ r. ⌜ Bounded (r .f .core .counts) ⌝ }
+{
+    let mut f = start;
+    let mut turns = u64::MAX;
+    while turns > 0 {
+        let t = read_some(f, line, names, sorts, terms, inputs, steps);
+        f = t.f;
+        if !t.more {
+            return t;
+        }
+        turns -= 1;
+    }
+    Turn {
+        more: false,
+        failed: true,
+        f,
+    }
+}
+
+// The two lines of a result.
+fn print_result(word: &[u8], steps: u16, code: u16, trail: u16) {
+    io::write_all(STDOUT_FILENO, b"verdict steps code trail\n");
+    io::write_all(STDOUT_FILENO, word);
+    io::write_all(STDOUT_FILENO, b" ");
+    io::print_decimal(STDOUT_FILENO, steps as u64);
+    io::write_all(STDOUT_FILENO, b" ");
+    io::print_decimal(STDOUT_FILENO, code as u64);
+    io::write_all(STDOUT_FILENO, b" ");
+    io::print_decimal(STDOUT_FILENO, trail as u64);
+    io::write_all(STDOUT_FILENO, b"\n");
+}
+
+// A text that was refused: the result, and for a person the line and the place of the first bad line.
+fn print_refusal(r: ReadOutcome) {
+    print_result(b"refused", 0, r.code, 0);
+    if r.line > 0 {
+        io::write_all(STDERR_FILENO, b"line ");
+        io::print_decimal(STDERR_FILENO, r.line);
+        io::write_all(STDERR_FILENO, b" field ");
+        io::print_decimal(STDERR_FILENO, r.place);
+        io::write_all(STDERR_FILENO, b"\n");
+    }
+}
+
+// A text that was read: so far its row counts.
+fn print_counts(r: ReadOutcome) {
+    io::write_all(STDOUT_FILENO, b"sorts terms inputs steps\n");
+    io::print_decimal(STDOUT_FILENO, r.sorts as u64);
+    io::write_all(STDOUT_FILENO, b" ");
+    io::print_decimal(STDOUT_FILENO, r.terms as u64);
+    io::write_all(STDOUT_FILENO, b" ");
+    io::print_decimal(STDOUT_FILENO, r.inputs as u64);
+    io::write_all(STDOUT_FILENO, b" ");
+    io::print_decimal(STDOUT_FILENO, r.steps as u64);
+    io::write_all(STDOUT_FILENO, b"\n");
+}
+
+fn main() {
+    let mut line = [0u8; 526];
+    let mut names = [0u8; 35360];
+    let mut sorts = [0u16; 64];
+    let mut terms = [0u16; 1536];
+    let mut inputs = [0u16; 512];
+    let mut steps = [0u16; 9216];
+    let start = reader::begin(&mut sorts, &mut terms, &mut inputs, &mut steps);
+    let end = read_all(
+        start,
+        &mut line,
+        &mut names,
+        &mut sorts,
+        &mut terms,
+        &mut inputs,
+        &mut steps,
+    );
+    let f = end.f;
+    let r = reader::finish(
+        f,
+        &mut line,
+        &mut names,
+        &mut sorts,
+        &mut terms,
+        &mut inputs,
+        &mut steps,
+    );
+    if end.failed {
+        io::write_all(STDERR_FILENO, b"standard input could not be read\n");
+        return;
+    }
+    if r.code == 0 {
+        print_counts(r);
+    } else {
+        print_refusal(r);
+    }
+}

@@ -1,0 +1,83 @@
+-- A text that was fed from the start and finished leaves what the definition of the text form says.
+use Prim.Native.Nat.{ℕ, min}
+use mathlib.Core.Path.{_≡_, _∙_}
+use mathlib.Core.List.{List, [], _∷_}
+use native.Mathlib.Omega.{arith}
+use borrow.Author.Tests.{ne-eqb}
+use lib.Dec.{eqb}
+use lib.ListN.{length, replicate}
+use Rattle.text_fields.specs.Split.{pieces, same}
+use Rattle.text_names.specs.Table.{padTo}
+use Rattle.text_names.proofs.Laws.{length-padTo}
+use Rattle.reader.specs.declared.Progress.{Progress}
+use Rattle.reader.specs.declared.ReadOutcome.{ReadOutcome}
+use Rattle.reader.specs.Text.{Lent, last, lastLine, linesFold, startState, fits, textState, textFault, textCode, textOutcome, textSheet, TextRead}
+use Rattle.reader.specs.Stream.{Stream, feedAll, freshStream, streamOf, startProgress, streamFault, streamCode, holdRows, leftSheet, Finished}
+use Rattle.reader.proofs.Sheets.{pad-none}
+use Rattle.reader.proofs.Sizes.{sized-sorts, sized-terms, sized-inputs, sized-steps}
+use Rattle.reader.proofs.Whole.{Follows, padded, whole-text}
+
+-- before the first byte
+pub fresh-is : (n : Lent) (f : Progress) (line t a b c d : List ℕ) → f ≡ startProgress → a ≡ replicate (n .sorts) 0 → b ≡ replicate (n .terms) 0 → c ≡ replicate (n .inputs) 0 → d ≡ replicate (n .steps) 0
+    → streamOf f line t a b c d ≡ freshStream (padded n startState)
+fresh-is n f line t a b c d e p q u v = rw (e, p, q, u, v, pad-none (n .sorts), pad-none (n .terms), pad-none (n .inputs), pad-none (n .steps))
+
+no-rest : (p : List ℕ) (n : ℕ) → n ≡ min (length p) 526 → eqb n 0 ≡ same p []
+no-rest [] n e = rw e
+no-rest (x ∷ xs) n e = ne-eqb n 0 (λ z. omega (arith, e))
+
+-- a sheet at the end
+left-padded : (code n : ℕ) (rows : List ℕ) → leftSheet code (padTo n rows) ≡ textSheet code n rows
+unfolding textSheet
+left-padded code n rows = rw (length-padTo n rows)
+
+module _ (n : Lent) (bs : List ℕ) (s : Stream) (is : s ≡ feedAll (freshStream (padded n startState)) bs) where
+  ran : Follows n s (record { state = linesFold 1 startState (pieces 10 bs); rest = last (pieces 10 bs); line = lastLine 1 (pieces 10 bs) })
+  ran = rw is (whole-text n bs)
+
+  control-is : s .control ≡ textState bs .control
+  unfolding textState
+  control-is = ran .control-is
+
+  sheets-are : s .sheets ≡ padded n (textState bs)
+  unfolding textState
+  sheets-are = ran .sheets-are
+
+  fault-is : streamFault s ≡ textFault bs
+  unfolding streamFault textFault
+  fault-is = rw (control-is, ran .line-is, no-rest (last (pieces 10 bs)) (s .pos .at) (ran .at-is))
+
+  room-is : holdRows (length (s .control .kept .sorts)) (length (s .control .kept .terms)) (s .control .kept .inputs) (s .control .kept .steps)
+      (length (s .sheets .sorts)) (length (s .sheets .terms)) (length (s .sheets .inputs)) (length (s .sheets .steps)) ≡ fits n (textState bs)
+  unfolding textState
+  room-is =
+      let st = linesFold 1 startState (pieces 10 bs) in
+      let z = ran .sized in
+      rw (
+        ran .control-is,
+        ran .sheets-are,
+        length-padTo (n .sorts) (st .sorts),
+        length-padTo (n .terms) (st .terms),
+        length-padTo (n .inputs) (st .inputs),
+        length-padTo (n .steps) (st .steps),
+        sized-sorts st z,
+        sized-terms st z,
+        sized-inputs st z,
+        sized-steps st z,
+      )
+
+  code-is : streamCode s ≡ textCode n bs
+  unfolding streamCode textCode
+  code-is = rw (fault-is, room-is)
+
+  pub read-is : (r : ReadOutcome) (line′ names′ a′ b′ c′ d′ : List ℕ) → Finished s r line′ names′ a′ b′ c′ d′ → TextRead bs n r a′ b′ c′ d′
+  unfolding textOutcome
+  read-is r line′ names′ a′ b′ c′ d′ h =
+      let st = textState bs in
+      record {
+        outcome-is = h .outcome-is ∙ rw (code-is, fault-is, control-is);
+        sorts-is = h .sorts-is ∙ rw (code-is, sheets-are) (left-padded (textCode n bs) (n .sorts) (st .sorts));
+        terms-is = h .terms-is ∙ rw (code-is, sheets-are) (left-padded (textCode n bs) (n .terms) (st .terms));
+        inputs-is = h .inputs-is ∙ rw (code-is, sheets-are) (left-padded (textCode n bs) (n .inputs) (st .inputs));
+        steps-is = h .steps-is ∙ rw (code-is, sheets-are) (left-padded (textCode n bs) (n .steps) (st .steps));
+      }

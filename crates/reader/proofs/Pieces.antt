@@ -1,0 +1,23 @@
+-- However a text is cut into pieces, reading it leaves the same.
+use Prim.Native.Nat.{ℕ}
+use mathlib.Core.Path.{_≡_, refl, ap, sym, _∙_}
+use mathlib.Core.List.{List, [], _∷_}
+use Rattle.reader.specs.Text.{Lent, startState}
+use Rattle.reader.specs.Stream.{Sheets, Stream, feedAll, freshStream, fedPieces, joined, zeroSheets, ReadInPieces}
+use Rattle.reader.proofs.Bytes.{feed-append}
+use Rattle.reader.proofs.Sheets.{pad-none}
+use Rattle.reader.proofs.Whole.{padded}
+use Rattle.reader.proofs.Final.{read-is}
+
+pieces-whole : (s : Stream) (ps : List (List ℕ)) → fedPieces s ps ≡ feedAll s (joined ps)
+pieces-whole s [] = refl
+pieces-whole s (p ∷ ps) = pieces-whole (feedAll s p) ps ∙ sym (feed-append s p (joined ps))
+
+zeros-are : (n : Lent) → zeroSheets n ≡ padded n startState
+zeros-are n = rw (pad-none (n .sorts), pad-none (n .terms), pad-none (n .inputs), pad-none (n .steps))
+
+pub read-in-pieces : ReadInPieces
+read-in-pieces n ps r line′ names′ sorts′ terms′ inputs′ steps′ h =
+    let e : fedPieces (freshStream (zeroSheets n)) ps ≡ feedAll (freshStream (padded n startState)) (joined ps) =
+    pieces-whole (freshStream (zeroSheets n)) ps ∙ ap (λ (x : Sheets). feedAll (freshStream x) (joined ps)) (zeros-are n) in
+    read-is n (joined ps) (fedPieces (freshStream (zeroSheets n)) ps) e r line′ names′ sorts′ terms′ inputs′ steps′ h

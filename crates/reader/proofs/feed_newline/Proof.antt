@@ -1,0 +1,53 @@
+-- A newline: the line is read, and its row stored.
+use mathlib.Core.Path.{_≡_, sym}
+use lib.Seq.{length-take-le}
+-- A newline: the line is read, and its row stored.
+use Prim.Native.Nat.{_≤_}
+use lib.ListN.{length, take}
+use native.Mathlib.Omega.{arith}
+use Rattle.reader.specs.Stream.{controlOf, effectOf}
+use Rattle.reader.proofs.Lines.{line-ended}
+use borrow.Author.Needs.{needs}
+use Rattle.reader.proofs.feed_newline.Statement.{statement}
+use Rattle.reader.proofs.feed_newline.Tie as tie
+
+end-line-requires : tie.Need-end-line-requires
+end-line-requires c κs = search needs
+
+array-share-prefix-cells : tie.Need-array-share-prefix-cells
+array-share-prefix-cells c = let e : length (c .before .before .end-line .result .cells) ≡ 9 = c .before .before .end-line .ensures .1 .2 in let w : c .before .before .end-line .result .width ≤ 9 = c .before .before .end-line .ensures .1 .1 in let u : c .before .before .end-line .result .width ≤ length (c .before .before .end-line .result .cells) = omega arith in u
+
+slice-aggregate-store-row : tie.Need-slice-aggregate-store-row
+slice-aggregate-store-row c = let e : length (c .before .before .before .end-line .result .cells) ≡ 9 = c .before .before .before .end-line .ensures .1 .2 in let w : c .before .before .before .end-line .result .width ≤ 9 = c .before .before .before .end-line .ensures .1 .1 in let u : c .before .before .before .end-line .result .width ≤ length (c .before .before .before .end-line .result .cells) = omega arith in sym (length-take-le (c .before .before .before .end-line .result .width) (c .before .before .before .end-line .result .cells) u)
+
+store-row-requires : tie.Need-store-row-requires
+store-row-requires c κs = let e : length (c .before .before .before .before .before .before .before .end-line .result .cells) ≡ 9 = c .before .before .before .before .before .before .before .end-line .ensures .1 .2 in let w : c .before .before .before .before .before .before .before .end-line .result .width ≤ 9 = c .before .before .before .before .before .before .before .end-line .ensures .1 .1 in let u : c .before .before .before .before .before .before .before .end-line .result .width ≤ length (c .before .before .before .before .before .before .before .end-line .result .cells) = omega arith in (c .before .before .before .before .before .before .before .before .before .before .before .before .before .before .pre, rw (length-take-le (c .before .before .before .before .before .before .before .end-line .result .width) (c .before .before .before .before .before .before .before .end-line .result .cells) u) w)
+
+same-length : tie.Need-same-length
+same-length c = search needs
+
+same-length-2 : tie.Need-same-length-2
+same-length-2 c = search needs
+
+same-length-3 : tie.Need-same-length-3
+same-length-3 c = search needs
+
+same-length-4 : tie.Need-same-length-4
+same-length-4 c = search needs
+
+returns : tie.Need-returns
+returns c = let a = c .before .before .before .before .before .before .before .before .before .before .before .before .before .before .before .before .before .before .before .before .before .before .before .before .args in (line-ended (controlOf (a .core) (a .names .now)) (a .pos .line) (take (a .pos .at) (a .line .now)) (record { sorts = a .sorts .now; terms = a .terms .now; inputs = a .inputs .now; steps = a .steps .now }) _ (effectOf (c .before .before .before .before .before .before .before .before .before .before .before .before .before .before .before .before .before .end-line .result) _) (c .before .before .before .before .before .before .before .before .before .before .before .before .before .before .before .before .before .end-line .ensures .0) (c .before .before .before .before .before .before .before .before .before .store-row .ensures (a .names .now)), c .before .before .before .before .before .before .before .before .before .before .before .before .before .before .before .before .before .end-line .ensures .1 .0)
+
+pub feed-newline-spec : {M : Type 1} → statement M
+feed-newline-spec =
+    tie.close
+    (tie.spec
+    end-line-requires
+    array-share-prefix-cells
+    slice-aggregate-store-row
+    store-row-requires
+    same-length
+    same-length-2
+    same-length-3
+    same-length-4
+    returns)

@@ -1,0 +1,76 @@
+-- The end of a text.
+use Prim.Native.Nat.{ℕ}
+use mathlib.Core.Path.{_≡_, ap, _∙_}
+use native.Mathlib.Omega.{arith}
+use lib.ListN.{length, replicate}
+use Rattle.reader.proofs.Ends.{finished}
+use borrow.Author.Needs.{needs}
+use Rattle.reader.proofs.finish.Statement.{statement}
+use Rattle.reader.proofs.finish.Tie as tie
+
+fault-of-requires : tie.Need-fault-of-requires
+fault-of-requires c κs = search needs
+
+holds-rows-requires : tie.Need-holds-rows-requires
+holds-rows-requires c κs = search needs
+
+final-code-requires : tie.Need-final-code-requires
+final-code-requires c κs = search needs
+
+clear-bytes-requires : tie.Need-clear-bytes-requires
+clear-bytes-requires c κs = search needs
+
+clear-bytes-requires-2 : tie.Need-clear-bytes-requires-2
+clear-bytes-requires-2 c κs = search needs
+
+leave-sheet-requires : tie.Need-leave-sheet-requires
+leave-sheet-requires c κs = search needs
+
+leave-sheet-requires-2 : tie.Need-leave-sheet-requires-2
+leave-sheet-requires-2 c κs = search needs
+
+leave-sheet-requires-3 : tie.Need-leave-sheet-requires-3
+leave-sheet-requires-3 c κs = search needs
+
+leave-sheet-requires-4 : tie.Need-leave-sheet-requires-4
+leave-sheet-requires-4 c κs = search needs
+
+outcome-of-requires : tie.Need-outcome-of-requires
+outcome-of-requires c κs = search needs
+
+same-length : tie.Need-same-length
+same-length c = search needs
+
+same-length-2 : tie.Need-same-length-2
+same-length-2 c = search needs
+
+same-length-3 : tie.Need-same-length-3
+same-length-3 c = search needs
+
+same-length-4 : tie.Need-same-length-4
+same-length-4 c = search needs
+
+returns : tie.Need-returns
+returns c = let a = c .before .before .before .before .before .before .before .before .before .before .before .before .before .before .before .before .before .before .before .before .before .before .before .before .before .before .before .before .before .before .before .args in let l : length (a .line .now) ≡ 526 = omega (arith, c .before .before .before .before .before .before .before .before .before .before .before .before .before .before .before .before .before .before .before .before .clear-bytes-arg) in let m : length (a .names .now) ≡ 35360 = omega (arith, c .before .before .before .before .before .before .before .before .before .before .before .before .before .before .before .before .before .before .clear-bytes-arg2) in
+    finished (a .f) (a .line .now) (a .names .now) (a .sorts .now) (a .terms .now) (a .inputs .now) (a .steps .now) (c .before .before .before .before .before .before .before .before .before .before .before .before .before .before .before .before .before .before .before .before .before .before .before .fault-of .result) (c .before .before .before .before .before .before .before .before .before .before .before .before .before .before .before .before .before .before .before .before .before .before .before .fault-of .ensures (a .names .now)) (c .before .before .before .before .before .before .before .before .before .before .before .before .before .before .before .before .before .before .before .before .before .before .holds-rows .result) (c .before .before .before .before .before .before .before .before .before .before .before .before .before .before .before .before .before .before .before .before .before .before .holds-rows .ensures) (c .before .before .before .before .before .before .before .before .before .before .before .before .before .before .before .before .before .before .before .before .before .final-code .result) (c .before .before .before .before .before .before .before .before .before .before .before .before .before .before .before .before .before .before .before .before .before .final-code .ensures)
+    (c .outcome-of .result) _ _ _ _ _ _ (c .outcome-of .ensures (a .names .now)) (c .before .before .before .before .before .before .before .before .before .before .before .before .before .before .before .before .before .before .before .clear-bytes .ensures ∙ ap (λ (k : ℕ). replicate k 0) l) (c .before .before .before .before .before .before .before .before .before .before .before .before .before .before .before .before .before .clear-bytes2 .ensures ∙ ap (λ (k : ℕ). replicate k 0) m) (c .before .before .before .before .before .before .before .before .before .before .before .before .before .before .before .leave-sheet .ensures) (c .before .before .before .before .before .before .before .before .before .before .before .leave-sheet2 .ensures) (c .before .before .before .before .before .before .before .leave-sheet3 .ensures) (c .before .before .before .leave-sheet4 .ensures)
+
+pub finish-spec : {M : Type 1} → statement M
+finish-spec =
+    tie.close
+    (tie.spec
+    fault-of-requires
+    holds-rows-requires
+    final-code-requires
+    clear-bytes-requires
+    clear-bytes-requires-2
+    leave-sheet-requires
+    leave-sheet-requires-2
+    leave-sheet-requires-3
+    leave-sheet-requires-4
+    outcome-of-requires
+    same-length
+    same-length-2
+    same-length-3
+    same-length-4
+    returns)

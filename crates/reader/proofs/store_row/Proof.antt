@@ -1,0 +1,92 @@
+-- A row stored, by sheet.
+use Prim.Native.Nat.{ℕ}
+use mathlib.Core.List.{List}
+use Rattle.reader.proofs.Sheets.{stored-sorts, stored-terms, stored-inputs, stored-steps}
+use borrow.Author.Needs.{needs}
+use Rattle.reader.proofs.store_row.Statement.{statement}
+use Rattle.reader.proofs.store_row.Tie as tie
+
+enum-told : tie.Need-enum-told
+enum-told c = search needs
+
+mul-store-all : tie.Need-mul-store-all
+mul-store-all c = search needs
+
+store-all-requires : tie.Need-store-all-requires
+store-all-requires c κs = search needs
+
+enum-told-2 : tie.Need-enum-told-2
+enum-told-2 c = search needs
+
+mul-store-all-2 : tie.Need-mul-store-all-2
+mul-store-all-2 c = search needs
+
+store-all-requires-2 : tie.Need-store-all-requires-2
+store-all-requires-2 c κs = search needs
+
+enum-told-3 : tie.Need-enum-told-3
+enum-told-3 c = search needs
+
+mul-store-all-3 : tie.Need-mul-store-all-3
+mul-store-all-3 c = search needs
+
+store-all-requires-3 : tie.Need-store-all-requires-3
+store-all-requires-3 c κs = search needs
+
+enum-told-4 : tie.Need-enum-told-4
+enum-told-4 c = search needs
+
+mul-store-all-4 : tie.Need-mul-store-all-4
+mul-store-all-4 c = search needs
+
+store-all-requires-4 : tie.Need-store-all-requires-4
+store-all-requires-4 c κs = search needs
+
+same-length : tie.Need-same-length
+same-length c = search needs
+
+returns : tie.Need-returns
+returns c = let a = c .before .before .before .before .before .before .before .before .before .before .before .before .args in λ (t : List ℕ). stored-sorts (a .counts) t (a .sorts .now) (a .terms .now) (a .inputs .now) (a .steps .now) (a .cells .now) (a .sheet) (c .before .before .before .before .before .enum-told .given .1) _ (c .before .before .store-all .ensures)
+
+same-length-2 : tie.Need-same-length-2
+same-length-2 c = search needs
+
+returns-2 : tie.Need-returns-2
+returns-2 c = let a = c .before .before .before .before .before .before .before .before .before .before .before .before .args in λ (t : List ℕ). stored-terms (a .counts) t (a .sorts .now) (a .terms .now) (a .inputs .now) (a .steps .now) (a .cells .now) (a .sheet) (c .before .before .before .before .before .enum-told2 .given .1) _ (c .before .before .store-all2 .ensures)
+
+same-length-3 : tie.Need-same-length-3
+same-length-3 c = search needs
+
+returns-3 : tie.Need-returns-3
+returns-3 c = let a = c .before .before .before .before .before .before .before .before .before .before .before .before .args in λ (t : List ℕ). stored-inputs (a .counts) t (a .sorts .now) (a .terms .now) (a .inputs .now) (a .steps .now) (a .cells .now) (a .sheet) (c .before .before .before .before .before .enum-told3 .given .1) _ (c .before .before .store-all3 .ensures)
+
+same-length-4 : tie.Need-same-length-4
+same-length-4 c = search needs
+
+returns-4 : tie.Need-returns-4
+returns-4 c = let a = c .before .before .before .before .before .before .before .before .before .before .before .before .args in λ (t : List ℕ). stored-steps (a .counts) t (a .sorts .now) (a .terms .now) (a .inputs .now) (a .steps .now) (a .cells .now) (a .sheet) (c .before .before .before .before .before .enum-told4 .given .1) _ (c .before .before .store-all4 .ensures)
+
+pub store-row-spec : {M : Type 1} → statement M
+store-row-spec =
+    tie.close
+    (tie.spec
+    enum-told
+    mul-store-all
+    store-all-requires
+    enum-told-2
+    mul-store-all-2
+    store-all-requires-2
+    enum-told-3
+    mul-store-all-3
+    store-all-requires-3
+    enum-told-4
+    mul-store-all-4
+    store-all-requires-4
+    same-length
+    returns
+    same-length-2
+    returns-2
+    same-length-3
+    returns-3
+    same-length-4
+    returns-4)

@@ -1,0 +1,208 @@
+-- The text form of the four sheets: lines, sheets one after the other, the end of the file, and what a text that is read leaves.
+use Prim.Native.Nat.{ℕ, _+_}
+use mathlib.Core.Bool.{Bool, true, false}
+use mathlib.Core.Path.{_≡_}
+use mathlib.Core.List.{List, [], _∷_, _++_}
+use lib.Dec.{eqb, leb}
+use lib.ListN.{length, replicate}
+use Rattle.text_fields.specs.Split.{pick, pieces, same}
+use Rattle.text_fields.specs.Words.{sortHeader, termHeader, inputHeader, stepHeader}
+use Rattle.text_names.specs.Table.{padTo}
+use Rattle.text_rows.specs.Rows.{Kept, Taken, sortRow, termRow, inputRow, stepRow}
+use Rattle.text_position.specs.Place.{nextLine}
+use Rattle.reader.specs.declared.Sheet.{Sheet}
+use Rattle.reader.specs.declared.Sheet.the-variants.{Sorts, Terms, Inputs, Steps}
+use Rattle.reader.specs.declared.Fault.{Fault}
+use Rattle.reader.specs.declared.ReadOutcome.{ReadOutcome}
+
+-- where the reading of lines stands: the number and the place of the first bad line's fault, 0 where no line is bad; the number of that line, or of
+-- the last one read; the sheet that lines go to, and whether its header was read; what later rows need of earlier ones
+pub record Control : Type 0 where
+  pub code : ℕ
+  pub place : ℕ
+  pub line : ℕ
+  pub sheet : Sheet
+  pub headed : Bool
+  pub kept : Kept
+
+-- what a line does: where the reading stands after it, and the numbers that it adds to the sheet it goes to
+pub record Effect : Type 0 where
+  pub control : Control
+  pub cells : List ℕ
+
+abbrev pub quiet : Control → Effect
+quiet c = record { control = c; cells = [] }
+
+-- a bad line
+abbrev pub bad : Control → ℕ → ℕ → Effect
+bad c code place =
+    quiet
+    (record { code = code; place = place; line = c .line; sheet = c .sheet; headed = c .headed; kept = c .kept })
+
+-- the lines of a sheet begin, or have begun
+abbrev pub enter : Control → Sheet → Bool → Effect
+enter c sheet headed =
+    quiet
+    (record { code = c .code; place = c .place; line = c .line; sheet = sheet; headed = headed; kept = c .kept })
+
+abbrev pub headerOf : Sheet → List ℕ
+headerOf Sorts = sortHeader
+headerOf Terms = termHeader
+headerOf Inputs = inputHeader
+headerOf Steps = stepHeader
+
+-- the first line of a sheet is its header
+abbrev pub header : Control → List ℕ → Effect
+header c l = pick (same l (headerOf (c .sheet))) (enter c (c .sheet) true) (bad c 31 0)
+
+-- an empty line ends a sheet that is not the last
+abbrev pub nextSheet : Control → Sheet → Effect
+nextSheet c Sorts = enter c Terms false
+nextSheet c Terms = enter c Inputs false
+nextSheet c Inputs = enter c Steps false
+nextSheet c Steps = bad c 31 0
+
+-- any other line is a row
+abbrev pub rowOf : Sheet → Kept → List (List ℕ) → Taken
+rowOf Sorts k fs = sortRow k fs
+rowOf Terms k fs = termRow k fs
+rowOf Inputs k fs = inputRow k fs
+rowOf Steps k fs = stepRow k fs
+
+abbrev pub row : Control → Taken → Effect
+row c t =
+    record {
+      control = record { code = t .code; place = t .place; line = c .line; sheet = c .sheet; headed = c .headed; kept = t .kept };
+      cells = t .cells;
+    }
+
+unfoldable pub readLine : Control → List ℕ → Effect
+readLine c l =
+    pick (c .headed) (pick (same l []) (nextSheet c (c .sheet)) (row c (rowOf (c .sheet) (c .kept) (pieces 32 l)))) (header c l)
+
+abbrev pub numbered : Control → ℕ → Control
+numbered c n =
+    record { code = c .code; place = c .place; line = n; sheet = c .sheet; headed = c .headed; kept = c .kept }
+
+-- line n: after a bad line nothing is done; a line of more than 525 bytes, the most that nine good fields and eight spaces have, is bad
+unfoldable pub lineEffect : Control → ℕ → List ℕ → Effect
+lineEffect c n l =
+    pick (eqb (c .code) 0) (pick (leb (length l) 525) (readLine (numbered c n) l) (bad (numbered c n) 31 0)) (quiet c)
+
+-- what has been read: where the reading stands, and the numbers of the four sheets' rows
+pub record State : Type 0 where
+  pub control : Control
+  pub sorts : List ℕ
+  pub terms : List ℕ
+  pub inputs : List ℕ
+  pub steps : List ℕ
+
+abbrev pub applied : Sheet → State → Effect → State
+applied Sorts s e =
+    record { control = e .control; sorts = s .sorts ++ e .cells; terms = s .terms; inputs = s .inputs; steps = s .steps }
+applied Terms s e =
+    record { control = e .control; sorts = s .sorts; terms = s .terms ++ e .cells; inputs = s .inputs; steps = s .steps }
+applied Inputs s e =
+    record { control = e .control; sorts = s .sorts; terms = s .terms; inputs = s .inputs ++ e .cells; steps = s .steps }
+applied Steps s e =
+    record { control = e .control; sorts = s .sorts; terms = s .terms; inputs = s .inputs; steps = s .steps ++ e .cells }
+
+unfoldable pub lineStep : State → ℕ → List ℕ → State
+lineStep s n l = applied (s .control .sheet) s (lineEffect (s .control) n l)
+
+-- the lines of a text are the pieces between newlines; the last piece, which no newline ends, is not among them
+abbrev pub linesFold : ℕ → State → List (List ℕ) → State
+linesFold n s [] = s
+linesFold n s (l ∷ []) = s
+linesFold n s (l ∷ m ∷ ms) = linesFold (nextLine n) (lineStep s n l) (m ∷ ms)
+
+abbrev pub last : List (List ℕ) → List ℕ
+last [] = []
+last (p ∷ []) = p
+last (p ∷ q ∷ qs) = last (q ∷ qs)
+
+-- the number of the last piece
+abbrev pub lastLine : ℕ → List (List ℕ) → ℕ
+lastLine n [] = n
+lastLine n (p ∷ []) = n
+lastLine n (p ∷ q ∷ qs) = lastLine (nextLine n) (q ∷ qs)
+
+abbrev pub nothingKept : Kept
+nothingKept = record { sorts = []; terms = []; heads = []; inputs = 0; steps = 0 }
+
+abbrev pub started : Control
+started = record { code = 0; place = 0; line = 0; sheet = Sorts; headed = false; kept = nothingKept }
+
+abbrev pub startState : State
+startState = record { control = started; sorts = []; terms = []; inputs = []; steps = [] }
+
+-- the state after all lines of a text
+unfoldable pub textState : List ℕ → State
+textState bs = linesFold 1 startState (pieces 10 bs)
+
+abbrev pub isSteps : Sheet → Bool
+isSteps Sorts = false
+isSteps Terms = false
+isSteps Inputs = false
+isSteps Steps = true
+
+-- the first bad line's; a file that ends before the step sheet's header, or inside a line (`whole` is false), is 31 at the line where it ends
+abbrev pub faultOf : Control → Bool → ℕ → Fault
+faultOf c whole n =
+    pick (eqb (c .code) 0)
+    (pick (isSteps (c .sheet)) (pick (c .headed) (pick whole (record { code = 0; line = 0; place = 0 }) (record { code = 31; line = n; place = 0 }))
+    (record { code = 31; line = n; place = 0 })) (record { code = 31; line = n; place = 0 }))
+    (record { code = c .code; line = c .line; place = c .place })
+
+unfoldable pub textFault : List ℕ → Fault
+textFault bs = faultOf (textState bs .control) (same (last (pieces 10 bs)) []) (lastLine 1 (pieces 10 bs))
+
+-- the lengths of the four lent sheets
+pub record Lent : Type 0 where
+  pub sorts : ℕ
+  pub terms : ℕ
+  pub inputs : ℕ
+  pub steps : ℕ
+
+-- whether the sheets hold the rows
+abbrev pub fits : Lent → State → Bool
+fits n s =
+    pick (leb (length (s .sorts)) (n .sorts))
+    (pick (leb (length (s .terms)) (n .terms)) (pick (leb (length (s .inputs)) (n .inputs)) (leb (length (s .steps)) (n .steps)) false) false)
+    false
+
+-- the number that a text gives: that of its fault; 32 where a sheet is short; else 0
+unfoldable pub textCode : Lent → List ℕ → ℕ
+textCode n bs = pick (eqb (textFault bs .code) 0) (pick (fits n (textState bs)) 0 32) (textFault bs .code)
+
+-- counts are 0 after a refusal
+abbrev pub counted : ℕ → ℕ → ℕ
+counted code n = pick (eqb code 0) n 0
+
+abbrev pub outcomeOf : ℕ → Fault → Kept → ReadOutcome
+outcomeOf code f k =
+    record {
+      code = code;
+      sorts = counted code (length (k .sorts));
+      terms = counted code (length (k .terms));
+      inputs = counted code (k .inputs);
+      steps = counted code (k .steps);
+      line = f .line;
+      place = f .place;
+    }
+
+-- what the reading of a text returns
+unfoldable pub textOutcome : Lent → List ℕ → ReadOutcome
+textOutcome n bs = outcomeOf (textCode n bs) (textFault bs) (textState bs .control .kept)
+
+-- what a sheet of n numbers holds: the rows and then zeros, or zeros after a refusal
+unfoldable pub textSheet : ℕ → ℕ → List ℕ → List ℕ
+textSheet code n rows = pick (eqb code 0) (padTo n rows) (replicate n 0)
+
+-- a text that has been read
+pub record TextRead (bs : List ℕ) (n : Lent) (r : ReadOutcome) (sorts′ terms′ inputs′ steps′ : List ℕ) : Type 0 where
+  pub outcome-is : r ≡ textOutcome n bs
+  pub sorts-is : sorts′ ≡ textSheet (textCode n bs) (n .sorts) (textState bs .sorts)
+  pub terms-is : terms′ ≡ textSheet (textCode n bs) (n .terms) (textState bs .terms)
+  pub inputs-is : inputs′ ≡ textSheet (textCode n bs) (n .inputs) (textState bs .inputs)
+  pub steps-is : steps′ ≡ textSheet (textCode n bs) (n .steps) (textState bs .steps)

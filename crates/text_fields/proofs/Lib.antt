@@ -1,0 +1,3 @@
+pub mod Laws
+pub mod Cut
+pub mod Lines

@@ -1,0 +1,36 @@
+-- The class of a byte: a space, a newline, part of a name, or none of these.
+use Prim.Native.Nat.{ℕ}
+use mathlib.Core.Bool.{Bool, true, false}
+use mathlib.Core.List.{List, [], _∷_}
+use lib.Dec.{eqb, leb}
+use Rattle.text_fields.specs.Split.{pick}
+use Rattle.text_fields.specs.declared.ByteClass.{ByteClass}
+use Rattle.text_fields.specs.declared.ByteClass.the-variants.{Space, Newline, Name, Other}
+
+-- bytes from 33 to 126 are parts of names
+abbrev pub classOf : ℕ → ByteClass
+classOf b =
+    pick (eqb b 32) Space (pick (eqb b 10) Newline (pick (leb 33 b) (pick (leb b 126) Name Other) Other))
+
+abbrev pub isSpace : ByteClass → Bool
+isSpace Space = true
+isSpace Newline = false
+isSpace Name = false
+isSpace Other = false
+
+abbrev pub isName : ByteClass → Bool
+isName Space = false
+isName Newline = false
+isName Name = true
+isName Other = false
+
+abbrev pub isNewline : ByteClass → Bool
+isNewline Space = false
+isNewline Newline = true
+isNewline Name = false
+isNewline Other = false
+
+-- whether every byte is part of a name
+abbrev pub named : List ℕ → Bool
+named [] = true
+named (b ∷ bs) = pick (isName (classOf b)) (named bs) false

@@ -1,0 +1,5 @@
+pub mod Split
+pub mod Class
+pub mod Number
+pub mod Words
+pub mod Shape

@@ -1,0 +1,36 @@
+-- A sort row stored.
+use native.Mathlib.Omega.{arith}
+use Rattle.text_fields.specs.Split.{pieces}
+use Rattle.text_rows.proofs.Laws.{sort-stored}
+use borrow.Author.Needs.{needs}
+use Rattle.text_rows.proofs.put_sort.Statement.{statement}
+use Rattle.text_rows.proofs.put_sort.Tie as tie
+
+sort-column-requires : tie.Need-sort-column-requires
+sort-column-requires c κs = search needs
+
+sort-column-requires-2 : tie.Need-sort-column-requires-2
+sort-column-requires-2 c κs = search needs
+
+field-requires : tie.Need-field-requires
+field-requires c κs = search needs
+
+put-name-requires : tie.Need-put-name-requires
+put-name-requires c κs = search needs
+
+add-t13 : tie.Need-add-t13
+add-t13 c = search needs
+
+returns : tie.Need-returns
+returns c = let a = c .before .before .before .before .before .before .before .before .args in (sort-stored (a .counts) (a .names .now) _ (omega arith) (c .before .before .before .before .before .before .before .before .pre .0) (omega arith) (pieces 32 (a .line .now)) (c .before .before .before .before .before .before .before .before .pre .1 .1) (c .before .before .before .before .before .sort-column .result) (c .before .before .before .sort-column2 .result) (c .before .before .before .before .before .sort-column .ensures) (c .before .before .before .sort-column2 .ensures) (c .before .field .ensures) _ (c .put-name .ensures), search needs)
+
+pub put-sort-spec : {M : Type 1} → statement M
+put-sort-spec =
+    tie.close
+    (tie.spec
+    sort-column-requires
+    sort-column-requires-2
+    field-requires
+    put-name-requires
+    add-t13
+    returns)

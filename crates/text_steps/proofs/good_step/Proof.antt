@@ -1,0 +1,41 @@
+-- A well formed step line: the ceiling, then the row.
+use mathlib.Core.Path.{_∙_}
+use Rattle.text_fields.specs.Split.{pieces}
+use Rattle.text_rows.specs.Rows.{stepAdded}
+use Rattle.text_rows.specs.View.{keptOf}
+use Rattle.text_steps.proofs.Laws.{below-full, below-room, step-added}
+use borrow.Author.Needs.{needs}
+use Rattle.text_steps.proofs.good_step.Statement.{statement}
+use Rattle.text_steps.proofs.good_step.Tie as tie
+
+refuse-requires : tie.Need-refuse-requires
+refuse-requires c κs = search needs
+
+returns : tie.Need-returns
+returns c =
+    let a = c .before .before .before .before .args in
+    let k = keptOf (a .counts) (a .names .now) in
+    let fs = pieces 32 (a .line .now) in (
+      c .refuse .ensures .0 (a .names .now)
+          ∙ below-full k (a .counts .steps) 1024 (stepAdded k fs) (c .before .if1 .taken),
+      c .refuse .ensures .1,
+    )
+
+step-cells-requires : tie.Need-step-cells-requires
+step-cells-requires c κs = search needs
+
+add-t6 : tie.Need-add-t6
+add-t6 c = search needs
+
+returns-2 : tie.Need-returns-2
+returns-2 c =
+    let a = c .before .before .before .before .before .args in
+    let k = keptOf (a .counts) (a .names .now) in
+    let fs = pieces 32 (a .line .now) in (
+      step-added k fs _ (c .before .step-cells .ensures)
+          ∙ below-room k (a .counts .steps) 1024 (stepAdded k fs) (c .before .before .if1 .left),
+      search needs,
+    )
+
+pub good-step-spec : {M : Type 1} → statement M
+good-step-spec = tie.close (tie.spec refuse-requires returns step-cells-requires add-t6 returns-2)

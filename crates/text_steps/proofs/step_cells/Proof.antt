@@ -1,0 +1,77 @@
+-- The nine numbers of a step line, column after column.
+use mathlib.Core.Path.{ap, _∙_}
+use Rattle.text_fields.specs.Split.{pieces}
+use Rattle.text_fields.specs.Words.{stepWords, ruleWords, refOf}
+use Rattle.text_rows.specs.View.{keptOf}
+use Rattle.text_steps.proofs.Laws.{nine-cells}
+use borrow.Author.Needs.{needs}
+use Rattle.text_steps.proofs.step_cells.Statement.{statement}
+use Rattle.text_steps.proofs.step_cells.Tie as tie
+
+field-requires : tie.Need-field-requires
+field-requires c κs = search needs
+
+step-number-requires : tie.Need-step-number-requires
+step-number-requires c κs = search needs
+
+field-requires-2 : tie.Need-field-requires-2
+field-requires-2 c κs = search needs
+
+rule-number-requires : tie.Need-rule-number-requires
+rule-number-requires c κs = search needs
+
+term-column-requires : tie.Need-term-column-requires
+term-column-requires c κs = search needs
+
+value-column-requires : tie.Need-value-column-requires
+value-column-requires c κs = search needs
+
+term-column-requires-2 : tie.Need-term-column-requires-2
+term-column-requires-2 c κs = search needs
+
+term-column-requires-3 : tie.Need-term-column-requires-3
+term-column-requires-3 c κs = search needs
+
+term-column-requires-4 : tie.Need-term-column-requires-4
+term-column-requires-4 c κs = search needs
+
+term-column-requires-5 : tie.Need-term-column-requires-5
+term-column-requires-5 c κs = search needs
+
+term-column-requires-6 : tie.Need-term-column-requires-6
+term-column-requires-6 c κs = search needs
+
+returns : tie.Need-returns
+returns c =
+    let a = c .before .before .before .before .before .before .before .before .before .before .before .before .args in
+    let k = keptOf (a .counts) (a .names .now) in
+    let fs = pieces 32 (a .line .now) in
+    nine-cells k fs _ _ _ _ _ _ _ _ _
+    (c .before .before .before .before .before .before .before .before .before .step-number .ensures
+    ∙ ap (refOf stepWords) (c .before .before .before .before .before .before .before .before .before .before .field .ensures))
+    (c .before .before .before .before .before .before .before .rule-number .ensures
+    ∙ ap (refOf ruleWords) (c .before .before .before .before .before .before .before .before .field2 .ensures))
+    (c .before .before .before .before .before .before .term-column .ensures)
+    (c .before .before .before .before .before .value-column .ensures)
+    (c .before .before .before .before .term-column2 .ensures)
+    (c .before .before .before .term-column3 .ensures)
+    (c .before .before .term-column4 .ensures)
+    (c .before .term-column5 .ensures)
+    (c .term-column6 .ensures)
+
+pub step-cells-spec : {M : Type 1} → statement M
+step-cells-spec =
+    tie.close
+    (tie.spec
+    field-requires
+    step-number-requires
+    field-requires-2
+    rule-number-requires
+    term-column-requires
+    value-column-requires
+    term-column-requires-2
+    term-column-requires-3
+    term-column-requires-4
+    term-column-requires-5
+    term-column-requires-6
+    returns)

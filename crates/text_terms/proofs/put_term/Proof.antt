@@ -1,0 +1,62 @@
+-- A term row stored.
+use native.Mathlib.Omega.{arith}
+use Rattle.text_fields.specs.Split.{pieces}
+use Rattle.text_rows.proofs.Fields.{field-named, field-short}
+use Rattle.text_terms.proofs.Laws.{term-stored}
+use borrow.Author.Needs.{needs}
+use Rattle.text_terms.proofs.put_term.Statement.{statement}
+use Rattle.text_terms.proofs.put_term.Tie as tie
+
+sort-column-requires : tie.Need-sort-column-requires
+sort-column-requires c κs = search needs
+
+term-column-requires : tie.Need-term-column-requires
+term-column-requires c κs = search needs
+
+term-column-requires-2 : tie.Need-term-column-requires-2
+term-column-requires-2 c κs = search needs
+
+term-column-requires-3 : tie.Need-term-column-requires-3
+term-column-requires-3 c κs = search needs
+
+term-column-requires-4 : tie.Need-term-column-requires-4
+term-column-requires-4 c κs = search needs
+
+field-requires : tie.Need-field-requires
+field-requires c κs = search needs
+
+head-of-requires : tie.Need-head-of-requires
+head-of-requires c κs = let a = c .before .before .before .before .before .before .before .before .before .before .before .before .before .args in (omega (arith, c .before .before .before .before .before .before .before .before .before .before .before .before .before .pre .0, c .before .before .before .before .before .before .before .before .before .before .before .before .before .pre .1 .0), (rw (c .field .ensures) (field-named 7 (pieces 32 (a .line .now)) 1 (c .before .before .before .before .before .before .before .before .before .before .before .before .before .pre .1 .1) (omega arith)), rw (c .field .ensures) (field-short 7 (pieces 32 (a .line .now)) 1 (c .before .before .before .before .before .before .before .before .before .before .before .before .before .pre .1 .1) (omega arith))))
+
+add-put-name : tie.Need-add-put-name
+add-put-name c = search needs
+
+field-requires-2 : tie.Need-field-requires-2
+field-requires-2 c κs = search needs
+
+put-name-requires : tie.Need-put-name-requires
+put-name-requires c κs = omega (arith, c .before .before .before .before .before .before .before .before .before .before .before .before .before .before .before .before .pre .1 .0)
+
+add-t21 : tie.Need-add-t21
+add-t21 c = omega (arith, c .before .before .before .before .before .before .before .before .before .before .before .before .before .before .before .before .before .pre .1 .0)
+
+returns : tie.Need-returns
+returns c = let a = c .before .before .before .before .before .before .before .before .before .before .before .before .before .before .before .before .before .args in let h = c .before .before .before .head-of .ensures in
+    (term-stored (a .counts) (a .names .now) _ (c .before .before .before .before .before .before .before .before .before .before .before .before .before .before .before .before .before .pre .0) (c .before .before .before .before .before .before .before .before .before .before .before .before .before .before .before .before .before .pre .1 .0) (pieces 32 (a .line .now)) (c .before .before .before .before .before .before .before .before .before .before .before .before .before .before .before .before .before .pre .1 .1) (c .before .field2 .ensures) (c .before .before .before .head-of .result) _ (omega arith) (rw (c .before .before .before .before .field .ensures) at h) _ (c .put-name .ensures) (c .before .before .before .before .before .before .before .before .before .before .before .before .before .before .sort-column .result) (c .before .before .before .before .before .before .before .before .before .before .before .before .term-column .result) (c .before .before .before .before .before .before .before .before .before .before .term-column2 .result) (c .before .before .before .before .before .before .before .before .term-column3 .result) (c .before .before .before .before .before .before .term-column4 .result) (c .before .before .before .before .before .before .before .before .before .before .before .before .before .before .sort-column .ensures) (c .before .before .before .before .before .before .before .before .before .before .before .before .term-column .ensures) (c .before .before .before .before .before .before .before .before .before .before .term-column2 .ensures) (c .before .before .before .before .before .before .before .before .term-column3 .ensures) (c .before .before .before .before .before .before .term-column4 .ensures), omega (arith, c .before .before .before .before .before .before .before .before .before .before .before .before .before .before .before .before .before .pre .1 .0, c .before .before .before .before .before .before .before .before .before .before .before .before .before .before .before .before .before .pre .0, h .at-most))
+
+pub put-term-spec : {M : Type 1} → statement M
+put-term-spec =
+    tie.close
+    (tie.spec
+    sort-column-requires
+    term-column-requires
+    term-column-requires-2
+    term-column-requires-3
+    term-column-requires-4
+    field-requires
+    head-of-requires
+    add-put-name
+    field-requires-2
+    put-name-requires
+    add-t21
+    returns)
