@@ -13,30 +13,58 @@ begin-requires : tie.Need-begin-requires
 begin-requires c κs = search needs
 
 feed-requires : tie.Need-feed-requires
-feed-requires c κs = c .before .before .before .before .before .before .before .before .before .before .before .before .before .before .begin .ensures .1
+feed-requires c κs =
+    let the-begin = c .before .before .before .before .before .before .before .before .before .before .before .before .before .before .begin in
+    the-begin .ensures .1
 
 finish-requires : tie.Need-finish-requires
 finish-requires c κs = search needs
 
 same-length : tie.Need-same-length
-same-length c = c .before .before .before .before .before .before .before .before .finish .kept .1 .1 .1 .0 ∙ c .before .before .before .before .before .before .before .before .before .before .before .before .before .before .before .before .before .before .before .before .before .before .before .feed .kept .1 .1 .1 .1 .0 ∙ c .before .before .before .before .before .before .before .before .before .before .before .before .before .before .before .before .before .before .before .before .before .before .before .before .before .before .before .before .before .before .before .before .before .before .before .before .before .before .begin .kept .0
+same-length c =
+    let the-finish = c .before .before .before .before .before .before .before .before .finish in
+    let the-feed = c .before .before .before .before .before .before .before .before .before .before .before .before .before .before .before .before .before .before .before .before .before .before .before .feed in
+    let the-begin = c .before .before .before .before .before .before .before .before .before .before .before .before .before .before .before .before .before .before .before .before .before .before .before .before .before .before .before .before .before .before .before .before .before .before .before .before .before .before .begin in
+    the-finish .kept .1 .1 .1 .0 ∙ the-feed .kept .1 .1 .1 .1 .0 ∙ the-begin .kept .0
 
 same-length-2 : tie.Need-same-length-2
-same-length-2 c = c .before .before .before .before .before .before .before .before .finish .kept .1 .1 .1 .1 .0 ∙ c .before .before .before .before .before .before .before .before .before .before .before .before .before .before .before .before .before .before .before .before .before .before .before .feed .kept .1 .1 .1 .1 .1 .0 ∙ c .before .before .before .before .before .before .before .before .before .before .before .before .before .before .before .before .before .before .before .before .before .before .before .before .before .before .before .before .before .before .before .before .before .before .before .before .before .before .begin .kept .1 .0
+same-length-2 c =
+    let the-finish = c .before .before .before .before .before .before .before .before .finish in
+    let the-feed = c .before .before .before .before .before .before .before .before .before .before .before .before .before .before .before .before .before .before .before .before .before .before .before .feed in
+    let the-begin = c .before .before .before .before .before .before .before .before .before .before .before .before .before .before .before .before .before .before .before .before .before .before .before .before .before .before .before .before .before .before .before .before .before .before .before .before .before .before .begin in
+    the-finish .kept .1 .1 .1 .1 .0 ∙ the-feed .kept .1 .1 .1 .1 .1 .0 ∙ the-begin .kept .1 .0
 
 same-length-3 : tie.Need-same-length-3
-same-length-3 c = c .before .before .before .before .before .before .before .before .finish .kept .1 .1 .1 .1 .1 .0 ∙ c .before .before .before .before .before .before .before .before .before .before .before .before .before .before .before .before .before .before .before .before .before .before .before .feed .kept .1 .1 .1 .1 .1 .1 .0 ∙ c .before .before .before .before .before .before .before .before .before .before .before .before .before .before .before .before .before .before .before .before .before .before .before .before .before .before .before .before .before .before .before .before .before .before .before .before .before .before .begin .kept .1 .1 .0
+same-length-3 c =
+    let the-finish = c .before .before .before .before .before .before .before .before .finish in
+    let the-feed = c .before .before .before .before .before .before .before .before .before .before .before .before .before .before .before .before .before .before .before .before .before .before .before .feed in
+    let the-begin = c .before .before .before .before .before .before .before .before .before .before .before .before .before .before .before .before .before .before .before .before .before .before .before .before .before .before .before .before .before .before .before .before .before .before .before .before .before .before .begin in
+    the-finish .kept .1 .1 .1 .1 .1 .0 ∙ the-feed .kept .1 .1 .1 .1 .1 .1 .0 ∙ the-begin .kept .1 .1 .0
 
 same-length-4 : tie.Need-same-length-4
-same-length-4 c = c .before .before .before .before .before .before .before .before .finish .kept .1 .1 .1 .1 .1 .1 .0 ∙ c .before .before .before .before .before .before .before .before .before .before .before .before .before .before .before .before .before .before .before .before .before .before .before .feed .kept .1 .1 .1 .1 .1 .1 .1 .0 ∙ c .before .before .before .before .before .before .before .before .before .before .before .before .before .before .before .before .before .before .before .before .before .before .before .before .before .before .before .before .before .before .before .before .before .before .before .before .before .before .begin .kept .1 .1 .1 .0
+same-length-4 c =
+    let the-finish = c .before .before .before .before .before .before .before .before .finish in
+    let the-feed = c .before .before .before .before .before .before .before .before .before .before .before .before .before .before .before .before .before .before .before .before .before .before .before .feed in
+    let the-begin = c .before .before .before .before .before .before .before .before .before .before .before .before .before .before .before .before .before .before .before .before .before .before .before .before .before .before .before .before .before .before .before .before .before .before .before .before .before .before .begin in
+    the-finish .kept .1 .1 .1 .1 .1 .1 .0 ∙ the-feed .kept .1 .1 .1 .1 .1 .1 .1 .0 ∙ the-begin .kept .1 .1 .1 .0
 
 returns : tie.Need-returns
-returns c = let a = c .before .before .before .before .before .before .before .before .before .before .before .before .before .before .before .before .before .before .before .before .before .before .before .before .before .before .before .before .before .before .before .before .before .before .before .before .before .before .before .before .before .before .before .before .before .before .before .before .args in let b = c .before .before .before .before .before .before .before .before .before .before .before .before .before .before .before .before .before .before .before .before .before .before .before .before .before .before .before .before .before .before .before .before .before .before .before .before .before .before .begin .ensures .0 in let fed = c .before .before .before .before .before .before .before .before .before .before .before .before .before .before .before .before .before .before .before .before .before .before .before .feed in
-    let n : Lent = record { sorts = length (a .sorts .now); terms = length (a .terms .now); inputs = length (a .inputs .now); steps = length (a .steps .now) } in
-    let s : Stream = streamOf (fed .result) (fed .last .1 .1 .0) (fed .last .1 .1 .1 .0) (fed .last .1 .1 .1 .1 .0) (fed .last .1 .1 .1 .1 .1 .0) (fed .last .1 .1 .1 .1 .1 .1 .0) (fed .last .1 .1 .1 .1 .1 .1 .1 .0) in
-    let is : s ≡ feedAll (freshStream (padded n startState)) (a .text .now) =
-    fed .ensures .0 ∙ ap (λ (x : Stream). feedAll x (a .text .now)) (fresh-is n (c .before .before .before .before .before .before .before .before .before .before .before .before .before .before .before .before .before .before .before .before .before .before .before .before .before .before .before .before .before .before .before .before .before .before .before .before .before .before .begin .result) _ _ _ _ _ _ (b .starts) (b .sorts-is) (b .terms-is) (b .inputs-is) (b .steps-is)) in
-    read-is n (a .text .now) s is (c .before .before .before .before .before .before .before .before .finish .result) _ _ _ _ _ _ (c .before .before .before .before .before .before .before .before .finish .ensures)
+returns c =
+    let a = c .before .before .before .before .before .before .before .before .before .before .before .before .before .before .before .before .before .before .before .before .before .before .before .before .before .before .before .before .before .before .before .before .before .before .before .before .before .before .before .before .before .before .before .before .before .before .before .before .args in
+    let fed = c .before .before .before .before .before .before .before .before .before .before .before .before .before .before .before .before .before .before .before .before .before .before .before .feed in
+    let the-begin = c .before .before .before .before .before .before .before .before .before .before .before .before .before .before .before .before .before .before .before .before .before .before .before .before .before .before .before .before .before .before .before .before .before .before .before .before .before .before .begin in
+    let the-finish = c .before .before .before .before .before .before .before .before .finish in
+    let b = the-begin .ensures .0 in
+    let n : Lent = record
+    { sorts = length (a .sorts .now); terms = length (a .terms .now); inputs = length (a .inputs .now); steps = length (a .steps .now) }
+    in
+    let s : Stream = streamOf (fed .result) (fed .last .1 .1 .0) (fed .last .1 .1 .1 .0) (fed .last .1 .1 .1 .1 .0)
+    (fed .last .1 .1 .1 .1 .1 .0) (fed .last .1 .1 .1 .1 .1 .1 .0) (fed .last .1 .1 .1 .1 .1 .1 .1 .0) in
+    let is : s ≡ feedAll (freshStream (padded n startState)) (a .text .now) = fed .ensures .0 ∙ ap
+    (λ (x : Stream). feedAll x (a .text .now))
+    (fresh-is n (the-begin .result) _ _ _ _ _ _ (b .starts) (b .sorts-is) (b .terms-is) (b .inputs-is) (b .steps-is))
+    in
+    read-is n (a .text .now) s is (the-finish .result) _ _ _ _ _ _ (the-finish .ensures)
 
 pub cdsat-read-spec : {M : Type 1} → statement M
 cdsat-read-spec =

@@ -24,16 +24,30 @@ add-i : tie.Need-add-i Inv-loop μ-loop
 add-i c = omega arith
 
 loop-less : tie.Need-loop-less Inv-loop μ-loop
-loop-less c = let l = c .before .loop in let a = c .before .before .args in omega (arith, clear-length (a .d .now) (l .d) (l .i) (l .inv .0) (l .inv .1))
+loop-less c =
+    let l = c .before .loop in
+    let a = c .before .before .args in
+    omega (arith, clear-length (a .d .now) (l .d) (l .i) (l .inv .0) (l .inv .1))
 
 loop-again : tie.Need-loop-again Inv-loop μ-loop
-loop-again c = let l = c .before .loop in let a = c .before .before .args in let e = clear-length (a .d .now) (l .d) (l .i) (l .inv .0) (l .inv .1) in (omega arith, clear-more (a .d .now) (l .d) (l .i) (l .inv .0) (l .inv .1) (omega arith))
+loop-again c =
+    let l = c .before .loop in
+    let a = c .before .before .args in
+    let e = clear-length (a .d .now) (l .d) (l .i) (l .inv .0) (l .inv .1) in
+    (omega arith, clear-more (a .d .now) (l .d) (l .i) (l .inv .0) (l .inv .1) (omega arith))
 
 same-length : tie.Need-same-length Inv-loop μ-loop
-same-length c = let l = c .before .loop in let a = c .before .before .args in clear-length (a .d .now) (l .d) (l .i) (l .inv .0) (l .inv .1)
+same-length c =
+    let l = c .before .loop in
+    let a = c .before .before .args in
+    clear-length (a .d .now) (l .d) (l .i) (l .inv .0) (l .inv .1)
 
 returns : tie.Need-returns Inv-loop μ-loop
-returns c = let l = c .before .loop in let a = c .before .before .args in clear-end (a .d .now) (l .d) (l .i) (l .inv .0) (l .inv .1) (omega (arith, clear-length (a .d .now) (l .d) (l .i) (l .inv .0) (l .inv .1)))
+returns c =
+    let l = c .before .loop in
+    let a = c .before .before .args in
+    clear-end (a .d .now) (l .d) (l .i) (l .inv .0) (l .inv .1)
+    (omega (arith, clear-length (a .d .now) (l .d) (l .i) (l .inv .0) (l .inv .1)))
 
 pub clear-bytes-spec : {M : Type 1} → statement M
 clear-bytes-spec =

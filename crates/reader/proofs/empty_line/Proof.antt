@@ -33,16 +33,32 @@ bad-line-requires : tie.Need-bad-line-requires
 bad-line-requires c κs = search needs
 
 returns : tie.Need-returns
-returns c = let a = c .before .before .before .args in ((λ (t : List ℕ). c .enter-sheet .ensures .0 t ∙ sym (ap (nextSheet (controlOf (a .core) t)) (c .before .enum-told .given .1))), c .enter-sheet .ensures .1)
+returns c =
+    let a = c .before .before .before .args in (
+      (λ (t : List ℕ). c .enter-sheet .ensures .0 t ∙ sym (ap (nextSheet (controlOf (a .core) t)) (c .before .enum-told .given .1))),
+      c .enter-sheet .ensures .1,
+    )
 
 returns-2 : tie.Need-returns-2
-returns-2 c = let a = c .before .before .before .args in ((λ (t : List ℕ). c .enter-sheet2 .ensures .0 t ∙ sym (ap (nextSheet (controlOf (a .core) t)) (c .before .enum-told2 .given .1))), c .enter-sheet2 .ensures .1)
+returns-2 c =
+    let a = c .before .before .before .args in (
+      (λ (t : List ℕ). c .enter-sheet2 .ensures .0 t ∙ sym (ap (nextSheet (controlOf (a .core) t)) (c .before .enum-told2 .given .1))),
+      c .enter-sheet2 .ensures .1,
+    )
 
 returns-3 : tie.Need-returns-3
-returns-3 c = let a = c .before .before .before .args in ((λ (t : List ℕ). c .enter-sheet3 .ensures .0 t ∙ sym (ap (nextSheet (controlOf (a .core) t)) (c .before .enum-told3 .given .1))), c .enter-sheet3 .ensures .1)
+returns-3 c =
+    let a = c .before .before .before .args in (
+      (λ (t : List ℕ). c .enter-sheet3 .ensures .0 t ∙ sym (ap (nextSheet (controlOf (a .core) t)) (c .before .enum-told3 .given .1))),
+      c .enter-sheet3 .ensures .1,
+    )
 
 returns-4 : tie.Need-returns-4
-returns-4 c = let a = c .before .before .before .args in ((λ (t : List ℕ). c .bad-line .ensures .0 t ∙ sym (ap (nextSheet (controlOf (a .core) t)) (c .before .enum-told4 .given .1))), c .bad-line .ensures .1)
+returns-4 c =
+    let a = c .before .before .before .args in (
+      (λ (t : List ℕ). c .bad-line .ensures .0 t ∙ sym (ap (nextSheet (controlOf (a .core) t)) (c .before .enum-told4 .given .1))),
+      c .bad-line .ensures .1,
+    )
 
 pub empty-line-spec : {M : Type 1} → statement M
 empty-line-spec =

@@ -15,13 +15,29 @@ end-line-requires : tie.Need-end-line-requires
 end-line-requires c κs = search needs
 
 array-share-prefix-cells : tie.Need-array-share-prefix-cells
-array-share-prefix-cells c = let e : length (c .before .before .end-line .result .cells) ≡ 9 = c .before .before .end-line .ensures .1 .2 in let w : c .before .before .end-line .result .width ≤ 9 = c .before .before .end-line .ensures .1 .1 in let u : c .before .before .end-line .result .width ≤ length (c .before .before .end-line .result .cells) = omega arith in u
+array-share-prefix-cells c =
+    let the-end-line = c .before .before .end-line in
+    let e : length (the-end-line .result .cells) ≡ 9 = the-end-line .ensures .1 .2 in
+    let w : the-end-line .result .width ≤ 9 = the-end-line .ensures .1 .1 in
+    let u : the-end-line .result .width ≤ length (the-end-line .result .cells) = omega arith in
+    u
 
 slice-aggregate-store-row : tie.Need-slice-aggregate-store-row
-slice-aggregate-store-row c = let e : length (c .before .before .before .end-line .result .cells) ≡ 9 = c .before .before .before .end-line .ensures .1 .2 in let w : c .before .before .before .end-line .result .width ≤ 9 = c .before .before .before .end-line .ensures .1 .1 in let u : c .before .before .before .end-line .result .width ≤ length (c .before .before .before .end-line .result .cells) = omega arith in sym (length-take-le (c .before .before .before .end-line .result .width) (c .before .before .before .end-line .result .cells) u)
+slice-aggregate-store-row c =
+    let the-end-line = c .before .before .before .end-line in
+    let e : length (the-end-line .result .cells) ≡ 9 = the-end-line .ensures .1 .2 in
+    let w : the-end-line .result .width ≤ 9 = the-end-line .ensures .1 .1 in
+    let u : the-end-line .result .width ≤ length (the-end-line .result .cells) = omega arith in
+    sym (length-take-le (the-end-line .result .width) (the-end-line .result .cells) u)
 
 store-row-requires : tie.Need-store-row-requires
-store-row-requires c κs = let e : length (c .before .before .before .before .before .before .before .end-line .result .cells) ≡ 9 = c .before .before .before .before .before .before .before .end-line .ensures .1 .2 in let w : c .before .before .before .before .before .before .before .end-line .result .width ≤ 9 = c .before .before .before .before .before .before .before .end-line .ensures .1 .1 in let u : c .before .before .before .before .before .before .before .end-line .result .width ≤ length (c .before .before .before .before .before .before .before .end-line .result .cells) = omega arith in (c .before .before .before .before .before .before .before .before .before .before .before .before .before .before .pre, rw (length-take-le (c .before .before .before .before .before .before .before .end-line .result .width) (c .before .before .before .before .before .before .before .end-line .result .cells) u) w)
+store-row-requires c κs =
+    let the-end-line = c .before .before .before .before .before .before .before .end-line in
+    let the-pre = c .before .before .before .before .before .before .before .before .before .before .before .before .before .before .pre in
+    let e : length (the-end-line .result .cells) ≡ 9 = the-end-line .ensures .1 .2 in
+    let w : the-end-line .result .width ≤ 9 = the-end-line .ensures .1 .1 in
+    let u : the-end-line .result .width ≤ length (the-end-line .result .cells) = omega arith in
+    (the-pre, rw (length-take-le (the-end-line .result .width) (the-end-line .result .cells) u) w)
 
 same-length : tie.Need-same-length
 same-length c = search needs
@@ -36,7 +52,15 @@ same-length-4 : tie.Need-same-length-4
 same-length-4 c = search needs
 
 returns : tie.Need-returns
-returns c = let a = c .before .before .before .before .before .before .before .before .before .before .before .before .before .before .before .before .before .before .before .before .before .before .before .before .args in (line-ended (controlOf (a .core) (a .names .now)) (a .pos .line) (take (a .pos .at) (a .line .now)) (record { sorts = a .sorts .now; terms = a .terms .now; inputs = a .inputs .now; steps = a .steps .now }) _ (effectOf (c .before .before .before .before .before .before .before .before .before .before .before .before .before .before .before .before .before .end-line .result) _) (c .before .before .before .before .before .before .before .before .before .before .before .before .before .before .before .before .before .end-line .ensures .0) (c .before .before .before .before .before .before .before .before .before .store-row .ensures (a .names .now)), c .before .before .before .before .before .before .before .before .before .before .before .before .before .before .before .before .before .end-line .ensures .1 .0)
+returns c =
+    let a = c .before .before .before .before .before .before .before .before .before .before .before .before .before .before .before .before .before .before .before .before .before .before .before .before .args in
+    let the-end-line = c .before .before .before .before .before .before .before .before .before .before .before .before .before .before .before .before .before .end-line in
+    let the-store-row = c .before .before .before .before .before .before .before .before .before .store-row in (
+      line-ended (controlOf (a .core) (a .names .now)) (a .pos .line) (take (a .pos .at) (a .line .now))
+          (record { sorts = a .sorts .now; terms = a .terms .now; inputs = a .inputs .now; steps = a .steps .now }) _
+          (effectOf (the-end-line .result) _) (the-end-line .ensures .0) (the-store-row .ensures (a .names .now)),
+      the-end-line .ensures .1 .0,
+    )
 
 pub feed-newline-spec : {M : Type 1} → statement M
 feed-newline-spec =

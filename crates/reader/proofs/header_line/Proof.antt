@@ -14,13 +14,21 @@ enter-sheet-requires : tie.Need-enter-sheet-requires
 enter-sheet-requires c κs = search needs
 
 returns : tie.Need-returns
-returns c = ((λ (t : List ℕ). c .enter-sheet .ensures .0 t ∙ sym (pick-true _ _ (sym (c .before .before .is-header .ensures) ∙ c .before .if1 .taken))), c .enter-sheet .ensures .1)
+returns c =
+    let the-is-header = c .before .before .is-header in (
+      (λ (t : List ℕ). c .enter-sheet .ensures .0 t ∙ sym (pick-true _ _ (sym (the-is-header .ensures) ∙ c .before .if1 .taken))),
+      c .enter-sheet .ensures .1,
+    )
 
 bad-line-requires : tie.Need-bad-line-requires
 bad-line-requires c κs = search needs
 
 returns-2 : tie.Need-returns-2
-returns-2 c = ((λ (t : List ℕ). c .bad-line .ensures .0 t ∙ sym (pick-false _ _ (sym (c .before .before .is-header .ensures) ∙ c .before .if1 .left))), c .bad-line .ensures .1)
+returns-2 c =
+    let the-is-header = c .before .before .is-header in (
+      (λ (t : List ℕ). c .bad-line .ensures .0 t ∙ sym (pick-false _ _ (sym (the-is-header .ensures) ∙ c .before .if1 .left))),
+      c .bad-line .ensures .1,
+    )
 
 pub header-line-spec : {M : Type 1} → statement M
 header-line-spec =

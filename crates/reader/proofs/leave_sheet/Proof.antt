@@ -12,7 +12,10 @@ same-length : tie.Need-same-length
 same-length c = search needs
 
 returns : tie.Need-returns
-returns c = c .before .before .clear-numbers .ensures ∙ rw (ne-eqb _ _ (c .before .before .before .before .if1 .taken))
+returns c =
+    let the-clear-numbers = c .before .before .clear-numbers in
+    let the-if1 = c .before .before .before .before .if1 in
+    the-clear-numbers .ensures ∙ rw (ne-eqb _ _ (the-if1 .taken))
 
 returns-2 : tie.Need-returns-2
 returns-2 c = rw (eq-eqb _ _ (c .if1 .left))

@@ -38,13 +38,24 @@ loop-less : tie.Need-loop-less Inv-loop μ-loop
 loop-less c = omega arith
 
 loop-again : tie.Need-loop-again Inv-loop μ-loop
-loop-again c = let l = c .before .before .before .before .before .before .loop in let a = c .before .before .before .before .before .before .before .before .before .args in (omega arith, omega arith, ap (λ (s : List ℕ). sets s (a .at + (l .j + 1)) (drop (l .j + 1) (a .cells .now))) (c .before .before .store .ensures) ∙ sym (sets-more (l .sheet) (a .at) (a .cells .now) (l .j) (omega arith)) ∙ l .inv .2)
+loop-again c =
+    let l = c .before .before .before .before .before .before .loop in
+    let a = c .before .before .before .before .before .before .before .before .before .args in
+    let the-store = c .before .before .store in (
+      omega arith,
+      omega arith,
+      ap (λ (s : List ℕ). sets s (a .at + (l .j + 1)) (drop (l .j + 1) (a .cells .now))) (the-store .ensures) ∙ sym
+          (sets-more (l .sheet) (a .at) (a .cells .now) (l .j) (omega arith)) ∙ l .inv .2,
+    )
 
 same-length : tie.Need-same-length Inv-loop μ-loop
 same-length c = omega arith
 
 returns : tie.Need-returns Inv-loop μ-loop
-returns c = let l = c .before .loop in let a = c .before .before .before .before .args in sym (sets-end (l .sheet) (a .at) (a .cells .now) (l .j) (omega arith)) ∙ l .inv .2
+returns c =
+    let l = c .before .loop in
+    let a = c .before .before .before .before .args in
+    sym (sets-end (l .sheet) (a .at) (a .cells .now) (l .j) (omega arith)) ∙ l .inv .2
 
 pub store-all-spec : {M : Type 1} → statement M
 store-all-spec =

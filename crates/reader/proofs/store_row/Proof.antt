@@ -46,25 +46,45 @@ same-length : tie.Need-same-length
 same-length c = search needs
 
 returns : tie.Need-returns
-returns c = let a = c .before .before .before .before .before .before .before .before .before .before .before .before .args in λ (t : List ℕ). stored-sorts (a .counts) t (a .sorts .now) (a .terms .now) (a .inputs .now) (a .steps .now) (a .cells .now) (a .sheet) (c .before .before .before .before .before .enum-told .given .1) _ (c .before .before .store-all .ensures)
+returns c =
+    let a = c .before .before .before .before .before .before .before .before .before .before .before .before .args in
+    let the-enum-told = c .before .before .before .before .before .enum-told in
+    let the-store-all = c .before .before .store-all in
+    λ (t : List ℕ). stored-sorts (a .counts) t (a .sorts .now) (a .terms .now) (a .inputs .now) (a .steps .now)
+    (a .cells .now) (a .sheet) (the-enum-told .given .1) _ (the-store-all .ensures)
 
 same-length-2 : tie.Need-same-length-2
 same-length-2 c = search needs
 
 returns-2 : tie.Need-returns-2
-returns-2 c = let a = c .before .before .before .before .before .before .before .before .before .before .before .before .args in λ (t : List ℕ). stored-terms (a .counts) t (a .sorts .now) (a .terms .now) (a .inputs .now) (a .steps .now) (a .cells .now) (a .sheet) (c .before .before .before .before .before .enum-told2 .given .1) _ (c .before .before .store-all2 .ensures)
+returns-2 c =
+    let a = c .before .before .before .before .before .before .before .before .before .before .before .before .args in
+    let the-enum-told2 = c .before .before .before .before .before .enum-told2 in
+    let the-store-all2 = c .before .before .store-all2 in
+    λ (t : List ℕ). stored-terms (a .counts) t (a .sorts .now) (a .terms .now) (a .inputs .now) (a .steps .now)
+    (a .cells .now) (a .sheet) (the-enum-told2 .given .1) _ (the-store-all2 .ensures)
 
 same-length-3 : tie.Need-same-length-3
 same-length-3 c = search needs
 
 returns-3 : tie.Need-returns-3
-returns-3 c = let a = c .before .before .before .before .before .before .before .before .before .before .before .before .args in λ (t : List ℕ). stored-inputs (a .counts) t (a .sorts .now) (a .terms .now) (a .inputs .now) (a .steps .now) (a .cells .now) (a .sheet) (c .before .before .before .before .before .enum-told3 .given .1) _ (c .before .before .store-all3 .ensures)
+returns-3 c =
+    let a = c .before .before .before .before .before .before .before .before .before .before .before .before .args in
+    let the-enum-told3 = c .before .before .before .before .before .enum-told3 in
+    let the-store-all3 = c .before .before .store-all3 in
+    λ (t : List ℕ). stored-inputs (a .counts) t (a .sorts .now) (a .terms .now) (a .inputs .now) (a .steps .now)
+    (a .cells .now) (a .sheet) (the-enum-told3 .given .1) _ (the-store-all3 .ensures)
 
 same-length-4 : tie.Need-same-length-4
 same-length-4 c = search needs
 
 returns-4 : tie.Need-returns-4
-returns-4 c = let a = c .before .before .before .before .before .before .before .before .before .before .before .before .args in λ (t : List ℕ). stored-steps (a .counts) t (a .sorts .now) (a .terms .now) (a .inputs .now) (a .steps .now) (a .cells .now) (a .sheet) (c .before .before .before .before .before .enum-told4 .given .1) _ (c .before .before .store-all4 .ensures)
+returns-4 c =
+    let a = c .before .before .before .before .before .before .before .before .before .before .before .before .args in
+    let the-enum-told4 = c .before .before .before .before .before .enum-told4 in
+    let the-store-all4 = c .before .before .store-all4 in
+    λ (t : List ℕ). stored-steps (a .counts) t (a .sorts .now) (a .terms .now) (a .inputs .now) (a .steps .now)
+    (a .cells .now) (a .sheet) (the-enum-told4 .given .1) _ (the-store-all4 .ensures)
 
 pub store-row-spec : {M : Type 1} → statement M
 store-row-spec =

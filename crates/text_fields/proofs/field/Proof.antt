@@ -30,13 +30,35 @@ part-result-start : tie.Need-part-result-start Inv-loop μ-loop
 part-result-start c = omega arith
 
 part-result-end : tie.Need-part-result-end Inv-loop μ-loop
-part-result-end c = let x = c .before .before .before .loop in let l = c .before .before .before .before .before .args .line .now in let f = c .before .field-end in let e : f .result ≡ fieldEnd l (x .from) = f .ensures .0 in let u : f .result ≤ length l = f .ensures .1 in omega arith
+part-result-end c =
+    let x = c .before .before .before .loop in
+    let f = c .before .field-end in
+    let the-args = c .before .before .before .before .before .args in
+    let l = the-args .line .now in
+    let e : f .result ≡ fieldEnd l (x .from) = f .ensures .0 in
+    let u : f .result ≤ length l = f .ensures .1 in
+    omega arith
 
 returns : tie.Need-returns Inv-loop μ-loop
-returns c = let x = c .before .before .before .before .loop in let l = c .before .before .before .before .before .before .args .line .now in let f = c .before .before .field-end in let e : f .result ≡ fieldEnd l (x .from) = f .ensures .0 in let u : f .result ≤ length l = f .ensures .1 in rw sub-self (sym (field-gone l (x .from) (f .result) e (x .inv .0) (c .before .if1 .taken) (x .left) (omega arith)) ∙ x .inv .1)
+returns c =
+    let x = c .before .before .before .before .loop in
+    let f = c .before .before .field-end in
+    let the-args = c .before .before .before .before .before .before .args in
+    let l = the-args .line .now in
+    let e : f .result ≡ fieldEnd l (x .from) = f .ensures .0 in
+    let u : f .result ≤ length l = f .ensures .1 in
+    rw sub-self
+    (sym (field-gone l (x .from) (f .result) e (x .inv .0) (c .before .if1 .taken) (x .left) (omega arith)) ∙ x .inv .1)
 
 add-from : tie.Need-add-from Inv-loop μ-loop
-add-from c = let x = c .before .before .before .loop in let l = c .before .before .before .before .before .args .line .now in let f = c .before .field-end in let e : f .result ≡ fieldEnd l (x .from) = f .ensures .0 in let u : f .result ≤ length l = f .ensures .1 in omega arith
+add-from c =
+    let x = c .before .before .before .loop in
+    let f = c .before .field-end in
+    let the-args = c .before .before .before .before .before .args in
+    let l = the-args .line .now in
+    let e : f .result ≡ fieldEnd l (x .from) = f .ensures .0 in
+    let u : f .result ≤ length l = f .ensures .1 in
+    omega arith
 
 sub-left : tie.Need-sub-left Inv-loop μ-loop
 sub-left c = omega arith
@@ -45,22 +67,60 @@ loop-less : tie.Need-loop-less Inv-loop μ-loop
 loop-less c = omega arith
 
 loop-again : tie.Need-loop-again Inv-loop μ-loop
-loop-again c = let x = c .before .before .before .loop in let l = c .before .before .before .before .before .args .line .now in let f = c .before .field-end in let e : f .result ≡ fieldEnd l (x .from) = f .ensures .0 in let u : f .result ≤ length l = f .ensures .1 in let w : f .result < length l = omega (arith, c .if1 .left) in (omega arith, sym (field-next l (x .from) (f .result) e (x .inv .0) w (x .left) (omega arith)) ∙ x .inv .1)
+loop-again c =
+    let x = c .before .before .before .loop in
+    let f = c .before .field-end in
+    let the-args = c .before .before .before .before .before .args in
+    let l = the-args .line .now in
+    let e : f .result ≡ fieldEnd l (x .from) = f .ensures .0 in
+    let u : f .result ≤ length l = f .ensures .1 in
+    let w : f .result < length l = omega (arith, c .if1 .left) in
+    (omega arith, sym (field-next l (x .from) (f .result) e (x .inv .0) w (x .left) (omega arith)) ∙ x .inv .1)
 
 field-end-requires-2 : tie.Need-field-end-requires-2 Inv-loop μ-loop
 field-end-requires-2 c κs = omega arith
 
 sub-result-2 : tie.Need-sub-result-2 Inv-loop μ-loop
-sub-result-2 c = let x = c .before .before .loop in let l = c .before .before .before .before .args .line .now in let f = c .field-end2 in let e : f .result ≡ fieldEnd l (x .from) = f .ensures .0 in let u : f .result ≤ length l = f .ensures .1 in omega arith
+sub-result-2 c =
+    let x = c .before .before .loop in
+    let the-args = c .before .before .before .before .args in
+    let l = the-args .line .now in
+    let f = c .field-end2 in
+    let e : f .result ≡ fieldEnd l (x .from) = f .ensures .0 in
+    let u : f .result ≤ length l = f .ensures .1 in
+    omega arith
 
 part-result-start-2 : tie.Need-part-result-start-2 Inv-loop μ-loop
-part-result-start-2 c = let x = c .before .before .loop in let l = c .before .before .before .before .args .line .now in let f = c .field-end2 in let e : f .result ≡ fieldEnd l (x .from) = f .ensures .0 in let u : f .result ≤ length l = f .ensures .1 in omega arith
+part-result-start-2 c =
+    let x = c .before .before .loop in
+    let the-args = c .before .before .before .before .args in
+    let l = the-args .line .now in
+    let f = c .field-end2 in
+    let e : f .result ≡ fieldEnd l (x .from) = f .ensures .0 in
+    let u : f .result ≤ length l = f .ensures .1 in
+    omega arith
 
 part-result-end-2 : tie.Need-part-result-end-2 Inv-loop μ-loop
-part-result-end-2 c = let x = c .before .before .loop in let l = c .before .before .before .before .args .line .now in let f = c .field-end2 in let e : f .result ≡ fieldEnd l (x .from) = f .ensures .0 in let u : f .result ≤ length l = f .ensures .1 in omega arith
+part-result-end-2 c =
+    let x = c .before .before .loop in
+    let the-args = c .before .before .before .before .args in
+    let l = the-args .line .now in
+    let f = c .field-end2 in
+    let e : f .result ≡ fieldEnd l (x .from) = f .ensures .0 in
+    let u : f .result ≤ length l = f .ensures .1 in
+    omega arith
 
 returns-2 : tie.Need-returns-2 Inv-loop μ-loop
-returns-2 c = let x = c .before .before .before .loop in let l = c .before .before .before .before .before .args .line .now in let f = c .before .field-end2 in let e : f .result ≡ fieldEnd l (x .from) = f .ensures .0 in let u : f .result ≤ length l = f .ensures .1 in let z : x .left ≡ 0 = omega arith in sym (field-here l (x .from) (f .result) e (x .inv .0) u) ∙ ap (λ (m : ℕ). getD (pieces 32 (drop (x .from) l)) m []) (sym z) ∙ x .inv .1
+returns-2 c =
+    let x = c .before .before .before .loop in
+    let f = c .before .field-end2 in
+    let the-args = c .before .before .before .before .before .args in
+    let l = the-args .line .now in
+    let e : f .result ≡ fieldEnd l (x .from) = f .ensures .0 in
+    let u : f .result ≤ length l = f .ensures .1 in
+    let z : x .left ≡ 0 = omega arith in
+    sym (field-here l (x .from) (f .result) e (x .inv .0) u) ∙ ap
+    (λ (m : ℕ). getD (pieces 32 (drop (x .from) l)) m []) (sym z) ∙ x .inv .1
 
 pub field-spec : {M : Type 1} → statement M
 field-spec =

@@ -26,7 +26,14 @@ add-result : tie.Need-add-result
 add-result c = search needs
 
 returns : tie.Need-returns
-returns c = let a = c .before .before .before .args in let r = rest (a .at) (a .line .now) in let e : c .scan-field .result ≡ before 32 (drop (a .at) (a .line .now)) = c .scan-field .ensures .0 ∙ ap (before 32) r in let g : c .scan-field .result ≤ length (take (length (a .line .now) - a .at) (drop (a .at) (a .line .now))) = c .scan-field .ensures .1 in omega (arith, length-drop (a .at) (a .line .now), ap length r)
+returns c =
+    let a = c .before .before .before .args in
+    let r = rest (a .at) (a .line .now) in
+    let e : c .scan-field .result ≡ before 32 (drop (a .at) (a .line .now)) = c .scan-field .ensures .0 ∙ ap
+    (before 32) r in
+    let g : c .scan-field .result ≤ length (take (length (a .line .now) - a .at) (drop (a .at) (a .line .now))) = c
+    .scan-field .ensures .1 in
+    omega (arith, length-drop (a .at) (a .line .now), ap length r)
 
 pub field-end-spec : {M : Type 1} → statement M
 field-end-spec =

@@ -30,8 +30,15 @@ same-requires : tie.Need-same-requires Inv-loop μ-loop
 same-requires c κs = tt
 
 returns : tie.Need-returns Inv-loop μ-loop
-returns c = let a = c .before .before .before .before .before .before .before .before .args in let l = c .before .before .before .before .loop in let n : c .before .before .before .before .before .count-fields .result ≡ length (pieces 32 (a .words .now)) = c .before .before .before .before .before .count-fields .ensures .0 in
-    let e : same (getD (pieces 32 (a .words .now)) (l .k) []) (a .f .now) ≡ c .before .same .result = ap (λ (x : List ℕ). same x (a .f .now)) (sym (c .before .before .field .ensures)) ∙ sym (c .before .same .ensures) in
+returns c =
+    let a = c .before .before .before .before .before .before .before .before .args in
+    let l = c .before .before .before .before .loop in
+    let the-count-fields = c .before .before .before .before .before .count-fields in
+    let the-same = c .before .same in
+    let the-field = c .before .before .field in
+    let n : the-count-fields .result ≡ length (pieces 32 (a .words .now)) = the-count-fields .ensures .0 in
+    let e : same (getD (pieces 32 (a .words .now)) (l .k) []) (a .f .now) ≡ the-same .result = ap
+    (λ (x : List ℕ). same x (a .f .now)) (sym (the-field .ensures)) ∙ sym (the-same .ensures) in
     sym (index-stop (pieces 32 (a .words .now)) (l .k) (a .f .now) (omega arith) (e ∙ c .if1 .taken)) ∙ l .inv .1
 
 add-k : tie.Need-add-k Inv-loop μ-loop
@@ -41,12 +48,25 @@ loop-less : tie.Need-loop-less Inv-loop μ-loop
 loop-less c = omega arith
 
 loop-again : tie.Need-loop-again Inv-loop μ-loop
-loop-again c = let a = c .before .before .before .before .before .before .before .before .args in let l = c .before .before .before .before .loop in let n : c .before .before .before .before .before .count-fields .result ≡ length (pieces 32 (a .words .now)) = c .before .before .before .before .before .count-fields .ensures .0 in
-    let e : same (getD (pieces 32 (a .words .now)) (l .k) []) (a .f .now) ≡ c .before .same .result = ap (λ (x : List ℕ). same x (a .f .now)) (sym (c .before .before .field .ensures)) ∙ sym (c .before .same .ensures) in
-    (omega arith, sym (index-more (pieces 32 (a .words .now)) (l .k) (a .f .now) (omega arith) (e ∙ c .if1 .left)) ∙ l .inv .1)
+loop-again c =
+    let a = c .before .before .before .before .before .before .before .before .args in
+    let l = c .before .before .before .before .loop in
+    let the-count-fields = c .before .before .before .before .before .count-fields in
+    let the-same = c .before .same in
+    let the-field = c .before .before .field in
+    let n : the-count-fields .result ≡ length (pieces 32 (a .words .now)) = the-count-fields .ensures .0 in
+    let e : same (getD (pieces 32 (a .words .now)) (l .k) []) (a .f .now) ≡ the-same .result = ap
+    (λ (x : List ℕ). same x (a .f .now)) (sym (the-field .ensures)) ∙ sym (the-same .ensures) in (
+      omega arith,
+      sym (index-more (pieces 32 (a .words .now)) (l .k) (a .f .now) (omega arith) (e ∙ c .if1 .left)) ∙ l .inv .1,
+    )
 
 returns-2 : tie.Need-returns-2 Inv-loop μ-loop
-returns-2 c = let a = c .before .before .before .before .before .args in let l = c .before .loop in let n : c .before .before .count-fields .result ≡ length (pieces 32 (a .words .now)) = c .before .before .count-fields .ensures .0 in
+returns-2 c =
+    let a = c .before .before .before .before .before .args in
+    let l = c .before .loop in
+    let the-count-fields = c .before .before .count-fields in
+    let n : the-count-fields .result ≡ length (pieces 32 (a .words .now)) = the-count-fields .ensures .0 in
     sym (index-end (pieces 32 (a .words .now)) (l .k) (a .f .now) (omega arith)) ∙ l .inv .1
 
 pub find-word-spec : {M : Type 1} → statement M

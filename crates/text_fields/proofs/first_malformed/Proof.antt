@@ -34,23 +34,49 @@ is-well-formed-requires : tie.Need-is-well-formed-requires Inv-loop μ-loop
 is-well-formed-requires c κs = tt
 
 returns : tie.Need-returns Inv-loop μ-loop
-returns c = let a = c .before .before .before .before .before .before .before .args in let l = c .before .before .before .before .loop in let n : c .before .before .before .before .before .count-fields .result ≡ length (pieces 32 (a .line .now)) = c .before .before .before .before .before .count-fields .ensures .0 in
-    let e : wellFormed (eqb (l .k + 1) (a .column)) (getD (pieces 32 (a .line .now)) (l .k) []) ≡ c .before .is-well-formed .result = ap (wellFormed (eqb (l .k + 1) (a .column))) (sym (c .before .before .field .ensures)) ∙ sym (c .before .is-well-formed .ensures) in
-    sym (formed-stop (pieces 32 (a .line .now)) (l .k) (a .column) (omega arith) (e ∙ not-true _ (c .if1 .taken))) ∙ l .inv .1
+returns c =
+    let a = c .before .before .before .before .before .before .before .args in
+    let l = c .before .before .before .before .loop in
+    let the-count-fields = c .before .before .before .before .before .count-fields in
+    let the-is-well-formed = c .before .is-well-formed in
+    let the-field = c .before .before .field in
+    let n : the-count-fields .result ≡ length (pieces 32 (a .line .now)) = the-count-fields .ensures .0 in
+    let e : wellFormed (eqb (l .k + 1) (a .column)) (getD (pieces 32 (a .line .now)) (l .k) []) ≡ the-is-well-formed
+    .result = ap (wellFormed (eqb (l .k + 1) (a .column))) (sym (the-field .ensures)) ∙ sym
+    (the-is-well-formed .ensures) in
+    sym (formed-stop (pieces 32 (a .line .now)) (l .k) (a .column) (omega arith) (e ∙ not-true _ (c .if1 .taken))) ∙ l
+    .inv .1
 
 add-k : tie.Need-add-k Inv-loop μ-loop
-add-k c = omega (arith, c .before .before .before .before .before .count-fields .ensures .1)
+add-k c =
+    let the-count-fields = c .before .before .before .before .before .count-fields in
+    omega (arith, the-count-fields .ensures .1)
 
 loop-less : tie.Need-loop-less Inv-loop μ-loop
 loop-less c = omega arith
 
 loop-again : tie.Need-loop-again Inv-loop μ-loop
-loop-again c = let a = c .before .before .before .before .before .before .before .args in let l = c .before .before .before .before .loop in let n : c .before .before .before .before .before .count-fields .result ≡ length (pieces 32 (a .line .now)) = c .before .before .before .before .before .count-fields .ensures .0 in
-    let e : wellFormed (eqb (l .k + 1) (a .column)) (getD (pieces 32 (a .line .now)) (l .k) []) ≡ c .before .is-well-formed .result = ap (wellFormed (eqb (l .k + 1) (a .column))) (sym (c .before .before .field .ensures)) ∙ sym (c .before .is-well-formed .ensures) in
-    (omega arith, sym (formed-more (pieces 32 (a .line .now)) (l .k) (a .column) (omega arith) (e ∙ not-false _ (c .if1 .left))) ∙ l .inv .1)
+loop-again c =
+    let a = c .before .before .before .before .before .before .before .args in
+    let l = c .before .before .before .before .loop in
+    let the-count-fields = c .before .before .before .before .before .count-fields in
+    let the-is-well-formed = c .before .is-well-formed in
+    let the-field = c .before .before .field in
+    let n : the-count-fields .result ≡ length (pieces 32 (a .line .now)) = the-count-fields .ensures .0 in
+    let e : wellFormed (eqb (l .k + 1) (a .column)) (getD (pieces 32 (a .line .now)) (l .k) []) ≡ the-is-well-formed
+    .result = ap (wellFormed (eqb (l .k + 1) (a .column))) (sym (the-field .ensures)) ∙ sym
+    (the-is-well-formed .ensures) in (
+      omega arith,
+      sym (formed-more (pieces 32 (a .line .now)) (l .k) (a .column) (omega arith) (e ∙ not-false _ (c .if1 .left))) ∙
+          l .inv .1,
+    )
 
 returns-2 : tie.Need-returns-2 Inv-loop μ-loop
-returns-2 c = let a = c .before .before .before .before .args in let l = c .before .loop in let n : c .before .before .count-fields .result ≡ length (pieces 32 (a .line .now)) = c .before .before .count-fields .ensures .0 in
+returns-2 c =
+    let a = c .before .before .before .before .args in
+    let l = c .before .loop in
+    let the-count-fields = c .before .before .count-fields in
+    let n : the-count-fields .result ≡ length (pieces 32 (a .line .now)) = the-count-fields .ensures .0 in
     sym (formed-end (pieces 32 (a .line .now)) (l .k) (a .column) (omega arith)) ∙ l .inv .1
 
 pub first-malformed-spec : {M : Type 1} → statement M

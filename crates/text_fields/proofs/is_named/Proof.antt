@@ -25,7 +25,12 @@ is-name-byte-requires : tie.Need-is-name-byte-requires Inv-loop μ-loop
 is-name-byte-requires c κs = tt
 
 returns : tie.Need-returns Inv-loop μ-loop
-returns c = let a = c .before .before .before .before .before .before .args in let l = c .before .before .before .before .loop in sym (named-stop (a .f .now) (l .i) (omega arith) (sym (c .before .is-name-byte .ensures) ∙ not-true _ (c .if1 .taken))) ∙ l .inv .1
+returns c =
+    let a = c .before .before .before .before .before .before .args in
+    let l = c .before .before .before .before .loop in
+    sym
+    (named-stop (a .f .now) (l .i) (omega arith) (sym (c .before .is-name-byte .ensures) ∙ not-true _ (c .if1 .taken)))
+    ∙ l .inv .1
 
 add-i : tie.Need-add-i Inv-loop μ-loop
 add-i c = omega arith
@@ -34,10 +39,20 @@ loop-less : tie.Need-loop-less Inv-loop μ-loop
 loop-less c = omega arith
 
 loop-again : tie.Need-loop-again Inv-loop μ-loop
-loop-again c = let a = c .before .before .before .before .before .before .args in let l = c .before .before .before .before .loop in (omega arith, sym (named-more (a .f .now) (l .i) (omega arith) (sym (c .before .is-name-byte .ensures) ∙ not-false _ (c .if1 .left))) ∙ l .inv .1)
+loop-again c =
+    let a = c .before .before .before .before .before .before .args in
+    let l = c .before .before .before .before .loop in (
+      omega arith,
+      sym
+          (named-more (a .f .now) (l .i) (omega arith) (sym (c .before .is-name-byte .ensures) ∙ not-false _ (c .if1 .left)))
+          ∙ l .inv .1,
+    )
 
 returns-2 : tie.Need-returns-2 Inv-loop μ-loop
-returns-2 c = let a = c .before .before .before .args in let l = c .before .loop in sym (named-end (a .f .now) (l .i) (omega arith)) ∙ l .inv .1
+returns-2 c =
+    let a = c .before .before .before .args in
+    let l = c .before .loop in
+    sym (named-end (a .f .now) (l .i) (omega arith)) ∙ l .inv .1
 
 pub is-named-spec : {M : Type 1} → statement M
 is-named-spec =

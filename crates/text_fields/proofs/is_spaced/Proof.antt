@@ -30,8 +30,15 @@ is-filled-requires : tie.Need-is-filled-requires Inv-loop μ-loop
 is-filled-requires c κs = tt
 
 returns : tie.Need-returns Inv-loop μ-loop
-returns c = let a = c .before .before .before .before .before .before .before .args in let l = c .before .before .before .before .loop in let n : c .before .before .before .before .before .count-fields .result ≡ length (pieces 32 (a .line .now)) = c .before .before .before .before .before .count-fields .ensures .0 in
-    let e : filled (getD (pieces 32 (a .line .now)) (l .k) []) ≡ c .before .is-filled .result = ap filled (sym (c .before .before .field .ensures)) ∙ sym (c .before .is-filled .ensures) in
+returns c =
+    let a = c .before .before .before .before .before .before .before .args in
+    let l = c .before .before .before .before .loop in
+    let the-count-fields = c .before .before .before .before .before .count-fields in
+    let the-is-filled = c .before .is-filled in
+    let the-field = c .before .before .field in
+    let n : the-count-fields .result ≡ length (pieces 32 (a .line .now)) = the-count-fields .ensures .0 in
+    let e : filled (getD (pieces 32 (a .line .now)) (l .k) []) ≡ the-is-filled .result = ap filled
+    (sym (the-field .ensures)) ∙ sym (the-is-filled .ensures) in
     sym (spaced-stop (pieces 32 (a .line .now)) (l .k) (omega arith) (e ∙ not-true _ (c .if1 .taken))) ∙ l .inv .1
 
 add-k : tie.Need-add-k Inv-loop μ-loop
@@ -41,12 +48,25 @@ loop-less : tie.Need-loop-less Inv-loop μ-loop
 loop-less c = omega arith
 
 loop-again : tie.Need-loop-again Inv-loop μ-loop
-loop-again c = let a = c .before .before .before .before .before .before .before .args in let l = c .before .before .before .before .loop in let n : c .before .before .before .before .before .count-fields .result ≡ length (pieces 32 (a .line .now)) = c .before .before .before .before .before .count-fields .ensures .0 in
-    let e : filled (getD (pieces 32 (a .line .now)) (l .k) []) ≡ c .before .is-filled .result = ap filled (sym (c .before .before .field .ensures)) ∙ sym (c .before .is-filled .ensures) in
-    (omega arith, sym (spaced-more (pieces 32 (a .line .now)) (l .k) (omega arith) (e ∙ not-false _ (c .if1 .left))) ∙ l .inv .1)
+loop-again c =
+    let a = c .before .before .before .before .before .before .before .args in
+    let l = c .before .before .before .before .loop in
+    let the-count-fields = c .before .before .before .before .before .count-fields in
+    let the-is-filled = c .before .is-filled in
+    let the-field = c .before .before .field in
+    let n : the-count-fields .result ≡ length (pieces 32 (a .line .now)) = the-count-fields .ensures .0 in
+    let e : filled (getD (pieces 32 (a .line .now)) (l .k) []) ≡ the-is-filled .result = ap filled
+    (sym (the-field .ensures)) ∙ sym (the-is-filled .ensures) in (
+      omega arith,
+      sym (spaced-more (pieces 32 (a .line .now)) (l .k) (omega arith) (e ∙ not-false _ (c .if1 .left))) ∙ l .inv .1,
+    )
 
 returns-2 : tie.Need-returns-2 Inv-loop μ-loop
-returns-2 c = let a = c .before .before .before .before .args in let l = c .before .loop in let n : c .before .before .count-fields .result ≡ length (pieces 32 (a .line .now)) = c .before .before .count-fields .ensures .0 in
+returns-2 c =
+    let a = c .before .before .before .before .args in
+    let l = c .before .loop in
+    let the-count-fields = c .before .before .count-fields in
+    let n : the-count-fields .result ≡ length (pieces 32 (a .line .now)) = the-count-fields .ensures .0 in
     sym (spaced-end (pieces 32 (a .line .now)) (l .k) (omega arith)) ∙ l .inv .1
 
 pub is-spaced-spec : {M : Type 1} → statement M

@@ -12,16 +12,23 @@ shared-slice-read-if2 : tie.Need-shared-slice-read-if2
 shared-slice-read-if2 c = search needs
 
 returns-2 : tie.Need-returns-2
-returns-2 c = sym (decimal-zero (c .before .before .before .before .before .args .f .now) (c .before .if2 .taken) (c .if3 .taken))
+returns-2 c =
+    let the-args = c .before .before .before .before .before .args in
+    sym (decimal-zero (the-args .f .now) (c .before .if2 .taken) (c .if3 .taken))
 
 returns-3 : tie.Need-returns-3
-returns-3 c = sym (decimal-led (c .before .before .before .before .before .args .f .now) (c .before .if2 .taken) (c .if3 .left))
+returns-3 c =
+    let the-args = c .before .before .before .before .before .args in
+    sym (decimal-led (the-args .f .now) (c .before .if2 .taken) (c .if3 .left))
 
 read-digits-requires : tie.Need-read-digits-requires
 read-digits-requires c κs = search needs
 
 returns-4 : tie.Need-returns-4
-returns-4 c = c .read-digits .ensures ∙ sym (decimal-more (c .before .before .before .before .before .args .f .now) (c .before .before .before .if1 .left) (c .before .if2 .left))
+returns-4 c =
+    let the-args = c .before .before .before .before .before .args in
+    let the-if1 = c .before .before .before .if1 in
+    c .read-digits .ensures ∙ sym (decimal-more (the-args .f .now) (the-if1 .left) (c .before .if2 .left))
 
 pub read-decimal-spec : {M : Type 1} → statement M
 read-decimal-spec =

@@ -22,10 +22,20 @@ shared-slice-read-b : tie.Need-shared-slice-read-b Inv-loop μ-loop
 shared-slice-read-b c = omega arith
 
 returns : tie.Need-returns Inv-loop μ-loop
-returns c = let x = c .before .before .before in let f = c .before .before .before .before .args .f .now in let i = x .loop .i in sym (digits-low (x .loop .n) f i (omega arith) (c .if1 .taken)) ∙ x .loop .inv .2
+returns c =
+    let x = c .before .before .before in
+    let the-args = c .before .before .before .before .args in
+    let f = the-args .f .now in
+    let i = x .loop .i in
+    sym (digits-low (x .loop .n) f i (omega arith) (c .if1 .taken)) ∙ x .loop .inv .2
 
 returns-2 : tie.Need-returns-2 Inv-loop μ-loop
-returns-2 c = let x = c .before .before .before .before in let f = c .before .before .before .before .before .args .f .now in let i = x .loop .i in sym (digits-high (x .loop .n) f i (omega arith) (c .if2 .taken)) ∙ x .loop .inv .2
+returns-2 c =
+    let x = c .before .before .before .before in
+    let the-args = c .before .before .before .before .before .args in
+    let f = the-args .f .now in
+    let i = x .loop .i in
+    sym (digits-high (x .loop .n) f i (omega arith) (c .if2 .taken)) ∙ x .loop .inv .2
 
 mul-n : tie.Need-mul-n Inv-loop μ-loop
 mul-n c = omega arith
@@ -37,7 +47,12 @@ add-n : tie.Need-add-n Inv-loop μ-loop
 add-n c = omega arith
 
 returns-3 : tie.Need-returns-3 Inv-loop μ-loop
-returns-3 c = let x = c .before .before .before .before .before in let f = c .before .before .before .before .before .before .args .f .now in let i = x .loop .i in sym (digits-large (x .loop .n) f i (omega arith) (c .if3 .taken)) ∙ x .loop .inv .2
+returns-3 c =
+    let x = c .before .before .before .before .before in
+    let the-args = c .before .before .before .before .before .before .args in
+    let f = the-args .f .now in
+    let i = x .loop .i in
+    sym (digits-large (x .loop .n) f i (omega arith) (c .if3 .taken)) ∙ x .loop .inv .2
 
 add-i : tie.Need-add-i Inv-loop μ-loop
 add-i c = omega arith
@@ -46,13 +61,26 @@ loop-less : tie.Need-loop-less Inv-loop μ-loop
 loop-less c = omega arith
 
 loop-again : tie.Need-loop-again Inv-loop μ-loop
-loop-again c = let x = c .before .before .before .before .before in let f = c .before .before .before .before .before .before .args .f .now in let i = x .loop .i in (omega arith, omega arith, sym (digits-more (x .loop .n) f i (omega arith) (omega arith) (omega arith) (omega arith)) ∙ x .loop .inv .2)
+loop-again c =
+    let x = c .before .before .before .before .before in
+    let the-args = c .before .before .before .before .before .before .args in
+    let f = the-args .f .now in
+    let i = x .loop .i in (
+      omega arith,
+      omega arith,
+      sym (digits-more (x .loop .n) f i (omega arith) (omega arith) (omega arith) (omega arith)) ∙ x .loop .inv .2,
+    )
 
 cast-t11 : tie.Need-cast-t11 Inv-loop μ-loop
 cast-t11 c = omega arith
 
 returns-4 : tie.Need-returns-4 Inv-loop μ-loop
-returns-4 c = let x = c .before in let f = c .before .before .args .f .now in let i = x .loop .i in sym (digits-end (x .loop .n) f i (omega arith)) ∙ x .loop .inv .2
+returns-4 c =
+    let the-args = c .before .before .args in
+    let x = c .before in
+    let f = the-args .f .now in
+    let i = x .loop .i in
+    sym (digits-end (x .loop .n) f i (omega arith)) ∙ x .loop .inv .2
 
 pub read-digits-spec : {M : Type 1} → statement M
 read-digits-spec =

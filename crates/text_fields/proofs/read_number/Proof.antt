@@ -18,7 +18,9 @@ read-decimal-requires : tie.Need-read-decimal-requires
 read-decimal-requires c κs = search needs
 
 returns-2 : tie.Need-returns-2
-returns-2 c = c .read-decimal .ensures ∙ sym (pick-false _ _ (sym (c .before .before .same .ensures) ∙ c .before .if1 .left))
+returns-2 c =
+    let the-same = c .before .before .same in
+    c .read-decimal .ensures ∙ sym (pick-false _ _ (sym (the-same .ensures) ∙ c .before .if1 .left))
 
 pub read-number-spec : {M : Type 1} → statement M
 read-number-spec =

@@ -21,13 +21,22 @@ same-requires-2 : tie.Need-same-requires-2
 same-requires-2 c κs = search needs
 
 returns-2 : tie.Need-returns-2
-returns-2 c = sym (pick-false _ _ (sym (c .before .before .before .before .same .ensures) ∙ c .before .before .before .if1 .left) ∙ pick-true _ _ (sym (c .before .same2 .ensures) ∙ c .if2 .taken))
+returns-2 c =
+    let the-same = c .before .before .before .before .same in
+    let the-if1 = c .before .before .before .if1 in
+    sym
+    (pick-false _ _ (sym (the-same .ensures) ∙ the-if1 .left) ∙ pick-true _ _ (sym (c .before .same2 .ensures) ∙ c .if2 .taken))
 
 read-number-requires : tie.Need-read-number-requires
 read-number-requires c κs = search needs
 
 returns-3 : tie.Need-returns-3
-returns-3 c = c .read-number .ensures ∙ sym (pick-false _ _ (sym (c .before .before .before .before .before .same .ensures) ∙ c .before .before .before .before .if1 .left) ∙ pick-false _ _ (sym (c .before .before .same2 .ensures) ∙ c .before .if2 .left))
+returns-3 c =
+    let the-same = c .before .before .before .before .before .same in
+    let the-if1 = c .before .before .before .before .if1 in
+    let the-same2 = c .before .before .same2 in
+    c .read-number .ensures ∙ sym
+    (pick-false _ _ (sym (the-same .ensures) ∙ the-if1 .left) ∙ pick-false _ _ (sym (the-same2 .ensures) ∙ c .before .if2 .left))
 
 pub read-value-spec : {M : Type 1} → statement M
 read-value-spec =

@@ -27,7 +27,10 @@ shared-slice-read-if2-2 : tie.Need-shared-slice-read-if2-2 Inv-loop μ-loop
 shared-slice-read-if2-2 c = omega arith
 
 returns-2 : tie.Need-returns-2 Inv-loop μ-loop
-returns-2 c = let x = c .before .before .before .before in let a = c .before .before .before .before .before .before .args in sym (same-miss (a .a .now) (a .b .now) (x .loop .i) (omega arith) (omega arith) (c .if2 .taken)) ∙ x .loop .inv .2
+returns-2 c =
+    let x = c .before .before .before .before in
+    let a = c .before .before .before .before .before .before .args in
+    sym (same-miss (a .a .now) (a .b .now) (x .loop .i) (omega arith) (omega arith) (c .if2 .taken)) ∙ x .loop .inv .2
 
 add-i : tie.Need-add-i Inv-loop μ-loop
 add-i c = omega arith
@@ -36,10 +39,19 @@ loop-less : tie.Need-loop-less Inv-loop μ-loop
 loop-less c = omega arith
 
 loop-again : tie.Need-loop-again Inv-loop μ-loop
-loop-again c = let x = c .before .before .before .before in let a = c .before .before .before .before .before .before .args in (omega arith, omega arith, sym (same-hit (a .a .now) (a .b .now) (x .loop .i) (omega arith) (omega arith) (c .if2 .left)) ∙ x .loop .inv .2)
+loop-again c =
+    let x = c .before .before .before .before in
+    let a = c .before .before .before .before .before .before .args in (
+      omega arith,
+      omega arith,
+      sym (same-hit (a .a .now) (a .b .now) (x .loop .i) (omega arith) (omega arith) (c .if2 .left)) ∙ x .loop .inv .2,
+    )
 
 returns-3 : tie.Need-returns-3 Inv-loop μ-loop
-returns-3 c = let x = c .before in let a = c .before .before .before .args in sym (same-end (a .a .now) (a .b .now) (x .loop .i) (omega arith) (omega arith)) ∙ x .loop .inv .2
+returns-3 c =
+    let a = c .before .before .before .args in
+    let x = c .before in
+    sym (same-end (a .a .now) (a .b .now) (x .loop .i) (omega arith) (omega arith)) ∙ x .loop .inv .2
 
 pub same-spec : {M : Type 1} → statement M
 same-spec =

@@ -21,7 +21,10 @@ shared-slice-read-if1 : tie.Need-shared-slice-read-if1 Inv-loop μ-loop
 shared-slice-read-if1 c = omega arith
 
 returns : tie.Need-returns Inv-loop μ-loop
-returns c = let x = c .before .before .before in omega (arith, before-hit (x .before .args .c) (x .before .args .s .now) (x .loop .i) (omega arith) (c .if1 .taken))
+returns c =
+    let x = c .before .before .before in
+    omega
+    (arith, before-hit (x .before .args .c) (x .before .args .s .now) (x .loop .i) (omega arith) (c .if1 .taken))
 
 add-i : tie.Need-add-i Inv-loop μ-loop
 add-i c = omega arith
@@ -30,10 +33,15 @@ loop-less : tie.Need-loop-less Inv-loop μ-loop
 loop-less c = omega arith
 
 loop-again : tie.Need-loop-again Inv-loop μ-loop
-loop-again c = let x = c .before .before .before in omega (arith, before-miss (x .before .args .c) (x .before .args .s .now) (x .loop .i) (omega arith) (c .if1 .left))
+loop-again c =
+    let x = c .before .before .before in
+    omega
+    (arith, before-miss (x .before .args .c) (x .before .args .s .now) (x .loop .i) (omega arith) (c .if1 .left))
 
 returns-2 : tie.Need-returns-2 Inv-loop μ-loop
-returns-2 c = let x = c .before in omega (arith, before-end (x .before .args .c) (x .before .args .s .now) (x .loop .i) (omega arith))
+returns-2 c =
+    let x = c .before in
+    omega (arith, before-end (x .before .args .c) (x .before .args .s .now) (x .loop .i) (omega arith))
 
 pub scan-spec : {M : Type 1} → statement M
 scan-spec =

@@ -26,7 +26,11 @@ is-space-requires : tie.Need-is-space-requires Inv-loop μ-loop
 is-space-requires c κs = tt
 
 returns : tie.Need-returns Inv-loop μ-loop
-returns c = let a = c .before .before .before .before .before .before .args in let l = c .before .before .before .before .loop in omega (arith, before-hit 32 (a .s .now) (l .i) (omega arith) (eqb-true _ _ (sym (space-is (getD (a .s .now) (l .i) 0)) ∙ sym (c .before .is-space .ensures) ∙ c .if1 .taken)))
+returns c =
+    let a = c .before .before .before .before .before .before .args in
+    let l = c .before .before .before .before .loop in
+    omega
+    (arith, before-hit 32 (a .s .now) (l .i) (omega arith) (eqb-true _ _ (sym (space-is (getD (a .s .now) (l .i) 0)) ∙ sym (c .before .is-space .ensures) ∙ c .if1 .taken)))
 
 add-i : tie.Need-add-i Inv-loop μ-loop
 add-i c = omega arith
@@ -35,10 +39,17 @@ loop-less : tie.Need-loop-less Inv-loop μ-loop
 loop-less c = omega arith
 
 loop-again : tie.Need-loop-again Inv-loop μ-loop
-loop-again c = let a = c .before .before .before .before .before .before .args in let l = c .before .before .before .before .loop in omega (arith, before-miss 32 (a .s .now) (l .i) (omega arith) (eqb-false _ _ (sym (space-is (getD (a .s .now) (l .i) 0)) ∙ sym (c .before .is-space .ensures) ∙ c .if1 .left)))
+loop-again c =
+    let a = c .before .before .before .before .before .before .args in
+    let l = c .before .before .before .before .loop in
+    omega
+    (arith, before-miss 32 (a .s .now) (l .i) (omega arith) (eqb-false _ _ (sym (space-is (getD (a .s .now) (l .i) 0)) ∙ sym (c .before .is-space .ensures) ∙ c .if1 .left)))
 
 returns-2 : tie.Need-returns-2 Inv-loop μ-loop
-returns-2 c = let a = c .before .before .before .args in let l = c .before .loop in omega (arith, before-end 32 (a .s .now) (l .i) (omega arith))
+returns-2 c =
+    let a = c .before .before .before .args in
+    let l = c .before .loop in
+    omega (arith, before-end 32 (a .s .now) (l .i) (omega arith))
 
 pub scan-field-spec : {M : Type 1} → statement M
 scan-field-spec =

@@ -28,7 +28,12 @@ name-is-requires : tie.Need-name-is-requires Inv-loop μ-loop
 name-is-requires c κs = (omega arith, c .before .before .tag-of .ensures)
 
 returns : tie.Need-returns Inv-loop μ-loop
-returns c = let a = c .before .before .before .before .before .before .before .args in let l = c .before .before .before .loop in sym (find-hit (a .table .now) (a .name .now) (a .base) (a .count) (l .k) (omega arith) (sym (c .before .name-is .ensures) ∙ c .if1 .taken)) ∙ l .inv .1
+returns c =
+    let a = c .before .before .before .before .before .before .before .args in
+    let l = c .before .before .before .loop in
+    sym
+    (find-hit (a .table .now) (a .name .now) (a .base) (a .count) (l .k) (omega arith) (sym (c .before .name-is .ensures) ∙ c .if1 .taken))
+    ∙ l .inv .1
 
 add-k : tie.Need-add-k Inv-loop μ-loop
 add-k c = omega arith
@@ -37,10 +42,20 @@ loop-less : tie.Need-loop-less Inv-loop μ-loop
 loop-less c = omega arith
 
 loop-again : tie.Need-loop-again Inv-loop μ-loop
-loop-again c = let a = c .before .before .before .before .before .before .before .args in let l = c .before .before .before .loop in (omega arith, sym (find-miss (a .table .now) (a .name .now) (a .base) (a .count) (l .k) (omega arith) (sym (c .before .name-is .ensures) ∙ c .if1 .left)) ∙ l .inv .1)
+loop-again c =
+    let a = c .before .before .before .before .before .before .before .args in
+    let l = c .before .before .before .loop in (
+      omega arith,
+      sym
+          (find-miss (a .table .now) (a .name .now) (a .base) (a .count) (l .k) (omega arith) (sym (c .before .name-is .ensures) ∙ c .if1 .left))
+          ∙ l .inv .1,
+    )
 
 returns-2 : tie.Need-returns-2 Inv-loop μ-loop
-returns-2 c = let a = c .before .before .before .before .before .args in let l = c .before .loop in sym (find-end (a .table .now) (a .name .now) (a .base) (a .count) (l .k) (omega arith)) ∙ l .inv .1
+returns-2 c =
+    let a = c .before .before .before .before .before .args in
+    let l = c .before .loop in
+    sym (find-end (a .table .now) (a .name .now) (a .base) (a .count) (l .k) (omega arith)) ∙ l .inv .1
 
 pub find-name-spec : {M : Type 1} → statement M
 find-name-spec =

@@ -18,7 +18,12 @@ shared-slice-read-if1 : tie.Need-shared-slice-read-if1
 shared-slice-read-if1 c = search needs
 
 returns : tie.Need-returns
-returns c = let a = c .before .before .before .before .args in name-tagged (a .table .now) (a .k) (a .name .now) (omega (arith, c .before .before .shared-slice-known2 .given 0)) (λ e. c .if1 .taken (e ∙ sym (c .before .before .before .before .pre .1)))
+returns c =
+    let a = c .before .before .before .before .args in
+    let the-shared-slice-known2 = c .before .before .shared-slice-known2 in
+    let the-pre = c .before .before .before .before .pre in
+    name-tagged (a .table .now) (a .k) (a .name .now) (omega (arith, the-shared-slice-known2 .given 0))
+    (λ e. c .if1 .taken (e ∙ sym (the-pre .1)))
 
 add-to : tie.Need-add-to
 add-to c = search needs
@@ -42,7 +47,15 @@ same-requires : tie.Need-same-requires
 same-requires c κs = search needs
 
 returns-2 : tie.Need-returns-2
-returns-2 c = let a = c .before .before .before .before .before .before .before .before .args in let e : (a .k * 65 + 64) - a .k * 65 ≡ 64 = omega arith in c .same .ensures ∙ rw (c .before .before .scan .ensures .0, e) (name-written (a .table .now) (a .k) (a .name .now) (omega (arith, c .before .before .before .before .before .before .shared-slice-known2 .given 0)) (c .before .before .before .before .if1 .left ∙ c .before .before .before .before .before .before .before .before .pre .1))
+returns-2 c =
+    let a = c .before .before .before .before .before .before .before .before .args in
+    let the-scan = c .before .before .scan in
+    let the-shared-slice-known2 = c .before .before .before .before .before .before .shared-slice-known2 in
+    let the-if1 = c .before .before .before .before .if1 in
+    let the-pre = c .before .before .before .before .before .before .before .before .pre in
+    let e : (a .k * 65 + 64) - a .k * 65 ≡ 64 = omega arith in
+    c .same .ensures ∙ rw (the-scan .ensures .0, e)
+    (name-written (a .table .now) (a .k) (a .name .now) (omega (arith, the-shared-slice-known2 .given 0)) (the-if1 .left ∙ the-pre .1))
 
 pub name-is-spec : {M : Type 1} → statement M
 name-is-spec =

@@ -21,7 +21,9 @@ tag-of-requires : tie.Need-tag-of-requires Inv-loop μ-loop
 tag-of-requires c κs = tt
 
 loop-holds : tie.Need-loop-holds Inv-loop μ-loop
-loop-holds c = let a = c .before .before .before .args in (omega arith, paste-zero (a .table .now) (a .k * 65) (slotOf (a .name .now)))
+loop-holds c =
+    let a = c .before .before .before .args in
+    (omega arith, paste-zero (a .table .now) (a .k * 65) (slotOf (a .name .now)))
 
 slot-byte-requires : tie.Need-slot-byte-requires Inv-loop μ-loop
 slot-byte-requires c κs = (omega arith, c .before .before .tag-of .ensures)
@@ -30,7 +32,11 @@ add-table : tie.Need-add-table Inv-loop μ-loop
 add-table c = omega arith
 
 slice-write-table : tie.Need-slice-write-table Inv-loop μ-loop
-slice-write-table c = let a = c .before .before .before .before .before .before .args in let l = c .before .before .loop in omega (arith, put-length (a .table .now) (a .k * 65) (slotOf (a .name .now)) (l .i) (l .table) (l .inv .1) (omega (arith, length-slot (a .name .now))) (omega arith))
+slice-write-table c =
+    let a = c .before .before .before .before .before .before .args in
+    let l = c .before .before .loop in
+    omega
+    (arith, put-length (a .table .now) (a .k * 65) (slotOf (a .name .now)) (l .i) (l .table) (l .inv .1) (omega (arith, length-slot (a .name .now))) (omega arith))
 
 add-i : tie.Need-add-i Inv-loop μ-loop
 add-i c = omega arith
@@ -39,13 +45,27 @@ loop-less : tie.Need-loop-less Inv-loop μ-loop
 loop-less c = omega arith
 
 loop-again : tie.Need-loop-again Inv-loop μ-loop
-loop-again c = let a = c .before .before .before .before .before .before .args in let l = c .before .before .loop in (omega arith, put-more (a .table .now) (a .k * 65) (slotOf (a .name .now)) (l .i) (l .table) (l .inv .1) (c .slot-byte .result) (c .slot-byte .ensures) (omega (arith, length-slot (a .name .now))) (omega arith))
+loop-again c =
+    let a = c .before .before .before .before .before .before .args in
+    let l = c .before .before .loop in (
+      omega arith,
+      put-more (a .table .now) (a .k * 65) (slotOf (a .name .now)) (l .i) (l .table) (l .inv .1)
+          (c .slot-byte .result) (c .slot-byte .ensures) (omega (arith, length-slot (a .name .now))) (omega arith),
+    )
 
 same-length : tie.Need-same-length Inv-loop μ-loop
-same-length c = let a = c .before .before .before .before .before .args in let l = c .before .loop in put-length (a .table .now) (a .k * 65) (slotOf (a .name .now)) (l .i) (l .table) (l .inv .1) (omega (arith, length-slot (a .name .now))) (omega arith)
+same-length c =
+    let a = c .before .before .before .before .before .args in
+    let l = c .before .loop in
+    put-length (a .table .now) (a .k * 65) (slotOf (a .name .now)) (l .i) (l .table) (l .inv .1)
+    (omega (arith, length-slot (a .name .now))) (omega arith)
 
 returns : tie.Need-returns Inv-loop μ-loop
-returns c = let a = c .before .before .before .before .before .args in let l = c .before .loop in let e : l .i ≡ 65 = omega arith in l .inv .1 ∙ ap (paste (a .table .now) (a .k * 65) (slotOf (a .name .now))) e
+returns c =
+    let a = c .before .before .before .before .before .args in
+    let l = c .before .loop in
+    let e : l .i ≡ 65 = omega arith in
+    l .inv .1 ∙ ap (paste (a .table .now) (a .k * 65) (slotOf (a .name .now))) e
 
 pub put-name-spec : {M : Type 1} → statement M
 put-name-spec =

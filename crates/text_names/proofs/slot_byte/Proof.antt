@@ -7,7 +7,9 @@ use Rattle.text_names.proofs.slot_byte.Statement.{statement}
 use Rattle.text_names.proofs.slot_byte.Tie as tie
 
 returns : tie.Need-returns
-returns c = let a = c .before .args in c .before .pre .1 ∙ sym (slot-tag (a .name .now) (a .i) (omega arith) (omega arith))
+returns c =
+    let a = c .before .args in
+    c .before .pre .1 ∙ sym (slot-tag (a .name .now) (a .i) (omega arith) (omega arith))
 
 shared-slice-read-result : tie.Need-shared-slice-read-result
 shared-slice-read-result c = search needs

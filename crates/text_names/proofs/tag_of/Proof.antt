@@ -36,13 +36,19 @@ loop-less : tie.Need-loop-less Inv-loop μ-loop
 loop-less c = omega arith
 
 loop-again : tie.Need-loop-again Inv-loop μ-loop
-loop-again c = let a = c .before .before .before .args in let l = c .before .before .loop in (omega arith, omega arith, sym (tag-more (l .h) (a .name .now) (l .i) (omega arith)) ∙ l .inv .2)
+loop-again c =
+    let a = c .before .before .before .args in
+    let l = c .before .before .loop in
+    (omega arith, omega arith, sym (tag-more (l .h) (a .name .now) (l .i) (omega arith)) ∙ l .inv .2)
 
 cast-result : tie.Need-cast-result Inv-loop μ-loop
 cast-result c = omega arith
 
 returns : tie.Need-returns Inv-loop μ-loop
-returns c = let a = c .before .before .args in let l = c .before .loop in sym (tag-end (l .h) (a .name .now) (l .i) (omega arith)) ∙ l .inv .2 ∙ sym (tag-whole (a .name .now))
+returns c =
+    let a = c .before .before .args in
+    let l = c .before .loop in
+    sym (tag-end (l .h) (a .name .now) (l .i) (omega arith)) ∙ l .inv .2 ∙ sym (tag-whole (a .name .now))
 
 pub tag-of-spec : {M : Type 1} → statement M
 tag-of-spec =

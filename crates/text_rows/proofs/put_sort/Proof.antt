@@ -22,7 +22,16 @@ add-t13 : tie.Need-add-t13
 add-t13 c = search needs
 
 returns : tie.Need-returns
-returns c = let a = c .before .before .before .before .before .before .before .before .args in (sort-stored (a .counts) (a .names .now) _ (omega arith) (c .before .before .before .before .before .before .before .before .pre .0) (omega arith) (pieces 32 (a .line .now)) (c .before .before .before .before .before .before .before .before .pre .1 .1) (c .before .before .before .before .before .sort-column .result) (c .before .before .before .sort-column2 .result) (c .before .before .before .before .before .sort-column .ensures) (c .before .before .before .sort-column2 .ensures) (c .before .field .ensures) _ (c .put-name .ensures), search needs)
+returns c =
+    let a = c .before .before .before .before .before .before .before .before .args in
+    let the-pre = c .before .before .before .before .before .before .before .before .pre in
+    let the-sort-column = c .before .before .before .before .before .sort-column in
+    let the-sort-column2 = c .before .before .before .sort-column2 in (
+      sort-stored (a .counts) (a .names .now) _ (omega arith) (the-pre .0) (omega arith) (pieces 32 (a .line .now))
+          (the-pre .1 .1) (the-sort-column .result) (the-sort-column2 .result) (the-sort-column .ensures)
+          (the-sort-column2 .ensures) (c .before .field .ensures) _ (c .put-name .ensures),
+      search needs,
+    )
 
 pub put-sort-spec : {M : Type 1} → statement M
 put-sort-spec =

@@ -13,7 +13,9 @@ term-ref-requires : tie.Need-term-ref-requires
 term-ref-requires c κs = search needs
 
 returns : tie.Need-returns
-returns c = let a = c .before .before .before .args in c .term-ref .ensures ∙ ap (refOf (namesFrom (a .names .now) 32 (a .count))) (c .before .field .ensures)
+returns c =
+    let a = c .before .before .before .args in
+    c .term-ref .ensures ∙ ap (refOf (namesFrom (a .names .now) 32 (a .count))) (c .before .field .ensures)
 
 pub term-column-spec : {M : Type 1} → statement M
 term-column-spec = tie.close (tie.spec field-requires term-ref-requires returns)

@@ -16,8 +16,8 @@ returns c =
     let a = c .before .before .before .before .args in
     let k = keptOf (a .counts) (a .names .now) in
     let fs = pieces 32 (a .line .now) in (
-      c .refuse .ensures .0 (a .names .now)
-          ∙ below-full k (a .counts .inputs) 256 (inputAdded k fs) (c .before .if1 .taken),
+      c .refuse .ensures .0 (a .names .now) ∙ below-full k (a .counts .inputs) 256 (inputAdded k fs)
+          (c .before .if1 .taken),
       c .refuse .ensures .1,
     )
 
@@ -33,10 +33,12 @@ add-t7 c = search needs
 returns-2 : tie.Need-returns-2
 returns-2 c =
     let a = c .before .before .before .before .before .before .args in
+    let the-term-column = c .before .before .term-column in
+    let the-if1 = c .before .before .before .if1 in
     let k = keptOf (a .counts) (a .names .now) in
     let fs = pieces 32 (a .line .now) in (
-      input-added k fs _ _ (c .before .before .term-column .ensures) (c .before .value-column .ensures)
-          ∙ below-room k (a .counts .inputs) 256 (inputAdded k fs) (c .before .before .before .if1 .left),
+      input-added k fs _ _ (the-term-column .ensures) (c .before .value-column .ensures) ∙ below-room k
+          (a .counts .inputs) 256 (inputAdded k fs) (the-if1 .left),
       search needs,
     )
 

@@ -16,8 +16,8 @@ returns c =
     let a = c .before .before .before .before .args in
     let k = keptOf (a .counts) (a .names .now) in
     let fs = pieces 32 (a .line .now) in (
-      c .refuse .ensures .0 (a .names .now)
-          ∙ below-full k (a .counts .steps) 1024 (stepAdded k fs) (c .before .if1 .taken),
+      c .refuse .ensures .0 (a .names .now) ∙ below-full k (a .counts .steps) 1024 (stepAdded k fs)
+          (c .before .if1 .taken),
       c .refuse .ensures .1,
     )
 
@@ -30,10 +30,11 @@ add-t6 c = search needs
 returns-2 : tie.Need-returns-2
 returns-2 c =
     let a = c .before .before .before .before .before .args in
+    let the-if1 = c .before .before .if1 in
     let k = keptOf (a .counts) (a .names .now) in
     let fs = pieces 32 (a .line .now) in (
-      step-added k fs _ (c .before .step-cells .ensures)
-          ∙ below-room k (a .counts .steps) 1024 (stepAdded k fs) (c .before .before .if1 .left),
+      step-added k fs _ (c .before .step-cells .ensures) ∙ below-room k (a .counts .steps) 1024 (stepAdded k fs)
+          (the-if1 .left),
       search needs,
     )
 

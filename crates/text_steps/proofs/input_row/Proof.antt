@@ -25,20 +25,22 @@ good-input-requires c κs = search needs
 returns : tie.Need-returns
 returns c =
     let a = c .before .before .before .before .before .before .args in
+    let the-check-line = c .before .before .before .before .check-line in
+    let the-place = c .before .before .place in
     let k = keptOf (a .counts) (a .names .now) in
     let fs = pieces 32 (a .line .now) in (
-      c .refuse .ensures .0 (a .names .now)
-          ∙ input-faulty k fs _ (sym (c .before .before .before .before .check-line .ensures) ∙ c .before .before .place .given .1),
+      c .refuse .ensures .0 (a .names .now) ∙ input-faulty k fs _
+          (sym (the-check-line .ensures) ∙ the-place .given .1),
       c .refuse .ensures .1,
     )
 
 returns-2 : tie.Need-returns-2
 returns-2 c =
     let a = c .before .before .before .before .before .args in
+    let the-check-line = c .before .before .before .check-line in
     let k = keptOf (a .counts) (a .names .now) in
     let fs = pieces 32 (a .line .now) in (
-      c .good-input .ensures .0
-          ∙ input-good k fs (sym (c .before .before .before .check-line .ensures) ∙ c .before .enum-told .given .1),
+      c .good-input .ensures .0 ∙ input-good k fs (sym (the-check-line .ensures) ∙ c .before .enum-told .given .1),
       c .good-input .ensures .1,
     )
 

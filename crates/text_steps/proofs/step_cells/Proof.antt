@@ -44,20 +44,21 @@ term-column-requires-6 c κs = search needs
 returns : tie.Need-returns
 returns c =
     let a = c .before .before .before .before .before .before .before .before .before .before .before .before .args in
+    let the-step-number = c .before .before .before .before .before .before .before .before .before .step-number in
+    let the-field = c .before .before .before .before .before .before .before .before .before .before .field in
+    let the-rule-number = c .before .before .before .before .before .before .before .rule-number in
+    let the-field2 = c .before .before .before .before .before .before .before .before .field2 in
+    let the-term-column = c .before .before .before .before .before .before .term-column in
+    let the-value-column = c .before .before .before .before .before .value-column in
+    let the-term-column2 = c .before .before .before .before .term-column2 in
+    let the-term-column3 = c .before .before .before .term-column3 in
+    let the-term-column4 = c .before .before .term-column4 in
     let k = keptOf (a .counts) (a .names .now) in
     let fs = pieces 32 (a .line .now) in
-    nine-cells k fs _ _ _ _ _ _ _ _ _
-    (c .before .before .before .before .before .before .before .before .before .step-number .ensures
-    ∙ ap (refOf stepWords) (c .before .before .before .before .before .before .before .before .before .before .field .ensures))
-    (c .before .before .before .before .before .before .before .rule-number .ensures
-    ∙ ap (refOf ruleWords) (c .before .before .before .before .before .before .before .before .field2 .ensures))
-    (c .before .before .before .before .before .before .term-column .ensures)
-    (c .before .before .before .before .before .value-column .ensures)
-    (c .before .before .before .before .term-column2 .ensures)
-    (c .before .before .before .term-column3 .ensures)
-    (c .before .before .term-column4 .ensures)
-    (c .before .term-column5 .ensures)
-    (c .term-column6 .ensures)
+    nine-cells k fs _ _ _ _ _ _ _ _ _ (the-step-number .ensures ∙ ap (refOf stepWords) (the-field .ensures))
+    (the-rule-number .ensures ∙ ap (refOf ruleWords) (the-field2 .ensures)) (the-term-column .ensures)
+    (the-value-column .ensures) (the-term-column2 .ensures) (the-term-column3 .ensures)
+    (the-term-column4 .ensures) (c .before .term-column5 .ensures) (c .term-column6 .ensures)
 
 pub step-cells-spec : {M : Type 1} → statement M
 step-cells-spec =

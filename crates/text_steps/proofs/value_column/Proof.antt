@@ -18,10 +18,16 @@ enum-told : tie.Need-enum-told
 enum-told c = search needs
 
 returns : tie.Need-returns
-returns c = value-read _ _ _ _ (c .before .before .before .before .field .ensures) (c .before .before .before .read-value .ensures) (c .before .v .given .1)
+returns c =
+    let the-field = c .before .before .before .before .field in
+    let the-read-value = c .before .before .before .read-value in
+    value-read _ _ _ _ (the-field .ensures) (the-read-value .ensures) (c .before .v .given .1)
 
 returns-2 : tie.Need-returns-2
-returns-2 c = value-read _ _ _ Malformed (c .before .before .before .field .ensures) (c .before .before .read-value .ensures) (c .enum-told .given .1)
+returns-2 c =
+    let the-field = c .before .before .before .field in
+    let the-read-value = c .before .before .read-value in
+    value-read _ _ _ Malformed (the-field .ensures) (the-read-value .ensures) (c .enum-told .given .1)
 
 pub value-column-spec : {M : Type 1} → statement M
 value-column-spec =

@@ -18,10 +18,22 @@ enum-known-k : tie.Need-enum-known-k
 enum-known-k c = search needs
 
 add-t9 : tie.Need-add-t9
-add-t9 c = let a = c .before .before .before .before .before .before .before .args in let h : c .before .k .given .0 .0 < 0 + length (namesFrom (a .names .now) 288 (a .heads)) = index-below 0 (namesFrom (a .names .now) 288 (a .heads)) (a .f .now) _ (sym (c .before .before .before .find-name .ensures) ∙ c .before .k .given .1) in omega (arith, length-names (a .names .now) 288 (a .heads))
+add-t9 c =
+    let a = c .before .before .before .before .before .before .before .args in
+    let the-k = c .before .k in
+    let the-find-name = c .before .before .before .find-name in
+    let h : the-k .given .0 .0 < 0 + length (namesFrom (a .names .now) 288 (a .heads)) = index-below 0
+    (namesFrom (a .names .now) 288 (a .heads)) (a .f .now) _ (sym (the-find-name .ensures) ∙ the-k .given .1) in
+    omega (arith, length-names (a .names .now) 288 (a .heads))
 
 cast-t10 : tie.Need-cast-t10
-cast-t10 c = let a = c .before .before .before .before .before .before .before .args in let h : c .before .k .given .0 .0 < 0 + length (namesFrom (a .names .now) 288 (a .heads)) = index-below 0 (namesFrom (a .names .now) 288 (a .heads)) (a .f .now) _ (sym (c .before .before .before .find-name .ensures) ∙ c .before .k .given .1) in omega (arith, length-names (a .names .now) 288 (a .heads))
+cast-t10 c =
+    let a = c .before .before .before .before .before .before .before .args in
+    let the-k = c .before .k in
+    let the-find-name = c .before .before .before .find-name in
+    let h : the-k .given .0 .0 < 0 + length (namesFrom (a .names .now) 288 (a .heads)) = index-below 0
+    (namesFrom (a .names .now) 288 (a .heads)) (a .f .now) _ (sym (the-find-name .ensures) ∙ the-k .given .1) in
+    omega (arith, length-names (a .names .now) 288 (a .heads))
 
 enum-told : tie.Need-enum-told
 enum-told c = search needs
@@ -42,10 +54,19 @@ add-t16 : tie.Need-add-t16
 add-t16 c = search needs
 
 returns : tie.Need-returns
-returns c = let a = c .before .before .before .before .before .before .before .args in free-at (a .names .now) (a .f .now) (a .heads) _ (sym (c .before .before .before .find-name .ensures) ∙ c .before .k .given .1)
+returns c =
+    let a = c .before .before .before .before .before .before .before .args in
+    let the-find-name = c .before .before .before .find-name in
+    free-at (a .names .now) (a .f .now) (a .heads) _ (sym (the-find-name .ensures) ∙ c .before .k .given .1)
 
 returns-2 : tie.Need-returns-2
-returns-2 c = let a = c .before .before .before .before .before .before .before .before .args in free-new (a .names .now) (a .f .now) (a .heads) (c .before .before .before .before .before .before .before .before .pre .0) (omega arith) (c .before .before .before .before .before .before .before .before .pre .1 .0) (c .before .before .before .before .before .before .before .before .pre .1 .1) _ (c .put-name .ensures) (sym (c .before .before .before .before .find-name .ensures) ∙ c .before .before .enum-told .given .1)
+returns-2 c =
+    let a = c .before .before .before .before .before .before .before .before .args in
+    let the-pre = c .before .before .before .before .before .before .before .before .pre in
+    let the-find-name = c .before .before .before .before .find-name in
+    let the-enum-told = c .before .before .enum-told in
+    free-new (a .names .now) (a .f .now) (a .heads) (the-pre .0) (omega arith) (the-pre .1 .0) (the-pre .1 .1) _
+    (c .put-name .ensures) (sym (the-find-name .ensures) ∙ the-enum-told .given .1)
 
 pub free-head-spec : {M : Type 1} → statement M
 free-head-spec =

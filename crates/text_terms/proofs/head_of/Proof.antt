@@ -16,7 +16,9 @@ same-requires : tie.Need-same-requires
 same-requires c κs = search needs
 
 returns : tie.Need-returns
-returns c = let a = c .before .before .before .before .args in head-blank (a .names .now) (a .f .now) (a .heads) (sym (c .before .same .ensures) ∙ c .if1 .taken)
+returns c =
+    let a = c .before .before .before .before .args in
+    head-blank (a .names .now) (a .f .now) (a .heads) (sym (c .before .same .ensures) ∙ c .if1 .taken)
 
 find-head-requires : tie.Need-find-head-requires
 find-head-requires c κs = search needs
@@ -25,7 +27,13 @@ enum-known-k : tie.Need-enum-known-k
 enum-known-k c = search needs
 
 cast-t11 : tie.Need-cast-t11
-cast-t11 c = let a = c .before .before .before .before .before .before .before .before .args in let h : c .before .k .given .0 .0 < 0 + 6 = index-below 0 headWords (a .f .now) _ (sym (c .before .before .before .find-head .ensures) ∙ c .before .k .given .1) in omega arith
+cast-t11 c =
+    let a = c .before .before .before .before .before .before .before .before .args in
+    let the-k = c .before .k in
+    let the-find-head = c .before .before .before .find-head in
+    let h : the-k .given .0 .0 < 0 + 6 = index-below 0 headWords (a .f .now) _
+    (sym (the-find-head .ensures) ∙ the-k .given .1) in
+    omega arith
 
 enum-told : tie.Need-enum-told
 enum-told c = search needs
@@ -34,10 +42,23 @@ free-head-requires : tie.Need-free-head-requires
 free-head-requires c κs = search needs
 
 returns-2 : tie.Need-returns-2
-returns-2 c = let a = c .before .before .before .before .before .before .before .before .args in head-word (a .names .now) (a .f .now) (a .heads) (sym (c .before .before .before .before .before .same .ensures) ∙ c .before .before .before .before .if1 .left) _ (sym (c .before .before .before .find-head .ensures) ∙ c .before .k .given .1)
+returns-2 c =
+    let a = c .before .before .before .before .before .before .before .before .args in
+    let the-same = c .before .before .before .before .before .same in
+    let the-if1 = c .before .before .before .before .if1 in
+    let the-find-head = c .before .before .before .find-head in
+    head-word (a .names .now) (a .f .now) (a .heads) (sym (the-same .ensures) ∙ the-if1 .left) _
+    (sym (the-find-head .ensures) ∙ c .before .k .given .1)
 
 returns-3 : tie.Need-returns-3
-returns-3 c = let a = c .before .before .before .before .before .before .before .before .before .args in head-free (a .names .now) (a .f .now) (a .heads) (sym (c .before .before .before .before .before .before .same .ensures) ∙ c .before .before .before .before .before .if1 .left) _ _ (sym (c .before .before .before .before .find-head .ensures) ∙ c .before .before .enum-told .given .1) (c .free-head .ensures)
+returns-3 c =
+    let a = c .before .before .before .before .before .before .before .before .before .args in
+    let the-same = c .before .before .before .before .before .before .same in
+    let the-if1 = c .before .before .before .before .before .if1 in
+    let the-find-head = c .before .before .before .before .find-head in
+    let the-enum-told = c .before .before .enum-told in
+    head-free (a .names .now) (a .f .now) (a .heads) (sym (the-same .ensures) ∙ the-if1 .left) _ _
+    (sym (the-find-head .ensures) ∙ the-enum-told .given .1) (c .free-head .ensures)
 
 pub head-of-spec : {M : Type 1} → statement M
 head-of-spec =

@@ -26,7 +26,15 @@ field-requires : tie.Need-field-requires
 field-requires c κs = search needs
 
 head-of-requires : tie.Need-head-of-requires
-head-of-requires c κs = let a = c .before .before .before .before .before .before .before .before .before .before .before .before .before .args in (omega (arith, c .before .before .before .before .before .before .before .before .before .before .before .before .before .pre .0, c .before .before .before .before .before .before .before .before .before .before .before .before .before .pre .1 .0), (rw (c .field .ensures) (field-named 7 (pieces 32 (a .line .now)) 1 (c .before .before .before .before .before .before .before .before .before .before .before .before .before .pre .1 .1) (omega arith)), rw (c .field .ensures) (field-short 7 (pieces 32 (a .line .now)) 1 (c .before .before .before .before .before .before .before .before .before .before .before .before .before .pre .1 .1) (omega arith))))
+head-of-requires c κs =
+    let a = c .before .before .before .before .before .before .before .before .before .before .before .before .before .args in
+    let the-pre = c .before .before .before .before .before .before .before .before .before .before .before .before .before .pre in (
+      omega (arith, the-pre .0, the-pre .1 .0),
+      (
+        rw (c .field .ensures) (field-named 7 (pieces 32 (a .line .now)) 1 (the-pre .1 .1) (omega arith)),
+        rw (c .field .ensures) (field-short 7 (pieces 32 (a .line .now)) 1 (the-pre .1 .1) (omega arith)),
+      ),
+    )
 
 add-put-name : tie.Need-add-put-name
 add-put-name c = search needs
@@ -35,14 +43,35 @@ field-requires-2 : tie.Need-field-requires-2
 field-requires-2 c κs = search needs
 
 put-name-requires : tie.Need-put-name-requires
-put-name-requires c κs = omega (arith, c .before .before .before .before .before .before .before .before .before .before .before .before .before .before .before .before .pre .1 .0)
+put-name-requires c κs =
+    let the-pre = c .before .before .before .before .before .before .before .before .before .before .before .before .before .before .before .before .pre in
+    omega (arith, the-pre .1 .0)
 
 add-t21 : tie.Need-add-t21
-add-t21 c = omega (arith, c .before .before .before .before .before .before .before .before .before .before .before .before .before .before .before .before .before .pre .1 .0)
+add-t21 c =
+    let the-pre = c .before .before .before .before .before .before .before .before .before .before .before .before .before .before .before .before .before .pre in
+    omega (arith, the-pre .1 .0)
 
 returns : tie.Need-returns
-returns c = let a = c .before .before .before .before .before .before .before .before .before .before .before .before .before .before .before .before .before .args in let h = c .before .before .before .head-of .ensures in
-    (term-stored (a .counts) (a .names .now) _ (c .before .before .before .before .before .before .before .before .before .before .before .before .before .before .before .before .before .pre .0) (c .before .before .before .before .before .before .before .before .before .before .before .before .before .before .before .before .before .pre .1 .0) (pieces 32 (a .line .now)) (c .before .before .before .before .before .before .before .before .before .before .before .before .before .before .before .before .before .pre .1 .1) (c .before .field2 .ensures) (c .before .before .before .head-of .result) _ (omega arith) (rw (c .before .before .before .before .field .ensures) at h) _ (c .put-name .ensures) (c .before .before .before .before .before .before .before .before .before .before .before .before .before .before .sort-column .result) (c .before .before .before .before .before .before .before .before .before .before .before .before .term-column .result) (c .before .before .before .before .before .before .before .before .before .before .term-column2 .result) (c .before .before .before .before .before .before .before .before .term-column3 .result) (c .before .before .before .before .before .before .term-column4 .result) (c .before .before .before .before .before .before .before .before .before .before .before .before .before .before .sort-column .ensures) (c .before .before .before .before .before .before .before .before .before .before .before .before .term-column .ensures) (c .before .before .before .before .before .before .before .before .before .before .term-column2 .ensures) (c .before .before .before .before .before .before .before .before .term-column3 .ensures) (c .before .before .before .before .before .before .term-column4 .ensures), omega (arith, c .before .before .before .before .before .before .before .before .before .before .before .before .before .before .before .before .before .pre .1 .0, c .before .before .before .before .before .before .before .before .before .before .before .before .before .before .before .before .before .pre .0, h .at-most))
+returns c =
+    let a = c .before .before .before .before .before .before .before .before .before .before .before .before .before .before .before .before .before .args in
+    let the-head-of = c .before .before .before .head-of in
+    let the-pre = c .before .before .before .before .before .before .before .before .before .before .before .before .before .before .before .before .before .pre in
+    let the-field = c .before .before .before .before .field in
+    let the-sort-column = c .before .before .before .before .before .before .before .before .before .before .before .before .before .before .sort-column in
+    let the-term-column = c .before .before .before .before .before .before .before .before .before .before .before .before .term-column in
+    let the-term-column2 = c .before .before .before .before .before .before .before .before .before .before .term-column2 in
+    let the-term-column3 = c .before .before .before .before .before .before .before .before .term-column3 in
+    let the-term-column4 = c .before .before .before .before .before .before .term-column4 in
+    let h = the-head-of .ensures in (
+      term-stored (a .counts) (a .names .now) _ (the-pre .0) (the-pre .1 .0) (pieces 32 (a .line .now))
+          (the-pre .1 .1) (c .before .field2 .ensures) (the-head-of .result) _ (omega arith)
+          (rw (the-field .ensures) at h) _ (c .put-name .ensures) (the-sort-column .result) (the-term-column .result)
+          (the-term-column2 .result) (the-term-column3 .result) (the-term-column4 .result) (the-sort-column .ensures)
+          (the-term-column .ensures) (the-term-column2 .ensures) (the-term-column3 .ensures)
+          (the-term-column4 .ensures),
+      omega (arith, the-pre .1 .0, the-pre .0, h .at-most),
+    )
 
 pub put-term-spec : {M : Type 1} → statement M
 put-term-spec =

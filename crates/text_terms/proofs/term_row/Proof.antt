@@ -20,10 +20,20 @@ enum-told : tie.Need-enum-told
 enum-told c = search needs
 
 add-term-requires : tie.Need-add-term-requires
-add-term-requires c κs = (c .before .before .before .before .before .pre, sym (c .before .before .before .check-line .ensures) ∙ c .before .enum-told .given .1)
+add-term-requires c κs =
+    let the-pre = c .before .before .before .before .before .pre in
+    let the-check-line = c .before .before .before .check-line in
+    (the-pre, sym (the-check-line .ensures) ∙ c .before .enum-told .given .1)
 
 returns : tie.Need-returns
-returns c = let a = c .before .before .before .before .before .before .args in (c .refuse .ensures .0 (a .names .now) ∙ term-faulty (keptOf (a .counts) (a .names .now)) (pieces 32 (a .line .now)) _ (sym (c .before .before .before .before .check-line .ensures) ∙ c .before .before .place .given .1), c .refuse .ensures .1)
+returns c =
+    let a = c .before .before .before .before .before .before .args in
+    let the-check-line = c .before .before .before .before .check-line in
+    let the-place = c .before .before .place in (
+      c .refuse .ensures .0 (a .names .now) ∙ term-faulty (keptOf (a .counts) (a .names .now))
+          (pieces 32 (a .line .now)) _ (sym (the-check-line .ensures) ∙ the-place .given .1),
+      c .refuse .ensures .1,
+    )
 
 returns-2 : tie.Need-returns-2
 returns-2 c = search needs
