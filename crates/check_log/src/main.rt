@@ -1,5 +1,6 @@
-// Reads the four sheets as text from standard input to its end, and prints what they come to.
+// Reads the four sheets as text from standard input to its end, runs the log, and prints the result.
 ghost use Rattle.text_rows.specs.View.{Bounded};
+use calculus::Outcome;
 use libc::STDERR_FILENO;
 use libc::STDOUT_FILENO;
 use reader::Progress;
@@ -105,17 +106,34 @@ fn print_refusal(r: ReadOutcome) {
     }
 }
 
-// A text that was read: so far its row counts.
-fn print_counts(r: ReadOutcome) {
-    io::write_all(STDOUT_FILENO, b"sorts terms inputs steps\n");
-    io::print_decimal(STDOUT_FILENO, r.sorts as u64);
-    io::write_all(STDOUT_FILENO, b" ");
-    io::print_decimal(STDOUT_FILENO, r.terms as u64);
-    io::write_all(STDOUT_FILENO, b" ");
-    io::print_decimal(STDOUT_FILENO, r.inputs as u64);
-    io::write_all(STDOUT_FILENO, b" ");
-    io::print_decimal(STDOUT_FILENO, r.steps as u64);
-    io::write_all(STDOUT_FILENO, b"\n");
+// The first n numbers of a sheet, or all of it where it has no more.
+fn first(sheet: &[u16], n: usize) -> &[u16] {
+    if n < sheet.len() { &sheet[..n] } else { sheet }
+}
+
+// The verdict's word and the result's other three numbers.
+fn print_outcome(o: Outcome) {
+    let v = o.verdict;
+    match v {
+        0 => print_result(b"open", o.steps, o.number, o.entries),
+        1 => print_result(b"refuted", o.steps, o.number, o.entries),
+        _ => print_result(b"refused", o.steps, o.number, o.entries),
+    }
+}
+
+// A text that was read: its log is run.
+fn run_log(r: ReadOutcome, sorts: &[u16], terms: &[u16], inputs: &[u16], steps: &[u16]) {
+    let mut work = [0u64; 2060];
+    let mut trail = [0u16; 1024];
+    let o = checker::cdsat_run(
+        first(sorts, r.sorts as usize * 2),
+        first(terms, r.terms as usize * 6),
+        first(inputs, r.inputs as usize * 2),
+        first(steps, r.steps as usize * 9),
+        &mut work,
+        &mut trail,
+    );
+    print_outcome(o);
 }
 
 fn main() {
@@ -150,7 +168,7 @@ fn main() {
         return;
     }
     if r.code == 0 {
-        print_counts(r);
+        run_log(r, &sorts, &terms, &inputs, &steps);
     } else {
         print_refusal(r);
     }
