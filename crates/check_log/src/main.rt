@@ -94,15 +94,22 @@ fn print_result(word: &[u8], steps: u16, code: u16, trail: u16) {
     io::write_all(STDOUT_FILENO, b"\n");
 }
 
-// A text that was refused: the result, and for a person the line and the place of the first bad line.
+// For a person: the line of the fault, and its field where the line as a whole is not at fault.
+fn print_place(line: u64, field: u64) {
+    io::write_all(STDERR_FILENO, b"line ");
+    io::print_decimal(STDERR_FILENO, line);
+    if field > 0 {
+        io::write_all(STDERR_FILENO, b", field ");
+        io::print_decimal(STDERR_FILENO, field);
+    }
+    io::write_all(STDERR_FILENO, b"\n");
+}
+
+// A text that was refused: the result, and the place of the first bad line.
 fn print_refusal(r: ReadOutcome) {
     print_result(b"refused", 0, r.code, 0);
     if r.line > 0 {
-        io::write_all(STDERR_FILENO, b"line ");
-        io::print_decimal(STDERR_FILENO, r.line);
-        io::write_all(STDERR_FILENO, b" field ");
-        io::print_decimal(STDERR_FILENO, r.place);
-        io::write_all(STDERR_FILENO, b"\n");
+        print_place(r.line, r.place);
     }
 }
 

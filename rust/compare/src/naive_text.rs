@@ -97,11 +97,12 @@ impl Parsed {
         let fields: Vec<&[u8]> = line.split(|&byte| byte == b' ').collect();
         for field in &fields {
             let good = field.iter().all(|byte| (33..=126).contains(byte));
-            if !good || field.is_empty() || field.len() > 64 {
+            if !good || field.is_empty() {
                 return Err((31, 0));
             }
         }
-        if fields.len() != [3, 7, 2, 9][sheet] {
+        // Eight names of 64 bytes, a value of five, and eight spaces are the most.
+        if line.len() > 525 || fields.len() != [3, 7, 2, 9][sheet] {
             return Err((31, 0));
         }
         let fields: Vec<&str> = fields
@@ -110,8 +111,12 @@ impl Parsed {
             .collect();
         let value_at = [usize::MAX, usize::MAX, 1, 3][sheet];
         let mut value = 0;
-        if value_at < fields.len() {
-            value = value_of(fields[value_at]).ok_or((31, value_at as u64 + 1))?;
+        for (at, field) in fields.iter().enumerate() {
+            if at == value_at {
+                value = value_of(field).ok_or((31, at as u64 + 1))?;
+            } else if field.len() > 64 {
+                return Err((31, at as u64 + 1));
+            }
         }
         if self.rows[sheet].len() == [32, 256, 256, 1_024][sheet] {
             return Err((30, 0));

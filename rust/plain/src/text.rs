@@ -11,6 +11,12 @@ pub const MAX_TEXT_STEPS: usize = 1_024;
 const MAX_NAME: usize = 64;
 const MAX_FIELDS: usize = 9;
 
+/// Eight names, a value of five bytes and eight spaces.
+const MAX_LINE: usize = 8 * MAX_NAME + 5 + 8;
+
+/// The column of each sheet that holds a value; none in the first two.
+const VALUE_COLUMN: [usize; 4] = [usize::MAX, usize::MAX, 1, 3];
+
 /// What a name or word stands for that nothing gave.
 const UNKNOWN: u16 = 65_534;
 
@@ -46,11 +52,11 @@ pub struct Read {
 
 /// What is wrong with a line.
 enum Fault {
-    /// Bytes, spacing, length of a field, number of fields, a header that is not
+    /// Bytes, spacing, length of the line, number of fields, a header that is not
     /// the expected one, an empty line, an end of the file inside the line.
     Shape,
-    /// A field, counted from 1, that is no value.
-    Value(u64),
+    /// A field, counted from 1, that is no value, or a name that is too long.
+    Field(u64),
     /// A row too many.
     Ceiling,
     /// A name repeated or reserved.
@@ -62,7 +68,7 @@ impl Fault {
     fn report(&self) -> (u16, u64) {
         match *self {
             Fault::Shape => (31, 0),
-            Fault::Value(field) => (31, field),
+            Fault::Field(field) => (31, field),
             Fault::Ceiling => (30, 0),
             Fault::Name => (2, 1),
         }
@@ -178,7 +184,24 @@ impl<'a> Reader<'a> {
         if self.count != FIELDS[at] {
             return Err(Fault::Shape);
         }
+        self.formed(at)?;
         Ok(true)
+    }
+
+    /// Whether every field can stand in its column: a value, or a name that is
+    /// not too long. The first that cannot is at fault.
+    fn formed(&self, at: usize) -> Result<(), Fault> {
+        for (column, field) in self.fields[..self.count].iter().enumerate() {
+            let good = if column == VALUE_COLUMN[at] {
+                value(field).is_some()
+            } else {
+                field.bytes.len() <= MAX_NAME
+            };
+            if !good {
+                return Err(Fault::Field(column as u64 + 1));
+            }
+        }
+        Ok(())
     }
 
     /// Splits the line that begins here into fields, to its newline.
@@ -200,7 +223,7 @@ impl<'a> Reader<'a> {
                 end += 1;
             };
             let bytes = &text[begin..end];
-            if bytes.is_empty() || bytes.len() > MAX_NAME || count == MAX_FIELDS {
+            if bytes.is_empty() || count == MAX_FIELDS {
                 return Err(Fault::Shape);
             }
             self.fields[count] = Field { bytes, hash };
@@ -211,6 +234,9 @@ impl<'a> Reader<'a> {
                 b'\n' => break,
                 _ => return Err(Fault::Shape),
             }
+        }
+        if begin - 1 - self.next > MAX_LINE {
+            return Err(Fault::Shape);
         }
         self.count = count;
         self.next = begin;
@@ -241,12 +267,12 @@ impl<'a> Reader<'a> {
                 self.terms.add(fields[0]);
             }
             2 => {
-                row[1] = value(&fields[1]).ok_or(Fault::Value(2))?;
+                row[1] = value(&fields[1]).ok_or(Fault::Field(2))?;
                 self.room(at)?;
                 row[0] = self.term(&fields[0]);
             }
             _ => {
-                row[3] = value(&fields[3]).ok_or(Fault::Value(4))?;
+                row[3] = value(&fields[3]).ok_or(Fault::Field(4))?;
                 self.room(at)?;
                 row[0] = step_word(&fields[0]);
                 row[1] = rule_word(&fields[1]);
