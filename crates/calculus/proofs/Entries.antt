@@ -2,13 +2,12 @@
 use mathlib.Core.Path.{_≡_, refl, sym, ap, subst, _∙_}
 use mathlib.Core.Logic.{_≢_, _⊎_, inl, inr}
 use mathlib.Core.Bool.{Bool, true, false, not, _&&_, _||_, cond}
-use mathlib.Core.List.{List, [], _∷_, List·Memᴰ, List·Memᴰ·head, List·Memᴰ·tail, List·Memᴰ·cases-cons, List·Memᴰ·not-nil}
-use Prim.Native.Nat.{ℕ, zero, suc, _+_, _≤_, _<_, max}
+use mathlib.Core.List.{[], _∷_, List·Memᴰ, List·Memᴰ·head, List·Memᴰ·tail, List·Memᴰ·cases-cons, List·Memᴰ·not-nil}
+use Prim.Native.Nat.{ℕ, _≤_, max}
 use native.Mathlib.Omega.{arith}
-use lib.ListN.{length}
-use lib.Dec.{T, eqb, leb, ltb, eqb→eq, leb→le, le→leb, eqb-refl, T-not}
-use Rattle.calculus.specs.Trail.{Set, Trail, Entry, empty, on, absent, entry, levelAt, holds, levelOf, topLevel, keptTo}
-use Rattle.calculus.proofs.Facts.{and-l, and-r, and-both, or-cases, or-l, or-r, T-true, true-T, false-T, is-or-not, true-or-false, one-true, none-true, cond-case}
+use lib.Dec.{T, eqb, leb, eqb→eq, leb→le, le→leb, eqb-refl, T-not}
+use Rattle.calculus.specs.Trail.{Set, Trail, Entry, empty, on, absent, entry, levelAt, holds, levelOf, keptTo}
+use Rattle.calculus.proofs.Facts.{and-l, and-r, or-cases, or-l, or-r, T-true, true-T, true-or-false, none-true, cond-case}
 
 -- ---- look-up
 

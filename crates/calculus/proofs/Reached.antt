@@ -1,26 +1,26 @@
 -- Every trail that a list of steps can reach: terms stand once, justifications stand earlier, and levels are those of Definition 5.
 use mathlib.Core.Path.{_≡_, refl, sym, ap, subst, _∙_}
-use mathlib.Core.Logic.{_≢_, _⊎_, inl, inr, ⊎-elim}
-use mathlib.Core.Bool.{Bool, true, false, not, _&&_, _||_, cond}
+use mathlib.Core.Logic.{_⊎_, inl, inr, ⊎-elim}
+use mathlib.Core.Bool.{Bool, true, false, not, _||_, cond}
 use mathlib.Core.List.{List, [], _∷_, List·Memᴰ, List·Memᴰ·head, List·Memᴰ·tail}
-use Prim.Native.Nat.{ℕ, zero, suc, _+_, _-_, _*_, _≤_, _<_, max}
+use Prim.Native.Nat.{ℕ, zero, suc, _+_, _-_, _≤_, _<_, max}
 use native.Mathlib.Omega.{arith}
 use lib.ListN.{length}
-use lib.Dec.{T, eqb, leb, ltb, eqb→eq, leb→le, ltb→lt, le→leb, eqb-refl, T-not}
+use lib.Dec.{T, eqb, leb, ltb, eqb→eq, leb→le, ltb→lt}
 use Rattle.calculus.specs.declared.Step.{Step}
 use Rattle.calculus.specs.declared.Kind.{Kind}
 use Rattle.calculus.specs.declared.Kind.the-variants.{Decide, Deduce, Clash, Resolve, Clear, Jump, Flip, Unlisted}
-use Rattle.calculus.specs.Lists.{all, has, opposite}
+use Rattle.calculus.specs.Lists.{has}
 use Rattle.calculus.specs.Sheets.{Call, termRows, inputRows, stepRows, lengthNumber}
 use Rattle.calculus.specs.Sorts.{sortsNumber}
 use Rattle.calculus.specs.Terms.{prop, termsNumber}
-use Rattle.calculus.specs.Trail.{Set, Trail, Entry, empty, remove, union, intersection, on, entry, valueAt, levelAt, decidedAt, whyAt, assigned, holds, firstOrder, levelOf, topLevel, keptTo, decision, justified}
+use Rattle.calculus.specs.Trail.{Set, Trail, Entry, remove, intersection, on, entry, levelAt, whyAt, holds, firstOrder, levelOf, topLevel, keptTo, decision, justified}
 use Rattle.calculus.specs.Inputs.{given, inputTerm, inputValue, inputTrail, inputNumber, inputsNumber}
-use Rattle.calculus.specs.Steps.{State, searching, conflict, trailOf, conflictOf, inConflict, Answer, allowed, refuted, refused, answer, stepAt, premises, shaped, ready, known, kindOf, decideNumber, decide, inferenceNumber, deduceNumber, deduce, clashNumber, clashSet, clashed, clash, resolveNumber, resolve, clearNumber, clear, jumped, jumpNumber, jump, flipped, flipNumber, flip, rowNumber, stepBy, step}
-use Rattle.calculus.specs.Run.{Ending, follow, run, sheetsNumber, callNumber, start, turnedAway, endingOf, ending}
+use Rattle.calculus.specs.Steps.{State, searching, conflict, trailOf, conflictOf, Answer, allowed, refuted, refused, answer, stepAt, premises, known, kindOf, decideNumber, decide, inferenceNumber, deduceNumber, deduce, clashNumber, clashSet, clashed, clash, resolve, clear, jumpNumber, jump, flipNumber, flip, rowNumber, stepBy, step}
+use Rattle.calculus.specs.Run.{follow, run, sheetsNumber, callNumber, start, endingOf, ending}
 use Rattle.calculus.specs.Reached.{Within, Distinct, Below, Grounded, relevelled, Reached, ReachedState}
-use Rattle.calculus.proofs.Facts.{and-l, and-r, or-cases, T-true, T-false, true-T, false-T, is-or-not, true-or-false, both-true, one-true, none-true, cond-case, all-at, has-at, unless-ok, orElse-ok, first-ok, answer-case, facts}
-use Rattle.calculus.proofs.Entries.{on-entered, entered-on, entry-in, entry-here, entry-older, entry-off, level-ge, level-le, level-empty, kept-in, kept-out, kept-entry, kept-off, level-kept, level-at, holds-at}
+use Rattle.calculus.proofs.Facts.{and-l, and-r, T-true, T-false, true-T, is-or-not, true-or-false, both-true, one-true, cond-case, all-at, has-at, unless-ok, orElse-ok, first-ok, answer-case}
+use Rattle.calculus.proofs.Entries.{entered-on, entry-in, entry-older, entry-off, level-ge, level-le, level-empty, kept-entry, kept-off, level-kept, level-at, holds-at}
 
 -- ---- one entry and the trail before it
 

@@ -1,7 +1,7 @@
 -- The thirteen rules: when a rule gives term l the value v from the premises ps, in their order.
 use mathlib.Core.Bool.{Bool, true, false, not, _&&_, _||_}
 use mathlib.Core.List.{List, [], _∷_, map}
-use Prim.Native.Nat.{ℕ, zero, suc, _+_}
+use Prim.Native.Nat.{ℕ, _+_}
 use lib.ListN.{length, getD}
 use lib.Dec.{eqb, leb, ltb}
 use Rattle.calculus.specs.declared.Premise.{Premise}

@@ -1,5 +1,5 @@
 -- The seven steps: the numbers 9 to 23 in their order, and what an allowed step makes of trail and conflict.
-use mathlib.Core.Bool.{Bool, true, false, not, _&&_, _||_, cond}
+use mathlib.Core.Bool.{Bool, true, false, not, _&&_, cond}
 use mathlib.Core.List.{List, [], _∷_}
 use Prim.Native.Nat.{ℕ, zero, suc, _+_, _-_, _*_}
 use lib.ListN.{getD}
@@ -11,7 +11,7 @@ use Rattle.calculus.specs.Lists.{all, has, opposite}
 use Rattle.calculus.specs.Numbers.{unless}
 use Rattle.calculus.specs.Sheets.{blank, termRows}
 use Rattle.calculus.specs.Terms.{prop, filled, leftFilled}
-use Rattle.calculus.specs.Trail.{Set, Trail, Entry, empty, remove, union, intersection, on, valueAt, levelAt, decidedAt, whyAt, assigned, premisesAt, holds, firstOrder, levelOf, keptTo, decision, justified}
+use Rattle.calculus.specs.Trail.{Set, Trail, empty, remove, union, intersection, on, valueAt, levelAt, decidedAt, whyAt, assigned, premisesAt, holds, firstOrder, levelOf, keptTo, decision, justified}
 use Rattle.calculus.specs.Inputs.{valueSuits}
 use Rattle.calculus.specs.Rules.{fits, ruleOf, ruleListed}
 

@@ -1,11 +1,10 @@
 -- The trail: entries in order, the newest first; sets of them; levels; what is kept.
 use mathlib.Core.Bool.{Bool, true, false, not, _&&_, _||_, cond}
 use mathlib.Core.List.{List, [], _∷_, _++_, map}
-use Prim.Native.Nat.{ℕ, zero, suc, _+_, max}
-use lib.ListN.{length}
+use Prim.Native.Nat.{ℕ, _+_, max}
 use lib.Dec.{eqb, leb}
 use Rattle.calculus.specs.declared.Premise.{Premise}
-use Rattle.calculus.specs.Lists.{any, num}
+use Rattle.calculus.specs.Lists.{num}
 use Rattle.calculus.specs.Sheets.{blank}
 use Rattle.calculus.specs.Terms.{prop}
 

@@ -24,7 +24,7 @@ use Rattle.figure.specs.Inferences.{Opposite, oppositeOfTrue, oppositeOf
 use Rattle.figure.specs.Transitions.{_∈_, Boolean, Suits, Assigned, justifiedAt, Level, Inferred, Action, decide, deduce, clash, resolve, clear, jump, flip, Result, next, unsat, Transition, Decide, Deduce, Fail, Conflict, Resolve, Undo, Backjump, UndoDecide}
 use Rattle.figure.specs.Spelling.{Filled, Blank, FromLeft, noColumn, blankColumn, filledColumn, Columns, Spells}
 use Rattle.figure.specs.Faithful.{answerOf, Reachable}
-use Rattle.figure.proofs.Rows.{WellSorted}
+use Rattle.calculus.proofs.WellSorted.{WellSorted}
 use Rattle.figure.proofs.Rules.{Known, Truths, fits-infers}
 use Rattle.figure.proofs.Trails.{level-is, restricted-is, off-is, below-row, entry-of, assigned-is, one-value, premises-rows, premises-is, first-order-is, first-order-of, holds-of}
 use Rattle.figure.proofs.Truths.{value-suits}

@@ -16,7 +16,8 @@ use Rattle.calculus.specs.Terms.{head, sort, args, arg, eqHead, notHead, andHea
 use Rattle.calculus.specs.Rules.{rowOf, valueOf, gives, bare, single, double, leading, notOf, andOf, orOf, evaluates, others, unitHere, unitAt, isHead, isEq, equates, pairs, connected, fits}
 use Rattle.calculus.proofs.Facts.{and-l, and-r, and-both, or-cases, or-l, or-r, facts, all-at, all-of, any-at, any-of, has-at, has-of}
 use Rattle.figure.specs.Inferences.{assign, Opposite, oppositeOfTrue, oppositeOfFalse, Applied, Equation, orByTrue, andByFalse, Evaluates, negation, settled, unsettled, Pointwise, noPosition, position, Infers, same, differ, reflexivity, symmetry, transitivity, negated, part, unit, evaluation, congruence, predicate, read, skip}
-use Rattle.figure.proofs.Rows.{eqb-of, neqb-of, eqList-eq, eqList-refl, args-short, column, WellSorted, function-head, free-head, function-from, row-listed, equation-row, select-row, store-row, not-row, not-props, and-props, or-props}
+use Rattle.calculus.proofs.WellSorted.{eqList-eq, WellSorted, row-listed}
+use Rattle.figure.proofs.Rows.{eqb-of, neqb-of, eqList-refl, args-short, column, function-head, free-head, function-from, equation-row, select-row, store-row, not-row, not-props, and-props, or-props}
 
 -- ---- truth values
 

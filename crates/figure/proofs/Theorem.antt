@@ -21,7 +21,7 @@ use Rattle.calculus.proofs.Facts.{true-T, T-true, unless-ok, orElse-ok, facts}
 use Rattle.figure.specs.Transitions.{Inferred, Action, Result, Transition, Decide, Deduce, Fail, Conflict, Resolve, Undo, Backjump, UndoDecide}
 use Rattle.figure.specs.Spelling.{Filled, FromLeft, noColumn, blankColumn, filledColumn, Columns, Spells, SixteenBits, Writable}
 use Rattle.figure.specs.Faithful.{Reachable, RulesFaithful, Faithful}
-use Rattle.figure.proofs.Rows.{well-sorted}
+use Rattle.calculus.proofs.WellSorted.{well-sorted}
 use Rattle.figure.proofs.Rules.{fits-infers, infers-fits, infers-short, opposite-sum}
 use Rattle.figure.proofs.Trails.{below-row}
 use Rattle.figure.proofs.Truths.{run-reachable, start-reachable}

@@ -1,10 +1,9 @@
 // What is asked of the sheets before a step is run: the lengths (31, 30, 32), the sort rows (1) and the input rows (6, 7, 8).
 ghost use mathlib.Core.Path.{_≡_};
-ghost use Prim.Native.Nat.{ℕ, suc, _+_, _*_, _-_, _≤_};
-ghost use lib.ListN.{length, getD};
-ghost use lib.Dec.{eqb, ltb};
+ghost use Prim.Native.Nat.{_+_, _*_, _-_, _≤_};
+ghost use lib.ListN.{length};
 ghost use Rattle.calculus.specs.Numbers.{checkOf};
-ghost use Rattle.calculus.specs.Sheets.{Call, lengthNumber};
+ghost use Rattle.calculus.specs.Sheets.{lengthNumber};
 ghost use Rattle.calculus.specs.Sorts.{indexSort, valueSort, isArray, isPlain, sortNumber, sortsNumber};
 ghost use Rattle.calculus.specs.Terms.{sort};
 ghost use Rattle.sheets.specs.Rows.{fitNumber, givenNumber};

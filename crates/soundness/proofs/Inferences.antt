@@ -20,7 +20,8 @@ use Rattle.calculus.specs.Terms.{head, sort, args, arg, headOf, eqHead, notHead
 use Rattle.calculus.specs.Rules.{rowOf, valueOf, notOf, andOf, orOf, equates, pairs, connected, unitAt, fits}
 use Rattle.calculus.proofs.Facts.{and-l, and-r, or-cases, all-at, all-of, any-at, any-of, has-at, facts, T-true, T-false}
 use Rattle.soundness.specs.Interpretation.{Interpretation, meaning, value, Endorses}
-use Rattle.soundness.proofs.Rows.{WellSorted, IsConnective, eqList-eq, arg-first, array-not-prop, free-head, free-sort, row-listed, Connective, row-args, is-equality, is-connective, is-select, is-store}
+use Rattle.calculus.proofs.WellSorted.{WellSorted, eqList-eq, row-listed, row-args}
+use Rattle.soundness.proofs.Rows.{IsConnective, arg-first, array-not-prop, free-head, free-sort, Connective, is-equality, is-connective, is-select, is-store}
 use Rattle.soundness.proofs.Values.{value-is, equality-value, not-value, and-value, or-value, select-value, store-value, prop-isTrue, prop-le, domain}
 use Rattle.soundness.proofs.Premises.{bare-is, single-is, double-is, leading-is, Among, unit-others}
 

@@ -17,7 +17,7 @@ use Rattle.calculus.proofs.Facts.{and-r, unless-ok, orElse-ok, first-ok}
 use Rattle.calculus.proofs.Reached.{step-reached, input-reached}
 use Rattle.soundness.specs.Interpretation.{Interpretation, Endorses}
 use Rattle.soundness.specs.Claim.{Given, Sound}
-use Rattle.soundness.proofs.Rows.{WellSorted, well-sorted}
+use Rattle.calculus.proofs.WellSorted.{WellSorted, well-sorted}
 use Rattle.soundness.proofs.Invariant.{AllValid, push-valid}
 use Rattle.soundness.proofs.Steps.{Good, GoodAnswer, good-search, step-good, value-small}
 

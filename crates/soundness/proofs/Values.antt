@@ -19,7 +19,8 @@ use Rattle.calculus.specs.Terms.{head, sort, args, arg, prop, headOf, suits}
 use Rattle.calculus.specs.Rules.{andOf, orOf}
 use Rattle.calculus.proofs.Facts.{all-at, facts, neq, T-false}
 use Rattle.soundness.specs.Interpretation.{InDomains, Interpretation, meaning, values, value}
-use Rattle.soundness.proofs.Rows.{WellSorted, arg-is, array-not-prop, row-suits, row-args, is-equality, is-select, is-store, not-count}
+use Rattle.calculus.proofs.WellSorted.{WellSorted, arg-is, row-suits, row-args}
+use Rattle.soundness.proofs.Rows.{array-not-prop, is-equality, is-select, is-store, not-count}
 
 getD-map : (f : ℕ → ℕ) (l : List ℕ) (k d e : ℕ) → k < length l → getD (map f l) k e ≡ f (getD l k d)
 getD-map f [] k d e h = absurd (not-suc-le-zero h)

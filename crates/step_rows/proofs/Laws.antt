@@ -3,9 +3,7 @@ use mathlib.Core.Path.{_≡_, refl}
 use mathlib.Core.Bool.{Bool, true, false, not, _&&_, _||_, cond}
 use mathlib.Core.List.{List, [], _∷_}
 use Prim.Native.Nat.{ℕ}
-use lib.Dec.{eqb}
 use Rattle.calculus.specs.Lists.{all}
-use Rattle.calculus.specs.Sheets.{blank}
 use Rattle.calculus.specs.Terms.{filled, leftFilled}
 use Rattle.calculus.specs.Steps.{isBlank}
 

@@ -1,10 +1,10 @@
 // The rows of the term sheet: numbers 3, 4 and 5.
 ghost use mathlib.Core.Path.{_≡_};
-ghost use mathlib.Core.Bool.{Bool, _&&_, _||_, not, true};
-ghost use mathlib.Core.List.{List, [], _∷_, map};
+ghost use mathlib.Core.Bool.{_&&_, _||_, not, true};
+ghost use mathlib.Core.List.{List, _∷_, map};
 ghost use Prim.Native.Nat.{ℕ, _+_, _*_, _-_, _<_, _≤_};
-ghost use lib.ListN.{length, getD};
-ghost use lib.Dec.{eqb, leb, ltb};
+ghost use lib.ListN.{length};
+ghost use lib.Dec.{eqb, ltb};
 ghost use Rattle.calculus.specs.Lists.{all, eqList};
 ghost use Rattle.calculus.specs.Numbers.{checkOf};
 ghost use Rattle.calculus.specs.Sheets.{blank};
