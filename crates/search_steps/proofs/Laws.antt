@@ -1,5 +1,5 @@
 -- Premises column by column, and the numbers of the steps of the search.
-use mathlib.Core.Path.{_≡_, refl, sym, ap, _∙_}
+use mathlib.Core.Path.{_≡_, refl, sym, _∙_}
 use mathlib.Core.Bool.{Bool, true, false, _&&_}
 use mathlib.Core.List.{List, _∷_}
 use Prim.Native.Nat.{ℕ, zero, suc, _<_, max}
@@ -12,9 +12,9 @@ use Rattle.calculus.specs.declared.Rule.{Rule}
 use Rattle.calculus.specs.declared.Step.{Step}
 use Rattle.calculus.specs.Lists.{all, has}
 use Rattle.calculus.specs.Numbers.{unless, orElse}
-use Rattle.calculus.specs.Sheets.{blank, termRows}
+use Rattle.calculus.specs.Sheets.{blank}
 use Rattle.calculus.specs.Terms.{prop, filled}
-use Rattle.calculus.specs.Trail.{Set, Trail, topLevel, on, levelAt, levelOf, premisesAt}
+use Rattle.calculus.specs.Trail.{Set, Trail, on, levelAt, levelOf, premisesAt}
 use Rattle.calculus.specs.Reached.{Within, Distinct}
 use Rattle.calculus.specs.Rules.{fits, fitOf, ruleOf}
 use Rattle.calculus.specs.Steps as calculus
@@ -27,11 +27,9 @@ use Rattle.rules.specs.Claims.{premisesOf}
 use Rattle.trail.specs.Words.{trailIn}
 use Rattle.trail.proofs.Abstract.{room-more}
 use Rattle.trail.proofs.Laws.{trail-length}
-use Rattle.moves.specs.Post.{Stands, Conflicts}
 use Rattle.state.specs.declared.Status.{Status}
-use Rattle.state.specs.declared.Answer.the-variants.{Allowed}
-use Rattle.state.specs.States.{Standing, Answers}
-use Rattle.state.proofs.States.{in-search, in-conflict, trail-reached}
+use Rattle.state.specs.States.{Standing}
+use Rattle.state.proofs.States.{trail-reached}
 use Rattle.search_steps.specs.Claims.{Claims}
 
 -- ---- premises
@@ -90,25 +88,7 @@ pub tested : (ts : List ℕ) (tr : Trail) (x : Step) {y : Claim} {k : Rule} {f :
     → k ≡ ruleOf (x .rule) → Claims tr x y → f ≡ fitOf (fits ts (ruleOf (x .rule)) (x .term) (x .value) (premisesAt tr (premises x)))
 tested ts tr x e q c = e ∙ rw (q, c .term, c .value, c .premises)
 
--- ---- an allowed step
-
--- a search state in the words answers with it
-pub landed : (w n : ℕ) (ts ws vs : List ℕ) (st : Status) {tr : Trail} {a : calculus.Answer} → st .conflict ≡ false → n ≡ termRows ts
-    → Stands w n vs (st .count) (st .top .0) tr → a ≡ calculus.allowed (calculus.searching tr) → Answers w n ts ws vs a (Allowed st)
-unfolding Answers
-landed w n ts ws vs st e r s q = (
-  q ∙ ap (λ t. calculus.allowed (calculus.searching t)) (sym (s .trail)) ∙ ap calculus.allowed (sym (in-search w n vs st e)),
-  record { rows = r; laid = s .laid; top = s .greatest ∙ ap topLevel (sym (s .trail)) },
-)
-
--- and so does a conflict
-pub opened : (w n : ℕ) (ts ws vs : List ℕ) (st : Status) {tr : Trail} {E : Set} {a : calculus.Answer} → st .conflict ≡ true → n ≡ termRows ts
-    → st .top .0 ≡ topLevel tr → Conflicts w n vs (st .count) tr E → a ≡ calculus.allowed (calculus.conflict tr E) → Answers w n ts ws vs a (Allowed st)
-unfolding Answers
-opened w n ts ws vs st {tr} {E} e r l s q = (
-  q ∙ (λ i. calculus.allowed (calculus.conflict (sym (s .trail) i) (sym (s .conflict) i))) ∙ ap calculus.allowed (sym (in-conflict w n vs st e)),
-  record { rows = r; laid = s .laid; top = l ∙ ap topLevel (sym (s .trail)) },
-)
+-- ---- levels
 
 -- a level fits where a row is still off the trail
 pub top-small : (w n : ℕ) (ts ws : List ℕ) (st : Status) (t : ℕ) → Standing w n ts ws st → t < n → on (trailIn w n ws (st .count)) t ≡ false → st .top .0 < 65536

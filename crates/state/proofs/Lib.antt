@@ -1,2 +1,3 @@
 -- The laws.
 pub mod States
+pub mod Landed

@@ -1,7 +1,8 @@
 -- `search_steps::clash` meets its contract.
 use Rattle.state.specs.States.{Answers}
 use Rattle.calculus.specs.Steps.{premises, clash}
-use Rattle.search_steps.proofs.Laws.{opened, clash-on, clashed-low, clashed-high}
+use Rattle.state.proofs.Landed.{opened}
+use Rattle.search_steps.proofs.Laws.{clash-on, clashed-low, clashed-high}
 use Rattle.state.proofs.States.{refused-by, passed-by}
 use mathlib.Core.Path.{sym, _∙_, refl}
 use borrow.Author.Needs.{needs}

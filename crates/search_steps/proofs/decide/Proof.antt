@@ -1,7 +1,8 @@
 -- `search_steps::decide` meets its contract.
 use Rattle.state.specs.States.{Answers}
 use Rattle.calculus.specs.Steps.{decide}
-use Rattle.search_steps.proofs.Laws.{landed, top-small, decide-new}
+use Rattle.state.proofs.Landed.{landed}
+use Rattle.search_steps.proofs.Laws.{top-small, decide-new}
 use Rattle.state.proofs.States.{refused-by, passed-by}
 use mathlib.Core.Path.{sym, _∙_, refl}
 use borrow.Author.Needs.{needs}

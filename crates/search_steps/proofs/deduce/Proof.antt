@@ -1,7 +1,8 @@
 -- `search_steps::deduce` meets its contract.
 use Rattle.state.specs.States.{Answers}
 use Rattle.calculus.specs.Steps.{premises, deduce}
-use Rattle.search_steps.proofs.Laws.{landed, deduce-new}
+use Rattle.state.proofs.Landed.{landed}
+use Rattle.search_steps.proofs.Laws.{deduce-new}
 use Rattle.state.proofs.States.{refused-by, passed-by}
 use mathlib.Core.Path.{sym, _∙_, refl}
 use borrow.Author.Needs.{needs}
