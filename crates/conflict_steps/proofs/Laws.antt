@@ -8,7 +8,7 @@ use lib.ListN.{length}
 use lib.Dec.{eqb, ltb→lt}
 use Rattle.calculus.specs.declared.Level.{Level}
 use Rattle.calculus.specs.Sheets.{termRows}
-use Rattle.calculus.specs.Trail.{Set, Trail, on, entry, decidedAt, whyAt, levelOf, topLevel}
+use Rattle.calculus.specs.Trail.{Set, Trail, on, entry, decidedAt, whyAt, levelOf, topLevel, holds, firstOrder}
 use Rattle.calculus.specs.Reached.{Within, Reached}
 use Rattle.calculus.specs.Steps as calculus
 use Rattle.calculus.specs.Steps.{answer, resolveNumber, clearNumber, jumpNumber, flipNumber}
@@ -19,6 +19,8 @@ use Rattle.bitset.specs.Windows.{setAt}
 use Rattle.trail.specs.Words.{trailIn}
 use Rattle.trail.proofs.Laws.{why-in, trail-length, room-all}
 use Rattle.trail.proofs.Frames.{why-words}
+use Rattle.levels.specs.Decisions.{firstOrderAny}
+use Rattle.levels.proofs.Laws.{none-of-level}
 use Rattle.moves.specs.Post.{conflictIn, Stands, Conflicts, Above, restLevel, lowerLevel}
 use Rattle.state.specs.declared.Status.{Status}
 use Rattle.state.specs.declared.Answer.{Answer}
@@ -82,6 +84,11 @@ module _ (w n : ℕ) (ts ws : List ℕ) (count : ℕ) (f : Found w n ts ws count
     -- whose members stand on the trail
     pub why-within : Within (setAt ws (t * w) w) (trailIn w n ws count)
     why-within u h = why-reached (trailIn w n ws count) t u (f .reached) (ap (λ (s : Set). s u) why-there ∙ h) .0
+
+    -- no first-order decision of any level in it: none of the conflict's
+    pub unbarred : {b : Bool} → b ≡ holds (trailIn w n ws count) (setAt ws (t * w) w) (firstOrderAny ts) → b ≡ false
+        → false ≡ holds (trailIn w n ws count) (whyAt (trailIn w n ws count) t) (firstOrder ts (levelOf (trailIn w n ws count) (conflictIn w n ws)))
+    unbarred e h = rw why-there (sym (none-of-level (trailIn w n ws count) (setAt ws (t * w) w) ts (levelOf (trailIn w n ws count) (conflictIn w n ws)) (sym e ∙ h)))
 
     -- levels fit sixteen bits
     pub top-fits : topLevel (trailIn w n ws count) < 65536

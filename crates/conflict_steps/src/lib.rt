@@ -57,13 +57,18 @@ fn above_rest(terms: &[u16], work: &[u64], w: usize, n: usize, count: usize, t: 
     rest.0 < own.0
 }
 
-// Whether the justification of row a holds a first-order decision of the conflict's level.
+// Whether the justification of row a holds a first-order decision of the conflict's level, which is found only where the justification
+// holds one at all.
 fn barred(terms: &[u16], work: &[u64], w: usize, n: usize, count: usize, a: Row) -> bool
     requires { ⌜ Found w n (now terms) (now work) count × (a .0 < n) × (on (trailIn w n (now work) count) (a .0) ≡ true) × (decidedAt (trailIn w n (now work) count) (a .0) ≡ false) ⌝ }
     ensures { λ r. ⌜ r ≡ holds (trailIn w n (now (work .entry)) count) (whyAt (trailIn w n (now (work .entry)) count) (a .0)) (firstOrder (now (terms .entry)) (levelOf (trailIn w n (now (work .entry)) count) (conflictIn w n (now (work .entry))))) ⌝ }
 {
+    let b = a.0 as usize * w;
+    if !levels::holds_first_order_any(work, w, n, count, terms, b) {
+        return false;
+    }
     let m = conflict_level(terms, work, w, n, count);
-    levels::holds_first_order(work, w, n, count, terms, a.0 as usize * w, m)
+    levels::holds_first_order(work, w, n, count, terms, b, m)
 }
 
 // Whether the justifications of rows l and k share a first-order decision of the conflict's level.
