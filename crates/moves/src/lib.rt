@@ -153,23 +153,21 @@ pub fn land(work: &mut [u64], w: usize, terms: usize, n: usize, t: Row, v: u16, 
     }
 }
 
-// jump: back to the level of the rest of the conflict, which justifies the opposite of l.
-pub fn jump(work: &mut [u64], w: usize, terms: usize, n: usize, l: Row) -> Kept
-    requires { ⌜ Above w terms (now work) n (l .0) (restLevel w terms (now work) n (l .0)) ⌝ }
+// jump: back to m, the level of the rest of the conflict, which justifies the opposite of l.
+pub fn jump(work: &mut [u64], w: usize, terms: usize, n: usize, l: Row, m: Level) -> Kept
+    requires { ⌜ Above w terms (now work) n (l .0) (restLevel w terms (now work) n (l .0)) × (m .0 ≡ restLevel w terms (now work) n (l .0)) ⌝ }
     ensures { λ r. ⌜ Stands w terms (now (work .exit)) (r .count) (r .top .0) (jumpedIn w terms (now (work .entry)) n (l .0)) ⌝ }
 {
     let v = trail::value(work, w, terms, n, l);
-    let m = levels::level_without(work, w, terms, n, terms * w + 4 * terms, l);
     land(work, w, terms, n, l, other(v), m)
 }
 
-// flip: the trail kept below the level of the conflict, then the opposite of l as a decision.
-pub fn flip(work: &mut [u64], w: usize, terms: usize, n: usize, l: Row) -> Kept
-    requires { ⌜ Above w terms (now work) n (l .0) (lowerLevel w terms (now work) n) × (topLevel (trailIn w terms (now work) n) < 65536) ⌝ }
+// flip: the trail kept below `level`, the level of the conflict, then the opposite of l as a decision.
+pub fn flip(work: &mut [u64], w: usize, terms: usize, n: usize, l: Row, level: Level) -> Kept
+    requires { ⌜ Above w terms (now work) n (l .0) (lowerLevel w terms (now work) n) × (topLevel (trailIn w terms (now work) n) < 65536) × (level .0 ≡ levelOf (trailIn w terms (now work) n) (conflictIn w terms (now work))) ⌝ }
     ensures { λ r. ⌜ Stands w terms (now (work .exit)) (r .count) (r .top .0) (flippedIn w terms (now (work .entry)) n (l .0)) ⌝ }
 {
     let v = trail::value(work, w, terms, n, l);
-    let level = levels::level_of(work, w, terms, n, terms * w + 4 * terms);
     let m = lower(level);
     let kept = trail::cut(work, w, terms, n, m);
     let k = kept.count;
