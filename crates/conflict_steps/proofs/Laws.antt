@@ -117,7 +117,7 @@ module _ (w n : ℕ) (ts ws : List ℕ) (count : ℕ) (f : Found w n ts ws count
       let p = unless-ok _ 17 _ (omega arith) (sym e ∙ z) in
       let q = unless-ok _ 22 _ (omega arith) (p .1) in
       let r = unless-ok _ 21 _ (omega arith) (q .1) in
-      record { laid = f .laid; row = h; within = f .within; member = T-true _ (p .0); above = ltb→lt _ _ (r .0) }
+      record { laid = f .laid; reached = f .reached; row = h; within = f .within; member = T-true _ (p .0); above = ltb→lt _ _ (r .0) }
 
   pub flip-free : (l j : ℕ) {k : ℕ} → l < n → k ≡ flipNumber ts (trailIn w n ws count) (conflictIn w n ws) l j → k ≡ 0
       → Above w n ws count l (lowerLevel w n ws count) × (topLevel (trailIn w n ws count) < 65536)
@@ -131,7 +131,7 @@ module _ (w n : ℕ) (ts ws : List ℕ) (count : ℕ) (f : Found w n ts ws count
       let d : decidedAt (trailIn w n ws count) l ≡ false = T-false _ (and-l (not (decidedAt (trailIn w n ws count) l)) _ (r .0)) in
       let i : Reached (termRows ts) (trailIn w n ws count) = subst (λ (x : ℕ). Reached x (trailIn w n ws count)) (f .rows) (f .reached) in
       let y = shared-high ts (trailIn w n ws count) (conflictIn w n ws) i (f .within) l j _ (and-r (not (eqb l j)) _ (s .0)) in (
-        record { laid = f .laid; row = h; within = f .within; member = m; above = omega (arith, y .0, y .1) },
+        record { laid = f .laid; reached = f .reached; row = h; within = f .within; member = m; above = omega (arith, y .0, y .1) },
         top-fits l h (f .within l m) d,
       )
 
