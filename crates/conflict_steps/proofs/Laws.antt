@@ -8,7 +8,7 @@ use lib.ListN.{length}
 use lib.Dec.{eqb, ltb→lt}
 use Rattle.calculus.specs.declared.Level.{Level}
 use Rattle.calculus.specs.Sheets.{termRows}
-use Rattle.calculus.specs.Trail.{Set, Trail, on, entry, decidedAt, whyAt, levelOf, topLevel}
+use Rattle.calculus.specs.Trail.{Set, Trail, on, entry, decidedAt, whyAt, levelOf, topLevel, holds, firstOrder}
 use Rattle.calculus.specs.Reached.{Within, Reached}
 use Rattle.calculus.specs.Steps as calculus
 use Rattle.calculus.specs.Steps.{answer, resolveNumber, clearNumber, jumpNumber, flipNumber}
@@ -19,6 +19,8 @@ use Rattle.bitset.specs.Windows.{setAt}
 use Rattle.trail.specs.Words.{trailIn}
 use Rattle.trail.proofs.Laws.{why-in, trail-length, room-all}
 use Rattle.trail.proofs.Frames.{why-words}
+use Rattle.levels.specs.Decisions.{firstOrderAny}
+use Rattle.levels.proofs.Laws.{none-of-level}
 use Rattle.moves.specs.Post.{conflictIn, Stands, Conflicts, Above, restLevel, lowerLevel}
 use Rattle.state.specs.declared.Status.{Status}
 use Rattle.state.specs.declared.Answer.{Answer}
@@ -83,6 +85,11 @@ module _ (w n : ℕ) (ts ws : List ℕ) (count : ℕ) (f : Found w n ts ws count
     pub why-within : Within (setAt ws (t * w) w) (trailIn w n ws count)
     why-within u h = why-reached (trailIn w n ws count) t u (f .reached) (ap (λ (s : Set). s u) why-there ∙ h) .0
 
+    -- no first-order decision of any level in it: none of the conflict's
+    pub unbarred : {b : Bool} → b ≡ holds (trailIn w n ws count) (setAt ws (t * w) w) (firstOrderAny ts) → b ≡ false
+        → false ≡ holds (trailIn w n ws count) (whyAt (trailIn w n ws count) t) (firstOrder ts (levelOf (trailIn w n ws count) (conflictIn w n ws)))
+    unbarred e h = rw why-there (sym (none-of-level (trailIn w n ws count) (setAt ws (t * w) w) ts (levelOf (trailIn w n ws count) (conflictIn w n ws)) (sym e ∙ h)))
+
     -- levels fit sixteen bits
     pub top-fits : topLevel (trailIn w n ws count) < 65536
     top-fits =
@@ -110,7 +117,7 @@ module _ (w n : ℕ) (ts ws : List ℕ) (count : ℕ) (f : Found w n ts ws count
       let p = unless-ok _ 17 _ (omega arith) (sym e ∙ z) in
       let q = unless-ok _ 22 _ (omega arith) (p .1) in
       let r = unless-ok _ 21 _ (omega arith) (q .1) in
-      record { laid = f .laid; row = h; within = f .within; member = T-true _ (p .0); above = ltb→lt _ _ (r .0) }
+      record { laid = f .laid; reached = f .reached; row = h; within = f .within; member = T-true _ (p .0); above = ltb→lt _ _ (r .0) }
 
   pub flip-free : (l j : ℕ) {k : ℕ} → l < n → k ≡ flipNumber ts (trailIn w n ws count) (conflictIn w n ws) l j → k ≡ 0
       → Above w n ws count l (lowerLevel w n ws count) × (topLevel (trailIn w n ws count) < 65536)
@@ -124,7 +131,7 @@ module _ (w n : ℕ) (ts ws : List ℕ) (count : ℕ) (f : Found w n ts ws count
       let d : decidedAt (trailIn w n ws count) l ≡ false = T-false _ (and-l (not (decidedAt (trailIn w n ws count) l)) _ (r .0)) in
       let i : Reached (termRows ts) (trailIn w n ws count) = subst (λ (x : ℕ). Reached x (trailIn w n ws count)) (f .rows) (f .reached) in
       let y = shared-high ts (trailIn w n ws count) (conflictIn w n ws) i (f .within) l j _ (and-r (not (eqb l j)) _ (s .0)) in (
-        record { laid = f .laid; row = h; within = f .within; member = m; above = omega (arith, y .0, y .1) },
+        record { laid = f .laid; reached = f .reached; row = h; within = f .within; member = m; above = omega (arith, y .0, y .1) },
         top-fits l h (f .within l m) d,
       )
 

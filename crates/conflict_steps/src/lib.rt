@@ -46,32 +46,60 @@ fn conflict_level(terms: &[u16], work: &[u64], w: usize, n: usize, count: usize)
     levels::level_of(work, w, n, count, e)
 }
 
-// Whether row t's level is above that of the rest of the conflict.
-fn above_rest(terms: &[u16], work: &[u64], w: usize, n: usize, count: usize, t: Row) -> bool
-    requires { ⌜ Found w n (now terms) (now work) count × (t .0 < n) × (on (trailIn w n (now work) count) (t .0) ≡ true) ⌝ }
-    ensures { λ r. ⌜ r ≡ ltb (levelOf (trailIn w n (now (work .entry)) count) (remove (conflictIn w n (now (work .entry))) (t .0))) (levelAt (trailIn w n (now (work .entry)) count) (t .0)) ⌝ }
+// The level of the conflict without row t.
+fn rest_level(terms: &[u16], work: &[u64], w: usize, n: usize, count: usize, t: Row) -> Level
+    requires { ⌜ Found w n (now terms) (now work) count ⌝ }
+    ensures { λ r. ⌜ r .0 ≡ levelOf (trailIn w n (now (work .entry)) count) (remove (conflictIn w n (now (work .entry))) (t .0)) ⌝ }
 {
     let e = place(work, w, n);
-    let rest = levels::level_without(work, w, n, count, e, t);
+    levels::level_without(work, w, n, count, e, t)
+}
+
+// Whether row t's level is above that of the rest of the conflict, which is `rest`.
+fn above_rest(
+    terms: &[u16],
+    work: &[u64],
+    w: usize,
+    n: usize,
+    count: usize,
+    t: Row,
+    rest: Level,
+) -> bool
+    requires { ⌜ Found w n (now terms) (now work) count × (t .0 < n) × (on (trailIn w n (now work) count) (t .0) ≡ true) × (rest .0 ≡ levelOf (trailIn w n (now work) count) (remove (conflictIn w n (now work)) (t .0))) ⌝ }
+    ensures { λ r. ⌜ r ≡ ltb (levelOf (trailIn w n (now (work .entry)) count) (remove (conflictIn w n (now (work .entry))) (t .0))) (levelAt (trailIn w n (now (work .entry)) count) (t .0)) ⌝ }
+{
     let own = trail::level(work, w, n, count, t);
     rest.0 < own.0
 }
 
-// Whether the justification of row a holds a first-order decision of the conflict's level.
+// Whether the justification of row a holds a first-order decision of the conflict's level, which is found only where the justification
+// holds one at all.
 fn barred(terms: &[u16], work: &[u64], w: usize, n: usize, count: usize, a: Row) -> bool
     requires { ⌜ Found w n (now terms) (now work) count × (a .0 < n) × (on (trailIn w n (now work) count) (a .0) ≡ true) × (decidedAt (trailIn w n (now work) count) (a .0) ≡ false) ⌝ }
     ensures { λ r. ⌜ r ≡ holds (trailIn w n (now (work .entry)) count) (whyAt (trailIn w n (now (work .entry)) count) (a .0)) (firstOrder (now (terms .entry)) (levelOf (trailIn w n (now (work .entry)) count) (conflictIn w n (now (work .entry))))) ⌝ }
 {
+    let b = a.0 as usize * w;
+    if !levels::holds_first_order_any(work, w, n, count, terms, b) {
+        return false;
+    }
     let m = conflict_level(terms, work, w, n, count);
-    levels::holds_first_order(work, w, n, count, terms, a.0 as usize * w, m)
+    levels::holds_first_order(work, w, n, count, terms, b, m)
 }
 
-// Whether the justifications of rows l and k share a first-order decision of the conflict's level.
-fn share(terms: &[u16], work: &[u64], w: usize, n: usize, count: usize, l: Row, k: Row) -> bool
-    requires { ⌜ Found w n (now terms) (now work) count × (l .0 < n) × (k .0 < n) × (on (trailIn w n (now work) count) (l .0) ≡ true) × (on (trailIn w n (now work) count) (k .0) ≡ true) × (decidedAt (trailIn w n (now work) count) (l .0) ≡ false) × (decidedAt (trailIn w n (now work) count) (k .0) ≡ false) ⌝ }
+// Whether the justifications of rows l and k share a first-order decision of the conflict's level, which is m.
+fn share(
+    terms: &[u16],
+    work: &[u64],
+    w: usize,
+    n: usize,
+    count: usize,
+    l: Row,
+    k: Row,
+    m: Level,
+) -> bool
+    requires { ⌜ Found w n (now terms) (now work) count × (l .0 < n) × (k .0 < n) × (on (trailIn w n (now work) count) (l .0) ≡ true) × (on (trailIn w n (now work) count) (k .0) ≡ true) × (decidedAt (trailIn w n (now work) count) (l .0) ≡ false) × (decidedAt (trailIn w n (now work) count) (k .0) ≡ false) × (m .0 ≡ levelOf (trailIn w n (now work) count) (conflictIn w n (now work))) ⌝ }
     ensures { λ r. ⌜ r ≡ holds (trailIn w n (now (work .entry)) count) (intersection (whyAt (trailIn w n (now (work .entry)) count) (l .0)) (whyAt (trailIn w n (now (work .entry)) count) (k .0))) (firstOrder (now (terms .entry)) (levelOf (trailIn w n (now (work .entry)) count) (conflictIn w n (now (work .entry))))) ⌝ }
 {
-    let m = conflict_level(terms, work, w, n, count);
     levels::share_first_order(
         work,
         w,
@@ -116,15 +144,24 @@ fn clear_number(terms: &[u16], work: &[u64], w: usize, n: usize, count: usize, a
     if !(decided & !p) {
         return 20;
     }
-    if !above_rest(terms, work, w, n, count, a) {
+    let rest = rest_level(terms, work, w, n, count, a);
+    if !above_rest(terms, work, w, n, count, a, rest) {
         return 21;
     }
     0
 }
 
-// Numbers 17, 22, 21.
-fn jump_number(terms: &[u16], work: &[u64], w: usize, n: usize, count: usize, l: Row) -> u16
-    requires { ⌜ Found w n (now terms) (now work) count × (l .0 < n) ⌝ }
+// Numbers 17, 22, 21; m is the level of the rest of the conflict.
+fn jump_number(
+    terms: &[u16],
+    work: &[u64],
+    w: usize,
+    n: usize,
+    count: usize,
+    l: Row,
+    m: Level,
+) -> u16
+    requires { ⌜ Found w n (now terms) (now work) count × (l .0 < n) × (m .0 ≡ levelOf (trailIn w n (now work) count) (remove (conflictIn w n (now work)) (l .0))) ⌝ }
     ensures { λ r. ⌜ r ≡ jumpNumber (now (terms .entry)) (trailIn w n (now (work .entry)) count) (conflictIn w n (now (work .entry))) (l .0) ⌝ }
 {
     if !in_conflict(terms, work, w, n, count, l) {
@@ -133,15 +170,24 @@ fn jump_number(terms: &[u16], work: &[u64], w: usize, n: usize, count: usize, l:
     if !state::is_prop(terms, l) {
         return 22;
     }
-    if !above_rest(terms, work, w, n, count, l) {
+    if !above_rest(terms, work, w, n, count, l, m) {
         return 21;
     }
     0
 }
 
-// Numbers 17, 22, 18, 23.
-fn flip_number(terms: &[u16], work: &[u64], w: usize, n: usize, count: usize, l: Row, k: Row) -> u16
-    requires { ⌜ Found w n (now terms) (now work) count × (l .0 < n) × (k .0 < n) ⌝ }
+// Numbers 17, 22, 18, 23; m is the level of the conflict.
+fn flip_number(
+    terms: &[u16],
+    work: &[u64],
+    w: usize,
+    n: usize,
+    count: usize,
+    l: Row,
+    k: Row,
+    m: Level,
+) -> u16
+    requires { ⌜ Found w n (now terms) (now work) count × (l .0 < n) × (k .0 < n) × (m .0 ≡ levelOf (trailIn w n (now work) count) (conflictIn w n (now work))) ⌝ }
     ensures { λ r. ⌜ r ≡ flipNumber (now (terms .entry)) (trailIn w n (now (work .entry)) count) (conflictIn w n (now (work .entry))) (l .0) (k .0) ⌝ }
 {
     if !in_conflict(terms, work, w, n, count, l) {
@@ -162,7 +208,7 @@ fn flip_number(terms: &[u16], work: &[u64], w: usize, n: usize, count: usize, l:
     if l.0 == k.0 {
         return 23;
     }
-    if !share(terms, work, w, n, count, l, k) {
+    if !share(terms, work, w, n, count, l, k, m) {
         return 23;
     }
     0
@@ -220,11 +266,12 @@ pub fn jump(terms: &[u16], work: &mut [u64], w: usize, n: usize, st: Status, l: 
     ensures { λ r. ⌜ Answers w n (now (terms .entry)) (now (work .entry)) (now (work .exit)) (calculus.jump (now (terms .entry)) (trailIn w n (now (work .entry)) (st .count)) (conflictIn w n (now (work .entry))) (l .0)) r ⌝ }
 {
     let count = st.count;
-    let c = jump_number(terms, work, w, n, count, l);
+    let m = rest_level(terms, work, w, n, count, l);
+    let c = jump_number(terms, work, w, n, count, l, m);
     if c != 0 {
         return Answer::Refused(c);
     }
-    searching(moves::jump(work, w, n, count, l))
+    searching(moves::jump(work, w, n, count, l, m))
 }
 
 // Below the level of the conflict, the opposite of l is decided.
@@ -241,9 +288,10 @@ pub fn flip(
     ensures { λ r. ⌜ Answers w n (now (terms .entry)) (now (work .entry)) (now (work .exit)) (calculus.flip (now (terms .entry)) (trailIn w n (now (work .entry)) (st .count)) (conflictIn w n (now (work .entry))) (l .0) (k .0)) r ⌝ }
 {
     let count = st.count;
-    let c = flip_number(terms, work, w, n, count, l, k);
+    let m = conflict_level(terms, work, w, n, count);
+    let c = flip_number(terms, work, w, n, count, l, k, m);
     if c != 0 {
         return Answer::Refused(c);
     }
-    searching(moves::flip(work, w, n, count, l))
+    searching(moves::flip(work, w, n, count, l, m))
 }

@@ -1,23 +1,24 @@
 -- The level of a set, and a search in it, member by member. Assumes nothing.
 use Prim.Native.Nat.{ℕ, _+_, _*_, _≤_, _<_, max}
 use native.Mathlib.Omega.{arith}
-use mathlib.Core.Path.{_≡_, sym, ap, ap₂, _∙_}
+use mathlib.Core.Path.{_≡_, refl, sym, ap, ap₂, _∙_}
 use mathlib.Core.Logic.{⊎-elim}
 use mathlib.Core.Bool.{Bool, true, false, not, _&&_, cond, or-false, and-true, and-false, or-true}
-use mathlib.Core.List.{List}
+use mathlib.Core.List.{List, [], _∷_}
 use lib.Dec.{eqb, ltb}
 use lib.ListN.{getD}
 use borrow.Author.Tests.{ltb-true, ltb-false, eqb-true, eqb-false, lt-ltb, le-ltb}
 use Rattle.calculus.specs.Terms.{prop}
 use Rattle.calculus.specs.Trail.{Set, Trail, Entry, insert, remove, intersection, on, entry, levelOf, levelAt, holds, firstOrder}
 use Rattle.calculus.specs.Reached.{Distinct}
-use Rattle.calculus.proofs.Facts.{is-or-not, true-or-false, both-true}
+use Rattle.calculus.proofs.Facts.{is-or-not, true-or-false, both-true, none-true}
 use Rattle.bitset.specs.Windows.{setAt}
 use Rattle.bitset.specs.Members.{Clear, Least}
 use Rattle.bitset.proofs.Windows.{set-past}
 use Rattle.trail.specs.Words.{kinds, levels, trailIn}
 use Rattle.trail.proofs.Abstract.{level-insert, level-none, holds-yes, holds-no}
 use Rattle.trail.proofs.Laws.{entry-at}
+use Rattle.levels.specs.Decisions.{firstOrderAny}
 
 -- no row past a window is in it
 pub past : (ws : List ℕ) (b w u : ℕ) → 64 * w ≤ u → setAt ws b w u ≡ false
@@ -152,3 +153,21 @@ shares-one tr s r p t m o h =
 pub first-order-word : (w N : ℕ) (ws ts : List ℕ) (n t m : ℕ) → on (trailIn w N ws n) t ≡ true
     → eqb (getD ws (kinds w N + t) 0) 2 && (not (prop ts t) && eqb (getD ws (levels w N + t) 0) m) ≡ firstOrder ts m (entry (trailIn w N ws n) t)
 first-order-word w N ws ts n t m o = sym (ap (firstOrder ts m) (entry-at w N ws n t o))
+
+pub first-order-any-word : (w N : ℕ) (ws ts : List ℕ) (n t : ℕ) → on (trailIn w N ws n) t ≡ true
+    → eqb (getD ws (kinds w N + t) 0) 2 && not (prop ts t) ≡ firstOrderAny ts (entry (trailIn w N ws n) t)
+first-order-any-word w N ws ts n t o = sym (ap (firstOrderAny ts) (entry-at w N ws n t o))
+
+-- none of any level: none of level m
+narrower : (a b c d : Bool) → a && (b && c) ≡ false → a && (b && (c && d)) ≡ false
+narrower true true true d h = absurd (true-or-false refl h)
+narrower true true false d h = refl
+narrower true false c d h = refl
+narrower false b c d h = refl
+
+pub none-of-level : (tr : Trail) (s : Set) (ts : List ℕ) (m : ℕ) → holds tr s (firstOrderAny ts) ≡ false → holds tr s (firstOrder ts m) ≡ false
+unfolding holds
+none-of-level [] s ts m h = refl
+none-of-level (e ∷ older) s ts m h =
+    let b = none-true _ _ h in
+    rw (narrower (s (e .term)) (e .decided) (not (prop ts (e .term))) (eqb (e .level) m) (b .0)) (none-of-level older s ts m (b .1))

@@ -10,6 +10,7 @@ ghost use Rattle.calculus.specs.Run.{written};
 ghost use Rattle.calculus.specs.Reached.{Within};
 ghost use Rattle.bitset.specs.Windows.{setAt};
 ghost use Rattle.trail.specs.Words.{trailIn, Laid};
+ghost use Rattle.levels.specs.Decisions.{firstOrderAny};
 use bitset::Found;
 use calculus::Level;
 use calculus::Row;
@@ -102,6 +103,48 @@ pub fn holds_first_order(
             return false;
         };
         if first_order(work, w, terms, n, sheet, t, m) {
+            return true;
+        }
+        from = t.0 as usize + 1;
+    }
+    false
+}
+
+// Whether term t, which is on the trail, is a decision, of any level, and not of sort prop.
+pub fn first_order_any(
+    work: &[u64],
+    w: usize,
+    terms: usize,
+    n: usize,
+    sheet: &[u16],
+    t: Row,
+) -> bool
+    requires { ⌜ Laid w terms (now work) n × (terms * 6 ≤ length (now sheet)) × (t .0 < terms) × (on (trailIn w terms (now work) n) (t .0) ≡ true) ⌝ }
+    ensures { λ r. ⌜ r ≡ firstOrderAny (now (sheet .entry)) (entry (trailIn w terms (now (work .entry)) n) (t .0)) ⌝ }
+{
+    let u = t.0 as usize;
+    (work[terms * w + 2 * terms + u] == 2) & !(sheet[u * 6 + 1] == 0)
+}
+
+// Whether the set at e, whose members are all on the trail, holds a first-order decision of any level.
+pub fn holds_first_order_any(
+    work: &[u64],
+    w: usize,
+    terms: usize,
+    n: usize,
+    sheet: &[u16],
+    e: usize,
+) -> bool
+    requires { ⌜ Laid w terms (now work) n × (terms * 6 ≤ length (now sheet)) × (e + w ≤ length (now work)) × Within (setAt (now work) e w) (trailIn w terms (now work) n) ⌝ }
+    ensures { λ r. ⌜ r ≡ holds (trailIn w terms (now (work .entry)) n) (setAt (now (work .entry)) e w) (firstOrderAny (now (sheet .entry))) ⌝ }
+{
+    let mut from: usize = 0;
+    while from < 64 * w {
+        let found = bitset::next_member(work, e, w, from);
+        let Found::At(t) = found else {
+            return false;
+        };
+        if first_order_any(work, w, terms, n, sheet, t) {
             return true;
         }
         from = t.0 as usize + 1;

@@ -8,7 +8,7 @@ ghost use Rattle.calculus.specs.Lists.{has, opposite};
 ghost use Rattle.calculus.specs.Terms.{filled};
 ghost use Rattle.calculus.specs.Trail.{on, levelAt, decidedAt, whyAt, levelOf, topLevel, keptTo, decision, justified, remove, union};
 ghost use Rattle.calculus.specs.Inputs.{given};
-ghost use Rattle.calculus.specs.Reached.{Within};
+ghost use Rattle.calculus.specs.Reached.{Within, Reached};
 ghost use Rattle.bitset.specs.Windows.{Holds};
 ghost use Rattle.trail.specs.Words.{trailIn, Laid};
 ghost use Rattle.moves.specs.Post.{conflictIn, restLevel, lowerLevel, jumpedIn, flippedIn, Above, Stands, Conflicts};
@@ -21,17 +21,6 @@ pub fn other(v: u16) -> u16
     ensures { λ r. ⌜ r ≡ opposite v ⌝ }
 {
     if v == 0 { 1 } else { 0 }
-}
-
-// One level below m; 0 below 0.
-pub fn lower(m: Level) -> Level
-    ensures { λ r. ⌜ r .0 ≡ m .0 - 1 ⌝ }
-{
-    let l = m.0;
-    if l == 0 {
-        return Level(0);
-    }
-    Level(l - 1)
 }
 
 // The set of the rows in ps before the first blank, in the window at b.
@@ -126,17 +115,17 @@ pub fn resolve(work: &mut [u64], w: usize, terms: usize, n: usize, a: Row)
 
 // clear: the trail kept below the level of a, which is on it.
 pub fn clear(work: &mut [u64], w: usize, terms: usize, n: usize, a: Row) -> Kept
-    requires { ⌜ Laid w terms (now work) n × (a .0 < terms) × (on (trailIn w terms (now work) n) (a .0) ≡ true) ⌝ }
+    requires { ⌜ Laid w terms (now work) n × (a .0 < terms) × (on (trailIn w terms (now work) n) (a .0) ≡ true) × Reached terms (trailIn w terms (now work) n) ⌝ }
     ensures { λ r. ⌜ Stands w terms (now (work .exit)) (r .count) (r .top .0) (keptTo (levelAt (trailIn w terms (now (work .entry)) n) (a .0) - 1) (trailIn w terms (now (work .entry)) n)) ⌝ }
 {
     let level = trail::level(work, w, terms, n, a);
-    let m = lower(level);
+    let m = trail::lower(level);
     trail::cut(work, w, terms, n, m)
 }
 
 // The trail kept to m, the level of the conflict without t and below t's own; then t with value v, justified by that rest.
 pub fn land(work: &mut [u64], w: usize, terms: usize, n: usize, t: Row, v: u16, m: Level) -> Kept
-    requires { ⌜ Laid w terms (now work) n × (t .0 < terms) × (m .0 < levelAt (trailIn w terms (now work) n) (t .0)) × (m .0 ≡ levelOf (trailIn w terms (now work) n) (remove (conflictIn w terms (now work)) (t .0))) ⌝ }
+    requires { ⌜ Laid w terms (now work) n × (t .0 < terms) × (m .0 < levelAt (trailIn w terms (now work) n) (t .0)) × (m .0 ≡ levelOf (trailIn w terms (now work) n) (remove (conflictIn w terms (now work)) (t .0))) × Reached terms (trailIn w terms (now work) n) ⌝ }
     ensures { λ r. ⌜ Stands w terms (now (work .exit)) (r .count) (r .top .0) (justified (keptTo (m .0) (trailIn w terms (now (work .entry)) n)) (t .0) v (remove (conflictIn w terms (now (work .entry))) (t .0)) ∷ keptTo (m .0) (trailIn w terms (now (work .entry)) n)) ⌝ }
 {
     let e = terms * w + 4 * terms;
@@ -153,24 +142,22 @@ pub fn land(work: &mut [u64], w: usize, terms: usize, n: usize, t: Row, v: u16, 
     }
 }
 
-// jump: back to the level of the rest of the conflict, which justifies the opposite of l.
-pub fn jump(work: &mut [u64], w: usize, terms: usize, n: usize, l: Row) -> Kept
-    requires { ⌜ Above w terms (now work) n (l .0) (restLevel w terms (now work) n (l .0)) ⌝ }
+// jump: back to m, the level of the rest of the conflict, which justifies the opposite of l.
+pub fn jump(work: &mut [u64], w: usize, terms: usize, n: usize, l: Row, m: Level) -> Kept
+    requires { ⌜ Above w terms (now work) n (l .0) (restLevel w terms (now work) n (l .0)) × (m .0 ≡ restLevel w terms (now work) n (l .0)) ⌝ }
     ensures { λ r. ⌜ Stands w terms (now (work .exit)) (r .count) (r .top .0) (jumpedIn w terms (now (work .entry)) n (l .0)) ⌝ }
 {
     let v = trail::value(work, w, terms, n, l);
-    let m = levels::level_without(work, w, terms, n, terms * w + 4 * terms, l);
     land(work, w, terms, n, l, other(v), m)
 }
 
-// flip: the trail kept below the level of the conflict, then the opposite of l as a decision.
-pub fn flip(work: &mut [u64], w: usize, terms: usize, n: usize, l: Row) -> Kept
-    requires { ⌜ Above w terms (now work) n (l .0) (lowerLevel w terms (now work) n) × (topLevel (trailIn w terms (now work) n) < 65536) ⌝ }
+// flip: the trail kept below `level`, the level of the conflict, then the opposite of l as a decision.
+pub fn flip(work: &mut [u64], w: usize, terms: usize, n: usize, l: Row, level: Level) -> Kept
+    requires { ⌜ Above w terms (now work) n (l .0) (lowerLevel w terms (now work) n) × (topLevel (trailIn w terms (now work) n) < 65536) × (level .0 ≡ levelOf (trailIn w terms (now work) n) (conflictIn w terms (now work))) ⌝ }
     ensures { λ r. ⌜ Stands w terms (now (work .exit)) (r .count) (r .top .0) (flippedIn w terms (now (work .entry)) n (l .0)) ⌝ }
 {
     let v = trail::value(work, w, terms, n, l);
-    let level = levels::level_of(work, w, terms, n, terms * w + 4 * terms);
-    let m = lower(level);
+    let m = trail::lower(level);
     let kept = trail::cut(work, w, terms, n, m);
     let k = kept.count;
     let top = kept.top;

@@ -9,14 +9,16 @@ use lib.Dec.{eqb}
 use lib.ListN.{getD, set, length-set}
 use lib.Seq.{getD-set-same, getD-set-other}
 use borrow.Author.Tests.{eqb-true, eqb-false}
-use Rattle.calculus.specs.Trail.{Trail, Entry, on, keptTo, levelOf, topLevel}
-use Rattle.calculus.specs.Reached.{Below}
-use Rattle.calculus.proofs.Facts.{is-or-not, true-or-false}
+use Rattle.calculus.specs.Trail.{Trail, Entry, on, keptTo, topLevel}
+use Rattle.calculus.specs.Reached.{Below, Reached}
+use Rattle.calculus.proofs.Facts.{is-or-not}
 use Rattle.calculus.proofs.Entries.{kept-off}
 use Rattle.bitset.specs.Windows.{Only}
 use Rattle.trail.specs.Words.{levels, kinds, order, entryFor, trailIn, kindAt, Laid, Cut}
+use Rattle.trail.specs.Bases.{Base}
 use Rattle.trail.proofs.Abstract.{off-parts, on-older, kind-here, kind-older, kind-off, kind-on, kept-more, kept-less, kept-distinct, kept-below, top-more}
 use Rattle.trail.proofs.Laws.{why-in, trail-more, below-at, off-at, on-at, distinct-at, below-first, entry-same, trail-set, entry-at}
+use Rattle.trail.proofs.Bases.{base-low, kept-all, kind-first}
 
 -- after i of the entries of ws₀, j of them left, whose greatest level is top
 pub record Cutting (w N : ℕ) (ws₀ ws : List ℕ) (m j i top : ℕ) : Type 0 where
@@ -27,16 +29,18 @@ pub record Cutting (w N : ℕ) (ws₀ ws : List ℕ) (m j i top : ℕ) : Type 0 
   pub marks : (t : ℕ) → t < N → on (trailIn w N ws₀ i) t ≡ true → getD ws (kinds w N + t) 0 ≡ kindAt (keptTo m (trailIn w N ws₀ i)) t
   pub greatest : top ≡ topLevel (keptTo m (trailIn w N ws₀ i))
 
-pub cut-none : (w N : ℕ) (ws : List ℕ) (m : ℕ) → Cutting w N ws ws m 0 0 0
-unfolding trailIn keptTo on levelOf
-cut-none w N ws m =
+-- the base is kept as it stands
+pub cut-base : (w N : ℕ) (ws : List ℕ) (n m i top : ℕ) → Laid w N ws n → Reached N (trailIn w N ws n) → Base w N ws n m i top → Cutting w N ws ws m i i top
+cut-base w N ws n m i top laid r b =
+    let low : topLevel (trailIn w N ws i) ≤ m = rw (b .trail) (base-low m (trailIn w N ws n) r) in
+    let all = kept-all m (trailIn w N ws i) low in
     record {
       within = omega arith;
       only = record { long = refl; rest = λ k o. refl };
-      kept = refl;
+      kept = sym all;
       passed = λ t h o. refl;
-      marks = λ t h o. absurd (true-or-false o refl);
-      greatest = refl;
+      marks = λ t h o. laid .marked t h ∙ kind-first w N ws n i t o (b .within) ∙ sym (ap (λ (s : Trail). kindAt s t) all);
+      greatest = b .greatest ∙ sym (ap topLevel all);
     }
 
 module _ (w N : ℕ) (ws₀ ws : List ℕ) (n m j i top : ℕ) (laid : Laid w N ws₀ n) (less : i < n) (room : n ≤ N) (u : Cutting w N ws₀ ws m j i top)

@@ -2,5 +2,6 @@
 pub mod Abstract
 pub mod Laws
 pub mod Pushes
+pub mod Bases
 pub mod Cuts
 pub mod Frames

@@ -1,12 +1,14 @@
 // The trail in a lent workspace, by term: a look-up reads the words of one term, an addition writes four words, and keeping to a
-// level visits each entry once. The layout is in specs/Words; w is the words of a set, `terms` the term rows, n the entries.
+// level visits the entries from the first decision above it on. The layout is in specs/Words; w is the words of a set, `terms` the term rows, n the entries.
 ghost use mathlib.Core.Path.{_≡_};
 ghost use mathlib.Core.Bool.{true, false};
-ghost use Prim.Native.Nat.{_+_, _*_, _<_, _≤_, max};
+ghost use Prim.Native.Nat.{_+_, _-_, _*_, _<_, _≤_, max};
 ghost use lib.ListN.{length, replicate};
 ghost use Rattle.calculus.specs.Trail.{on, valueAt, levelAt, decidedAt, assigned};
+ghost use Rattle.calculus.specs.Reached.{Reached};
 ghost use Rattle.bitset.specs.Windows.{setAt};
 ghost use Rattle.trail.specs.Words.{conflict, trailIn, entryOf, Laid, Pushed, Cut};
+ghost use Rattle.trail.specs.Bases.{Base};
 use calculus::Level;
 use calculus::Row;
 
@@ -106,16 +108,53 @@ pub fn larger(a: u64, b: u64) -> u64
     if a < b { b } else { a }
 }
 
-// The trail kept to level m: the order closes up, and the kinds of what goes become 0.
-pub fn cut(work: &mut [u64], w: usize, terms: usize, n: usize, m: Level) -> Kept
-    requires { ⌜ Laid w terms (now work) n ⌝ }
-    ensures { λ r. ⌜ Cut w terms (now (work .entry)) (now (work .exit)) n (m .0) (r .count) (r .top .0) ⌝ }
+// One level below m; 0 below 0.
+pub fn lower(m: Level) -> Level
+    ensures { λ r. ⌜ r .0 ≡ m .0 - 1 ⌝ }
+{
+    let l = m.0;
+    if l == 0 {
+        return Level(0);
+    }
+    Level(l - 1)
+}
+
+// The entries before the newest decision of level at most m + 1, and their greatest level; none where there is no such decision.
+// Levels being what they are, all of them are of level at most m, so that keeping to m leaves them as they stand.
+fn base(work: &[u64], w: usize, terms: usize, n: usize, m: Level) -> Kept
+    requires { ⌜ Laid w terms (now work) n × Reached terms (trailIn w terms (now work) n) ⌝ }
+    ensures { λ r. ⌜ Base w terms (now (work .entry)) n (m .0) (r .count) (r .top .0) ⌝ }
 {
     let b = terms * w;
+    let mut i = n;
+    while 0 < i {
+        i -= 1;
+        let t = work[b + 3 * terms + i] as usize;
+        let before = lower(Level(work[b + terms + t]));
+        if (work[b + 2 * terms + t] == 2) & (before.0 <= m.0) {
+            return Kept {
+                count: i,
+                top: before,
+            };
+        }
+    }
+    Kept {
+        count: 0,
+        top: Level(0),
+    }
+}
+
+// The trail kept to level m: past the base the order closes up, and the kinds of what goes become 0.
+pub fn cut(work: &mut [u64], w: usize, terms: usize, n: usize, m: Level) -> Kept
+    requires { ⌜ Laid w terms (now work) n × Reached terms (trailIn w terms (now work) n) ⌝ }
+    ensures { λ r. ⌜ Cut w terms (now (work .entry)) (now (work .exit)) n (m .0) (r .count) (r .top .0) ⌝ }
+{
+    let first = base(work, w, terms, n, m);
+    let b = terms * w;
     let most = m.0;
-    let mut j = 0;
-    let mut top = 0;
-    for i in 0..n {
+    let mut j = first.count;
+    let mut top = first.top.0;
+    for i in first.count..n {
         let t = work[b + 3 * terms + i] as usize;
         let level = work[b + terms + t];
         if level <= most {

@@ -16,7 +16,7 @@ unfolding clear
 returns c = turned-away _ _ _ _ _ (c .before .clear-number .ensures) (c .if1 .taken)
 
 clear-requires : tie.Need-clear-requires
-clear-requires c κs = let f = found _ _ _ _ _ (c .before .before .before .before .before .before .pre .0) (c .before .before .before .before .before .before .pre .1) in (f .laid, c .before .before .before .before .before .before .pre .2, clear-free _ _ _ _ _ f _ (c .before .before .clear-number .ensures) (c .before .if1 .left))
+clear-requires c κs = let f = found _ _ _ _ _ (c .before .before .before .before .before .before .pre .0) (c .before .before .before .before .before .before .pre .1) in (f .laid, c .before .before .before .before .before .before .pre .2, clear-free _ _ _ _ _ f _ (c .before .before .clear-number .ensures) (c .before .if1 .left), f .reached)
 
 searching-requires : tie.Need-searching-requires
 searching-requires c κs = search needs

@@ -25,16 +25,19 @@ returns-2 : tie.Need-returns-2
 unfolding clearNumber
 returns-2 c = sym (unless-yes _ _ (sym (c .before .before .before .before .in-conflict .ensures) ∙ not-false _ (c .before .before .before .if1 .left)) ∙ unless-no _ _ (rw (← c .before .before .decided .ensures, ← c .before .is-prop .ensures) (not-true _ (c .if2 .taken))))
 
+rest-level-requires : tie.Need-rest-level-requires
+rest-level-requires c κs = search needs
+
 above-rest-requires : tie.Need-above-rest-requires
-above-rest-requires c κs = (c .before .before .before .before .before .before .before .pre .0, c .before .before .before .before .before .before .before .pre .1, member-on _ _ _ _ _ (c .before .before .before .before .before .before .before .pre .0) _ (c .before .before .before .before .in-conflict .ensures) (not-false _ (c .before .before .before .if1 .left)))
+above-rest-requires c κs = (c .before .before .before .before .before .before .before .before .pre .0, c .before .before .before .before .before .before .before .before .pre .1, member-on _ _ _ _ _ (c .before .before .before .before .before .before .before .before .pre .0) _ (c .before .before .before .before .before .in-conflict .ensures) (not-false _ (c .before .before .before .before .if1 .left)), c .rest-level .ensures)
 
 returns-3 : tie.Need-returns-3
 unfolding clearNumber
-returns-3 c = sym (unless-yes _ _ (sym (c .before .before .before .before .before .before .in-conflict .ensures) ∙ not-false _ (c .before .before .before .before .before .if1 .left)) ∙ unless-yes _ _ (rw (← c .before .before .before .before .decided .ensures, ← c .before .before .before .is-prop .ensures) (not-false _ (c .before .before .if2 .left))) ∙ unless-no _ _ (sym (c .before .above-rest .ensures) ∙ not-true _ (c .if3 .taken)))
+returns-3 c = sym (unless-yes _ _ (sym (c .before .before .before .before .before .before .before .in-conflict .ensures) ∙ not-false _ (c .before .before .before .before .before .before .if1 .left)) ∙ unless-yes _ _ (rw (← c .before .before .before .before .before .decided .ensures, ← c .before .before .before .before .is-prop .ensures) (not-false _ (c .before .before .before .if2 .left))) ∙ unless-no _ _ (sym (c .before .above-rest .ensures) ∙ not-true _ (c .if3 .taken)))
 
 returns-4 : tie.Need-returns-4
 unfolding clearNumber
-returns-4 c = sym (unless-yes _ _ (sym (c .before .before .before .before .before .before .in-conflict .ensures) ∙ not-false _ (c .before .before .before .before .before .if1 .left)) ∙ unless-yes _ _ (rw (← c .before .before .before .before .decided .ensures, ← c .before .before .before .is-prop .ensures) (not-false _ (c .before .before .if2 .left))) ∙ unless-yes _ _ (sym (c .before .above-rest .ensures) ∙ not-false _ (c .if3 .left)))
+returns-4 c = sym (unless-yes _ _ (sym (c .before .before .before .before .before .before .before .in-conflict .ensures) ∙ not-false _ (c .before .before .before .before .before .before .if1 .left)) ∙ unless-yes _ _ (rw (← c .before .before .before .before .before .decided .ensures, ← c .before .before .before .before .is-prop .ensures) (not-false _ (c .before .before .before .if2 .left))) ∙ unless-yes _ _ (sym (c .before .above-rest .ensures) ∙ not-false _ (c .if3 .left)))
 
 pub clear-number-spec : {M : Type 1} → statement M
 clear-number-spec =
@@ -45,6 +48,7 @@ clear-number-spec =
     decided-requires
     is-prop-requires
     returns-2
+    rest-level-requires
     above-rest-requires
     returns-3
     returns-4)

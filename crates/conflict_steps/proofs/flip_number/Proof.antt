@@ -48,7 +48,7 @@ unfolding flipNumber
 returns-6 c = sym (unless-yes _ _ (rw (sym (c .before .before .before .before .before .before .before .before .before .before .before .before .in-conflict .ensures) ∙ not-false _ (c .before .before .before .before .before .before .before .before .before .before .before .if1 .left), sym (c .before .before .before .before .before .before .before .before .before .before .in-conflict2 .ensures) ∙ not-false _ (c .before .before .before .before .before .before .before .before .before .if2 .left))) ∙ unless-yes _ _ (sym (c .before .before .before .before .before .before .before .before .is-prop .ensures) ∙ not-false _ (c .before .before .before .before .before .before .before .if3 .left)) ∙ unless-yes _ _ (rw (sym (c .before .before .before .before .before .before .decided .ensures) ∙ c .before .before .before .before .before .if4 .left, sym (c .before .before .before .before .decided2 .ensures) ∙ c .before .before .before .if5 .left)) ∙ unless-no _ _ (rw (eq-eqb _ _ (c .if6 .taken))))
 
 share-requires : tie.Need-share-requires
-share-requires c κs = (c .before .before .before .before .before .before .before .before .before .before .before .before .before .before .before .pre .0, c .before .before .before .before .before .before .before .before .before .before .before .before .before .before .before .pre .1, c .before .before .before .before .before .before .before .before .before .before .before .before .before .before .before .pre .2, member-on _ _ _ _ _ (c .before .before .before .before .before .before .before .before .before .before .before .before .before .before .before .pre .0) _ (c .before .before .before .before .before .before .before .before .before .before .before .before .in-conflict .ensures) (not-false _ (c .before .before .before .before .before .before .before .before .before .before .before .if1 .left)), member-on _ _ _ _ _ (c .before .before .before .before .before .before .before .before .before .before .before .before .before .before .before .pre .0) _ (c .before .before .before .before .before .before .before .before .before .before .in-conflict2 .ensures) (not-false _ (c .before .before .before .before .before .before .before .before .before .if2 .left)), sym (c .before .before .before .before .before .before .decided .ensures) ∙ c .before .before .before .before .before .if4 .left, sym (c .before .before .before .before .decided2 .ensures) ∙ c .before .before .before .if5 .left)
+share-requires c κs = (c .before .before .before .before .before .before .before .before .before .before .before .before .before .before .before .pre .0, c .before .before .before .before .before .before .before .before .before .before .before .before .before .before .before .pre .1, c .before .before .before .before .before .before .before .before .before .before .before .before .before .before .before .pre .2, member-on _ _ _ _ _ (c .before .before .before .before .before .before .before .before .before .before .before .before .before .before .before .pre .0) _ (c .before .before .before .before .before .before .before .before .before .before .before .before .in-conflict .ensures) (not-false _ (c .before .before .before .before .before .before .before .before .before .before .before .if1 .left)), member-on _ _ _ _ _ (c .before .before .before .before .before .before .before .before .before .before .before .before .before .before .before .pre .0) _ (c .before .before .before .before .before .before .before .before .before .before .in-conflict2 .ensures) (not-false _ (c .before .before .before .before .before .before .before .before .before .if2 .left)), sym (c .before .before .before .before .before .before .decided .ensures) ∙ c .before .before .before .before .before .if4 .left, sym (c .before .before .before .before .decided2 .ensures) ∙ c .before .before .before .if5 .left, c .before .before .before .before .before .before .before .before .before .before .before .before .before .before .before .pre .3)
 
 returns-7 : tie.Need-returns-7
 unfolding flipNumber

@@ -23,7 +23,7 @@ unfolding jumpNumber
 returns-2 c = sym (unless-yes _ _ (sym (c .before .before .before .in-conflict .ensures) ∙ not-false _ (c .before .before .if1 .left)) ∙ unless-no _ _ (sym (c .before .is-prop .ensures) ∙ not-true _ (c .if2 .taken)))
 
 above-rest-requires : tie.Need-above-rest-requires
-above-rest-requires c κs = (c .before .before .before .before .before .before .pre .0, c .before .before .before .before .before .before .pre .1, member-on _ _ _ _ _ (c .before .before .before .before .before .before .pre .0) _ (c .before .before .before .in-conflict .ensures) (not-false _ (c .before .before .if1 .left)))
+above-rest-requires c κs = (c .before .before .before .before .before .before .pre .0, c .before .before .before .before .before .before .pre .1, member-on _ _ _ _ _ (c .before .before .before .before .before .before .pre .0) _ (c .before .before .before .in-conflict .ensures) (not-false _ (c .before .before .if1 .left)), c .before .before .before .before .before .before .pre .2)
 
 returns-3 : tie.Need-returns-3
 unfolding jumpNumber

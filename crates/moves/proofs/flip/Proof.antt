@@ -13,18 +13,6 @@ use Rattle.moves.proofs.flip.Tie as tie
 value-requires : tie.Need-value-requires
 value-requires c κs = (c .before .before .pre .0 .laid, c .before .before .pre .0 .row, c .before .before .pre .0 .within _ (c .before .before .pre .0 .member))
 
-mul-level-of : tie.Need-mul-level-of
-mul-level-of c = search needs
-
-mul-level-of-2 : tie.Need-mul-level-of-2
-mul-level-of-2 c = search needs
-
-add-level-of : tie.Need-add-level-of
-add-level-of c = search needs
-
-level-of-requires : tie.Need-level-of-requires
-level-of-requires c κs = search needs
-
 lower-requires : tie.Need-lower-requires
 lower-requires c κs = search needs
 
@@ -35,23 +23,19 @@ other-requires : tie.Need-other-requires
 other-requires c κs = search needs
 
 decide-requires : tie.Need-decide-requires
-decide-requires c κs = (c .before .before .before .before .before .cut .ensures .laid, c .before .before .before .before .before .before .before .before .before .before .before .before .before .pre .0 .row, gone-after _ _ _ _ _ _ _ _ _ (c .before .before .before .before .before .before .before .before .before .before .before .before .before .pre .0 .laid) (c .before .before .before .before .before .cut .ensures) (omega (arith, c .before .before .before .before .before .before .before .lower .ensures, c .before .before .before .before .before .before .before .before .level-of .ensures, c .before .before .before .before .before .before .before .before .before .before .before .before .before .pre .0 .above)), c .before .before .before .before .before .cut .ensures .greatest, top-after _ _ _ _ _ _ _ _ (c .before .before .before .before .before .cut .ensures) (c .before .before .before .before .before .before .before .before .before .before .before .before .before .pre .1))
+decide-requires c κs = (c .before .before .before .before .before .cut .ensures .laid, c .before .before .before .before .before .before .before .before .before .before .before .pre .0 .row, gone-after _ _ _ _ _ _ _ _ _ (c .before .before .before .before .before .before .before .before .before .before .before .pre .0 .laid) (c .before .before .before .before .before .cut .ensures) (omega (arith, c .before .before .before .before .before .before .before .lower .ensures, c .before .before .before .before .before .before .before .before .before .before .before .pre .2, c .before .before .before .before .before .before .before .before .before .before .before .pre .0 .above)), c .before .before .before .before .before .cut .ensures .greatest, top-after _ _ _ _ _ _ _ _ (c .before .before .before .before .before .cut .ensures) (c .before .before .before .before .before .before .before .before .before .before .before .pre .1))
 
 same-length : tie.Need-same-length
 same-length c = search needs
 
 returns : tie.Need-returns
-returns c = flip-stands _ _ _ _ _ _ _ _ _ _ (c .before .before .before .before .before .before .before .before .cut .ensures .trail ∙ ap (λ (x : ℕ). keptTo x (trailIn (c .before .before .before .before .before .before .before .before .before .before .before .before .before .before .before .before .args .w) (c .before .before .before .before .before .before .before .before .before .before .before .before .before .before .before .before .args .terms) (c .before .before .before .before .before .before .before .before .before .before .before .before .before .before .before .before .args .work .now) (c .before .before .before .before .before .before .before .before .before .before .before .before .before .before .before .before .args .n))) (c .before .before .before .before .before .before .before .before .before .before .lower .ensures ∙ ap (λ (x : ℕ). x - 1) (c .before .before .before .before .before .before .before .before .before .before .before .level-of .ensures))) (c .before .before .before .other .ensures ∙ ap opposite (c .before .before .before .before .before .before .before .before .before .before .before .before .before .value .ensures)) (c .before .before .decide .ensures)
+returns c = flip-stands _ _ _ _ _ _ _ _ _ _ (c .before .before .before .before .before .before .before .before .cut .ensures .trail ∙ ap (λ (x : ℕ). keptTo x (trailIn (c .before .before .before .before .before .before .before .before .before .before .before .before .before .before .args .w) (c .before .before .before .before .before .before .before .before .before .before .before .before .before .before .args .terms) (c .before .before .before .before .before .before .before .before .before .before .before .before .before .before .args .work .now) (c .before .before .before .before .before .before .before .before .before .before .before .before .before .before .args .n))) (c .before .before .before .before .before .before .before .before .before .before .lower .ensures ∙ ap (λ (x : ℕ). x - 1) (c .before .before .before .before .before .before .before .before .before .before .before .before .before .before .pre .2))) (c .before .before .before .other .ensures ∙ ap opposite (c .before .before .before .before .before .before .before .before .before .before .before .value .ensures)) (c .before .before .decide .ensures)
 
 pub flip-spec : {M : Type 1} → statement M
 flip-spec =
     tie.close
     (tie.spec
     value-requires
-    mul-level-of
-    mul-level-of-2
-    add-level-of
-    level-of-requires
     lower-requires
     cut-requires
     other-requires

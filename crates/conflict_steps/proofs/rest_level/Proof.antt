@@ -1,0 +1,16 @@
+-- `conflict_steps::rest_level` meets its contract.
+use borrow.Author.Needs.{needs}
+use Rattle.conflict_steps.proofs.rest_level.Statement.{statement}
+use Rattle.conflict_steps.proofs.rest_level.Tie as tie
+
+place-requires : tie.Need-place-requires
+place-requires c κs = search needs
+
+level-without-requires : tie.Need-level-without-requires
+level-without-requires c κs = rw (c .place .ensures) (c .before .before .before .pre .laid, c .before .before .before .pre .laid .enough, c .before .before .before .pre .within)
+
+returns : tie.Need-returns
+returns c = rw (c .before .place .ensures) at (c .level-without .ensures)
+
+pub rest-level-spec : {M : Type 1} → statement M
+rest-level-spec = tie.close (tie.spec place-requires level-without-requires returns)
