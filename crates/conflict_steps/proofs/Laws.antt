@@ -27,6 +27,7 @@ use Rattle.state.specs.declared.Answer.{Answer}
 use Rattle.state.specs.declared.Answer.the-variants.{Allowed, Refused}
 use Rattle.state.specs.States.{stateIn, Held, Standing, Answers}
 use Rattle.state.proofs.States.{trail-reached, conflict-within, refused-by, passed-by}
+use Rattle.state.proofs.Landed.{landed, opened}
 use Rattle.conflict_steps.specs.Conflicts.{Found, inSearch}
 
 -- what a step of a conflict finds
@@ -144,19 +145,11 @@ turned-away w n ts ws a e h = (refused-by a e h, refl)
 -- the search goes on
 pub search-on : (w n : ℕ) (ts ws vs : List ℕ) {c k : ℕ} (count : ℕ) (top : Level) (tr : Trail) {r : Answer} → n ≡ termRows ts → k ≡ c → k ≡ 0
     → Stands w n vs count (top .0) tr → r ≡ Allowed (inSearch count top) → Answers w n ts ws vs (answer c (calculus.allowed (calculus.searching tr))) r
-unfolding Answers stateIn
-search-on w n ts ws vs count top tr h e z s q =
-    rw q (
-      passed-by _ e z ∙ ap (λ (x : Trail). calculus.allowed (calculus.searching x)) (sym (s .trail)),
-      record { rows = h; laid = s .laid; top = s .greatest ∙ ap topLevel (sym (s .trail)) },
-    )
+search-on w n ts ws vs count top tr h e z s q = rw q (landed w n ts ws vs (inSearch count top) refl h s (passed-by _ e z))
 
 -- there is a conflict still
 pub conflict-on : (w n : ℕ) (ts ws vs : List ℕ) {c k : ℕ} (st : Status) (E : Set) → Held w n ts ws st → k ≡ c → k ≡ 0
     → Conflicts w n vs (st .count) (trailIn w n ws (st .count)) E
     → Answers w n ts ws vs (answer c (calculus.allowed (calculus.conflict (trailIn w n ws (st .count)) E))) (Allowed (record { count = st .count; top = st .top; conflict = true }))
-unfolding Answers stateIn
-conflict-on w n ts ws vs st E h e z s = (
-  passed-by _ e z ∙ (λ i. calculus.allowed (calculus.conflict (sym (s .trail) i) (sym (s .conflict) i))),
-  record { rows = h .rows; laid = s .laid; top = h .top ∙ ap topLevel (sym (s .trail)) },
-)
+conflict-on w n ts ws vs st E h e z s =
+    opened w n ts ws vs (record { count = st .count; top = st .top; conflict = true }) refl (h .rows) (h .top) s (passed-by _ e z)
