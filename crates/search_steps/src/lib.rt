@@ -186,7 +186,7 @@ fn clash_number(terms: &[u16], work: &[u64], w: usize, n: usize, count: usize, x
     if c != 0 {
         return c;
     }
-    if !state::has_value(work, w, n, count, Row(x.term), state::opposite(x.value)) {
+    if !state::has_value(work, w, n, count, Row(x.term), moves::other(x.value)) {
         return 16;
     }
     0

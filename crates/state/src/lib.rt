@@ -1,7 +1,6 @@
 // Where a run stands, what a step answers, and look-ups on the trail that any number may be asked of.
 ghost use mathlib.Core.Path.{_≡_};
 ghost use Prim.Native.Nat.{_<_};
-ghost use Rattle.calculus.specs.Lists.{opposite};
 ghost use Rattle.calculus.specs.Terms.{prop};
 ghost use Rattle.calculus.specs.Trail.{on, valueAt, levelAt, assigned};
 ghost use Rattle.trail.specs.Words.{trailIn, Laid};
@@ -71,13 +70,6 @@ pub fn has_value(work: &[u64], w: usize, n: usize, count: usize, t: Row, v: u16)
         return trail::has_value(work, w, n, count, t, v);
     }
     false
-}
-
-// The other truth value.
-pub fn opposite(v: u16) -> u16
-    ensures { λ r. ⌜ r ≡ opposite v ⌝ }
-{
-    if v == 0 { 1 } else { 0 }
 }
 
 // Whether term row t is of sort prop.
