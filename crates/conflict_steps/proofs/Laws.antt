@@ -25,7 +25,7 @@ use Rattle.moves.specs.Post.{conflictIn, Stands, Conflicts, Above, restLevel, l
 use Rattle.state.specs.declared.Status.{Status}
 use Rattle.state.specs.declared.Answer.{Answer}
 use Rattle.state.specs.declared.Answer.the-variants.{Allowed, Refused}
-use Rattle.state.specs.States.{stateIn, Held, Standing, Answers}
+use Rattle.state.specs.States.{Held, Standing, Answers}
 use Rattle.state.proofs.States.{trail-reached, conflict-within, refused-by, passed-by}
 use Rattle.state.proofs.Landed.{landed, opened}
 use Rattle.conflict_steps.specs.Conflicts.{Found, inSearch}
