@@ -254,6 +254,10 @@ fn bad_lines() {
     assert_eq!(trouble(&TEXT.replace("b B", "b\t B")), (31, 6, 0));
     assert_eq!(
         trouble(&TEXT.replace("b B", &format!("b {}", "B".repeat(65)))),
+        (31, 6, 2)
+    );
+    assert_eq!(
+        trouble(&TEXT.replace("b B", &format!("b {}", "B".repeat(525)))),
         (31, 6, 0)
     );
 }
