@@ -25,9 +25,6 @@ use Rattle.moves.specs.Post.{conflictIn, Stands, Conflicts}
 pub rows-in : (w N : ℕ) (ws : List ℕ) (n : ℕ) (s : Set) → Laid w N ws n → Within s (trailIn w N ws n) → (u : ℕ) → s u ≡ true → u / 64 < w
 rows-in w N ws n s laid h u m = let l = on-below N u (trailIn w N ws n) (laid .below) (h u m) in omega (arith, laid .wide)
 
-pub within-same : (s r : Set) (tr old : Trail) → r ≡ s → tr ≡ old → Within s old → Within r tr
-within-same s r tr old e q h u m = ap (λ (x : Trail). on x u) q ∙ h u (sym (ap (λ (x : Set). x u) e) ∙ m)
-
 -- ---- one entry more
 
 -- a decision

@@ -68,7 +68,7 @@ pub fn decide(
     }
 }
 
-// deduce: term t with value v, justified by the rows in ps. The justification is built in the term's own words.
+// deduce: term t with value v, justified by the rows in ps, whose level is `level`. The justification is built in the term's own words.
 pub fn propagate(
     work: &mut [u64],
     w: usize,
@@ -78,13 +78,13 @@ pub fn propagate(
     t: Row,
     v: u16,
     ps: &[u16],
+    level: Level,
 ) -> Kept
-    requires { ⌜ Laid w terms (now work) n × (t .0 < terms) × (on (trailIn w terms (now work) n) (t .0) ≡ false) × (top .0 ≡ topLevel (trailIn w terms (now work) n)) × Within (has (filled (now ps))) (trailIn w terms (now work) n) ⌝ }
+    requires { ⌜ Laid w terms (now work) n × (t .0 < terms) × (on (trailIn w terms (now work) n) (t .0) ≡ false) × (top .0 ≡ topLevel (trailIn w terms (now work) n)) × Within (has (filled (now ps))) (trailIn w terms (now work) n) × (level .0 ≡ levelOf (trailIn w terms (now work) n) (has (filled (now ps)))) ⌝ }
     ensures { λ r. ⌜ Stands w terms (now (work .exit)) (r .count) (r .top .0) (justified (trailIn w terms (now (work .entry)) n) (t .0) v (has (filled (now (ps .entry)))) ∷ trailIn w terms (now (work .entry)) n) ⌝ }
 {
     let b = t.0 as usize * w;
     gather(work, b, w, ps);
-    let level = levels::level_of(work, w, terms, n, b);
     trail::push(work, w, terms, n, t, v, level, false);
     let l = trail::larger(top.0, level.0);
     Kept {

@@ -7,14 +7,15 @@ use Prim.Native.Nat.{ℕ}
 use lib.Dec.{eqb}
 use borrow.Author.Tests.{eqb-true, eqb-false, eq-eqb, ne-eqb}
 use Rattle.calculus.specs.declared.Premise.{Premise}
+use Rattle.calculus.specs.declared.Rule.the-variants as rule
 use Rattle.calculus.specs.declared.Step.{Step}
-use Rattle.calculus.specs.Lists.{all, has, eqList, isTrue}
+use Rattle.calculus.specs.Lists.{all, has, eqList, num, isTrue}
 use Rattle.calculus.specs.Sheets.{blank}
-use Rattle.calculus.specs.Terms.{filled}
-use Rattle.calculus.specs.Rules.{rowOf, valueOf, gives, bare, single, double, leading, notOf, andOf, orOf, others, unitAt, equates, pairs}
+use Rattle.calculus.specs.Terms.{filled, cells, args, argsOf, termAt, notHead, andHead, orHead}
+use Rattle.calculus.specs.Rules.{fits, rowOf, valueOf, gives, bare, single, double, leading, notOf, andOf, orOf, evaluates, others, unitAt, equates, pairs}
 use Rattle.calculus.specs.Steps.{premises}
 use Rattle.calculus.proofs.Facts.{both-true}
-use Rattle.rules.specs.Claims.{gap, stated, valued}
+use Rattle.rules.specs.Claims.{gap, stated, valued, Looked}
 
 -- ---- how many premises
 
@@ -53,6 +54,44 @@ leading-flat p ps f = go (gap p)
     go : (g : Bool) → leading (cond g [] (p ∷ stated ps)) f ≡ (not g && f p (stated ps))
     go true = refl
     go false = refl
+
+-- ---- one head of several
+
+-- unit, where the first premise is an or
+pub unit-or : (ts : List ℕ) (l v : ℕ) (p : Premise) (ps : List Premise) → termAt ts (p .row) .head ≡ orHead
+    → (not (gap p) && ((eqb (termAt ts (p .row) .head) orHead && (eqb (p .value) 1 && eqb v 1)) && unitAt 0 l (argsOf (termAt ts (p .row))) (stated ps)))
+    ≡ fits ts rule.Unit l v (stated (p ∷ ps))
+unfolding fits cells args
+unit-or ts l v p ps e = rw (leading-flat, e, or-false)
+
+-- unit, where it is none
+pub unit-and : (ts : List ℕ) (l v : ℕ) (p : Premise) (ps : List Premise) → eqb (termAt ts (p .row) .head) orHead ≡ false
+    → (not (gap p) && ((eqb (termAt ts (p .row) .head) andHead && (eqb (p .value) 0 && eqb v 0)) && unitAt 1 l (argsOf (termAt ts (p .row))) (stated ps)))
+    ≡ fits ts rule.Unit l v (stated (p ∷ ps))
+unfolding fits cells args
+unit-and ts l v p ps e = rw (leading-flat, e)
+
+-- eval, where the premises are the arguments, and where they are not
+pub eval-like : (ts : List ℕ) (l v : ℕ) (ps : List Premise) → eqList (map rowOf ps) (argsOf (termAt ts l)) ≡ true
+    → evaluates (termAt ts l .head) (map valueOf ps) v ≡ fits ts rule.Evaluation l v ps
+unfolding fits cells args
+eval-like ts l v ps e = rw e
+
+pub eval-unlike : (ts : List ℕ) (l v : ℕ) (ps : List Premise) → eqList (map rowOf ps) (argsOf (termAt ts l)) ≡ false → false ≡ fits ts rule.Evaluation l v ps
+unfolding fits cells args
+eval-unlike ts l v ps e = rw e
+
+pub evaluates-not : (h : ℕ) (xs : List ℕ) (v : ℕ) → h ≡ notHead → eqb v (num (notOf xs)) ≡ evaluates h xs v
+evaluates-not h xs v e = rw (e, or-false)
+
+pub evaluates-and : (h : ℕ) (xs : List ℕ) (v : ℕ) → h ≡ andHead → eqb v (num (andOf xs)) ≡ evaluates h xs v
+evaluates-and h xs v e = rw (e, or-false)
+
+pub evaluates-or : (h : ℕ) (xs : List ℕ) (v : ℕ) → h ≡ orHead → eqb v (num (orOf xs)) ≡ evaluates h xs v
+evaluates-or h xs v e = rw e
+
+pub evaluates-none : (h : ℕ) (xs : List ℕ) (v : ℕ) → eqb h notHead ≡ false → eqb h andHead ≡ false → eqb h orHead ≡ false → false ≡ evaluates h xs v
+evaluates-none h xs v a b c = rw (a, b, c)
 
 -- ---- one more cell
 
@@ -172,29 +211,7 @@ pairs-gap ts a b xs ys p ps e = pairs-more ts a b xs ys p ps ∙ rw e (go (eqb a
     go false true r = refl
     go false false r = refl
 
--- ---- a claim's premises are those of its step row, with their values
-
-pub stated-valued : (val : ℕ → ℕ) (xs : List ℕ) → stated (map (valued val) xs) ≡ map (valued val) (filled xs)
-unfolding stated
-stated-valued val [] = refl
-stated-valued val (x ∷ xs) = go (eqb x blank) (stated-valued val xs)
-  where
-    go : (g : Bool) → stated (map (valued val) xs) ≡ map (valued val) (filled xs)
-        → cond g [] (valued val x ∷ stated (map (valued val) xs)) ≡ map (valued val) (cond g [] (x ∷ filled xs))
-    go true e = refl
-    go false e = ap (λ (ps : List Premise). valued val x ∷ ps) e
-
--- the five columns of a step row, each with the value that val gives it
-pub premises-valued : (val : ℕ → ℕ) (x : Step)
-    → stated (valued val (x .p) ∷ valued val (x .q) ∷ valued val (x .r) ∷ valued val (x .s) ∷ valued val (x .t) ∷ []) ≡ map (valued val) (premises x)
-unfolding premises
-premises-valued val x = stated-valued val (x .p ∷ x .q ∷ x .r ∷ x .s ∷ x .t ∷ [])
-
--- ---- the same where a value is known only of a row that passes a test, as one on the trail
-
--- where the row of a premise passes the test, its value is what val gives
-abbrev pub Looked : (ℕ → Bool) → (ℕ → ℕ) → Premise → Type 0
-Looked here val p = here (p .row) ≡ true → p .value ≡ val (p .row)
+-- ---- a claim's premises are those of its step row, with their values, where a value is known of a row that passes a test
 
 abbrev pub AllLooked : (ℕ → Bool) → (ℕ → ℕ) → List Premise → Type 0
 AllLooked here val [] = Unit {0}

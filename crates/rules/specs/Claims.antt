@@ -1,5 +1,6 @@
 -- The premises of a claim.
-use mathlib.Core.Bool.{Bool, cond}
+use mathlib.Core.Path.{_≡_}
+use mathlib.Core.Bool.{Bool, true, cond}
 use mathlib.Core.List.{List, [], _∷_}
 use Prim.Native.Nat.{ℕ}
 use lib.Dec.{eqb}
@@ -23,3 +24,7 @@ premisesOf x = stated (x .p ∷ x .q ∷ x .r ∷ x .s ∷ x .t ∷ [])
 -- row p with the value that val gives it
 abbrev pub valued : (ℕ → ℕ) → ℕ → Premise
 valued val p = record { row = p; value = val p }
+
+-- where the row of a premise passes a test, as that it stands on the trail, the premise's value is what val gives
+abbrev pub Looked : (ℕ → Bool) → (ℕ → ℕ) → Premise → Type 0
+Looked here val p = here (p .row) ≡ true → p .value ≡ val (p .row)

@@ -6,7 +6,7 @@ ghost use Rattle.calculus.specs.declared.Premise.{Premise};
 ghost use Rattle.calculus.specs.declared.Rule.the-variants.{Evaluation};
 ghost use Rattle.calculus.specs.Lists.{num, eqList};
 ghost use Rattle.calculus.specs.Terms.{filled, argsOf};
-ghost use Rattle.calculus.specs.Rules.{fits, rowOf, valueOf, notOf, andOf, orOf};
+ghost use Rattle.calculus.specs.Rules.{fits, rowOf, valueOf, notOf, andOf, orOf, evaluates};
 ghost use Rattle.rules.specs.Claims.{stated, premisesOf};
 use super::Claim;
 use super::heads::AND;
@@ -85,16 +85,29 @@ fn number(b: bool) -> u16
     if b { 1 } else { 0 }
 }
 
+// Whether head h over the premises' values has the claim's value.
+fn evaluates(h: u16, x: Claim) -> bool
+    ensures { λ r. ⌜ r ≡ evaluates h (map valueOf (premisesOf x)) (x .value) ⌝ }
+{
+    if h == NOT {
+        return x.value == number(first_false(x));
+    }
+    if h == AND {
+        return x.value == number(all_true(x));
+    }
+    if h == OR {
+        return x.value == number(any_true(x));
+    }
+    false
+}
+
 // All arguments give not, and, or its value.
 pub fn eval(terms: &[u16], x: Claim) -> bool
     ensures { λ r. ⌜ r ≡ fits (now (terms .entry)) Evaluation (x .term) (x .value) (premisesOf x) ⌝ }
 {
     let l = term_at(terms, Row(x.term));
-    let e = same_rows(l, x);
-    let n = number(first_false(x));
-    let a = number(all_true(x));
-    let o = number(any_true(x));
-    e
-        & (((l.head == NOT) & (x.value == n))
-            | (((l.head == AND) & (x.value == a)) | ((l.head == OR) & (x.value == o))))
+    if !same_rows(l, x) {
+        return false;
+    }
+    evaluates(l.head, x)
 }

@@ -54,9 +54,12 @@ pub fn unit(terms: &[u16], x: Claim) -> bool
 {
     let p = term_at(terms, Row(x.p.row));
     let y = after_first(x);
-    let o = connected(p, OR, x.p, 1, x.value, 1);
-    let f = unit_at(0, Row(x.term), p, y);
+    if p.head == OR {
+        let o = connected(p, OR, x.p, 1, x.value, 1);
+        let f = unit_at(0, Row(x.term), p, y);
+        return !(x.p.row == BLANK) & (o & f);
+    }
     let a = connected(p, AND, x.p, 0, x.value, 0);
     let t = unit_at(1, Row(x.term), p, y);
-    !(x.p.row == BLANK) & ((o & f) | (a & t))
+    !(x.p.row == BLANK) & (a & t)
 }

@@ -20,7 +20,7 @@ use Rattle.calculus.specs.Rules.{fits, fitOf, ruleOf}
 use Rattle.calculus.specs.Steps as calculus
 use Rattle.calculus.specs.Steps.{premises, decideNumber, inferenceNumber, deduceNumber, clashNumber}
 use Rattle.calculus.proofs.Entries.{level-empty}
-use Rattle.calculus.proofs.Facts.{T-false, unless-ok}
+use Rattle.calculus.proofs.Facts.{T-false, T-true, and-l, both-true, unless-ok}
 use Rattle.calculus.proofs.Reached.{level-more, top-length, inference-ok}
 use Rattle.rules.specs.declared.Claim.{Claim}
 use Rattle.rules.specs.Claims.{premisesOf}
@@ -30,7 +30,7 @@ use Rattle.trail.proofs.Laws.{trail-length}
 use Rattle.state.specs.declared.Status.{Status}
 use Rattle.state.specs.States.{Standing}
 use Rattle.state.proofs.States.{trail-reached}
-use Rattle.search_steps.specs.Claims.{Claims}
+use Rattle.search_steps.specs.Claims.{Claims, LevelOf}
 
 -- ---- premises
 
@@ -40,12 +40,14 @@ all-blank tr p xs e = rw e
 pub all-more : (tr : Trail) (p : ℕ) (xs : List ℕ) → eqb p blank ≡ false → all (on tr) (filled (p ∷ xs)) ≡ (on tr p && all (on tr) (filled xs))
 all-more tr p xs e = rw e
 
-pub level-blank : (tr : Trail) (p : ℕ) (xs : List ℕ) → eqb p blank ≡ true → levelOf tr (has (filled (p ∷ xs))) ≡ 0
-level-blank tr p xs e = rw e (level-empty tr)
+pub level-blank : (tr : Trail) (p : ℕ) (xs : List ℕ) → eqb p blank ≡ true → LevelOf tr (p ∷ xs) 0
+level-blank tr p xs e = λ h. rw e (sym (level-empty tr))
 
-pub level-filled : (tr : Trail) (p : ℕ) (xs : List ℕ) → Distinct tr → eqb p blank ≡ false
-    → levelOf tr (has (filled (p ∷ xs))) ≡ max (levelAt tr p) (levelOf tr (has (filled xs)))
-level-filled tr p xs d e = rw e (level-more tr (has (filled xs)) p d)
+pub level-filled : (tr : Trail) (p l m : ℕ) (xs : List ℕ) → Distinct tr → eqb p blank ≡ false → (on tr p ≡ true → l ≡ levelAt tr p)
+    → LevelOf tr xs m → LevelOf tr (p ∷ xs) (max l m)
+level-filled tr p l m xs d e a b = λ h.
+    let k = both-true _ _ (sym (all-more tr p xs e) ∙ h) in
+    rw (e, a (k .0), b (k .1)) (sym (level-more tr (has (filled xs)) p d))
 
 -- ---- numbers
 
@@ -116,9 +118,24 @@ deduce-new ts tr r l v ps e =
     let c = unless-ok _ 15 _ (omega arith) (b .1) in
     (a .0, T-false _ (c .0))
 
-pub clash-on : (ts : List ℕ) (tr : Trail) (r l v : ℕ) (ps : List ℕ) → clashNumber ts tr r l v ps ≡ 0 → Within (has ps) tr
+pub inference-on : (ts : List ℕ) (tr : Trail) (r l v : ℕ) (ps : List ℕ) (rest : ℕ) → inferenceNumber ts tr r l v ps rest ≡ 0 → all (on tr) ps ≡ true
+unfolding inferenceNumber
+inference-on ts tr r l v ps rest e =
+    let a = unless-ok _ 22 _ (omega arith) e in
+    let b = unless-ok _ 12 _ (omega arith) (a .1) in
+    T-true _ (b .0)
+
+pub deduce-on : (ts : List ℕ) (tr : Trail) (r l v : ℕ) (ps : List ℕ) → deduceNumber ts tr r l v ps ≡ 0 → all (on tr) ps ≡ true
+unfolding deduceNumber
+deduce-on ts tr r l v ps e = inference-on ts tr r l v ps _ e
+
+pub clash-on : (ts : List ℕ) (tr : Trail) (r l v : ℕ) (ps : List ℕ) → clashNumber ts tr r l v ps ≡ 0
+    → Within (has ps) tr × (all (on tr) ps ≡ true) × (on tr l ≡ true)
 unfolding clashNumber
-clash-on ts tr r l v ps e = inference-ok ts tr r l v ps _ e .0
+clash-on ts tr r l v ps e =
+    let a = inference-ok ts tr r l v ps _ e in
+    let b = unless-ok _ 16 _ (omega arith) (a .1) in
+    (a .0, inference-on ts tr r l v ps _ e, T-true _ (and-l (on tr l) _ (b .0)))
 
 -- ---- the level of a clash
 

@@ -1,17 +1,17 @@
 // The steps of the search: decide, deduce, clash. Each has its number, found by reading alone, and then what it does.
 ghost use mathlib.Core.Path.{_≡_};
-ghost use mathlib.Core.Bool.{false};
-ghost use mathlib.Core.List.{List, _∷_};
+ghost use mathlib.Core.Bool.{true, false};
+ghost use mathlib.Core.List.{List, [], _∷_};
 ghost use Prim.Native.Nat.{ℕ, _<_};
 ghost use Rattle.calculus.specs.Lists.{all, has};
 ghost use Rattle.calculus.specs.Terms.{filled};
 ghost use Rattle.calculus.specs.Inputs.{valueSuits};
 ghost use Rattle.calculus.specs.Trail.{on, valueAt, levelOf};
 ghost use Rattle.calculus.specs.Steps.{premises, decideNumber, inferenceNumber, deduceNumber, clashNumber, clashSet, decide, deduce, clash};
-ghost use Rattle.rules.specs.Claims.{valued};
+ghost use Rattle.rules.specs.Claims.{Looked};
 ghost use Rattle.trail.specs.Words.{trailIn, Laid};
 ghost use Rattle.state.specs.States.{Standing, Answers};
-ghost use Rattle.search_steps.specs.Claims.{Claims};
+ghost use Rattle.search_steps.specs.Claims.{Claims, LevelOf};
 use calculus::Fit;
 use calculus::Level;
 use calculus::Premise;
@@ -45,21 +45,32 @@ fn more_on(work: &[u64], w: usize, n: usize, count: usize, p: u16, rest: bool) -
     s & rest
 }
 
+// Whether every premise from column r on stands on the trail. Most rows have none there, and then nothing more is read.
+fn late_on(work: &[u64], w: usize, n: usize, count: usize, x: Step) -> bool
+    requires { ⌜ Laid w n (now work) count ⌝ }
+    ensures { λ r. ⌜ r ≡ all (on (trailIn w n (now (work .entry)) count)) (filled (x .r ∷ x .s ∷ x .t ∷ [])) ⌝ }
+{
+    if x.r == BLANK {
+        return true;
+    }
+    let t = more_on(work, w, n, count, x.t, true);
+    let s = more_on(work, w, n, count, x.s, t);
+    more_on(work, w, n, count, x.r, s)
+}
+
 // Whether every premise stands on the trail.
 fn all_on(work: &[u64], w: usize, n: usize, count: usize, x: Step) -> bool
     requires { ⌜ Laid w n (now work) count ⌝ }
     ensures { λ r. ⌜ r ≡ all (on (trailIn w n (now (work .entry)) count)) (premises x) ⌝ }
 {
-    let t = more_on(work, w, n, count, x.t, true);
-    let s = more_on(work, w, n, count, x.s, t);
-    let r = more_on(work, w, n, count, x.r, s);
+    let r = late_on(work, w, n, count, x);
     let q = more_on(work, w, n, count, x.q, r);
     more_on(work, w, n, count, x.p, q)
 }
 
 fn more_level(work: &[u64], w: usize, n: usize, count: usize, p: u16, rest: u64) -> u64
     requires { ⌜ Laid w n (now work) count ⌝ }
-    ensures { λ r. ⌜ ((xs : List ℕ) → rest ≡ levelOf (trailIn w n (now (work .entry)) count) (has (filled xs)) → r ≡ levelOf (trailIn w n (now (work .entry)) count) (has (filled (p ∷ xs)))) ⌝ }
+    ensures { λ r. ⌜ ((xs : List ℕ) → LevelOf (trailIn w n (now (work .entry)) count) xs rest → LevelOf (trailIn w n (now (work .entry)) count) (p ∷ xs) r) ⌝ }
 {
     if p == BLANK {
         return 0;
@@ -68,21 +79,32 @@ fn more_level(work: &[u64], w: usize, n: usize, count: usize, p: u16, rest: u64)
     trail::larger(l.0, rest)
 }
 
-// The level of the premises as a set.
-fn premises_level(work: &[u64], w: usize, n: usize, count: usize, x: Step) -> Level
+// The level of the premises from column r on.
+fn late_level(work: &[u64], w: usize, n: usize, count: usize, x: Step) -> u64
     requires { ⌜ Laid w n (now work) count ⌝ }
-    ensures { λ r. ⌜ r .0 ≡ levelOf (trailIn w n (now (work .entry)) count) (has (premises x)) ⌝ }
+    ensures { λ r. ⌜ LevelOf (trailIn w n (now (work .entry)) count) (x .r ∷ x .s ∷ x .t ∷ []) r ⌝ }
 {
+    if x.r == BLANK {
+        return 0;
+    }
     let t = more_level(work, w, n, count, x.t, 0);
     let s = more_level(work, w, n, count, x.s, t);
-    let r = more_level(work, w, n, count, x.r, s);
+    more_level(work, w, n, count, x.r, s)
+}
+
+// The level of the premises as a set, where all stand on the trail.
+fn premises_level(work: &[u64], w: usize, n: usize, count: usize, x: Step) -> Level
+    requires { ⌜ Laid w n (now work) count × (all (on (trailIn w n (now work) count)) (premises x) ≡ true) ⌝ }
+    ensures { λ r. ⌜ r .0 ≡ levelOf (trailIn w n (now (work .entry)) count) (has (premises x)) ⌝ }
+{
+    let r = late_level(work, w, n, count, x);
     let q = more_level(work, w, n, count, x.q, r);
     Level(more_level(work, w, n, count, x.p, q))
 }
 
-// The level of the premises and the term.
+// The level of the premises and the term, where all stand on the trail.
 fn clash_level(work: &[u64], w: usize, n: usize, count: usize, x: Step) -> u64
-    requires { ⌜ Laid w n (now work) count ⌝ }
+    requires { ⌜ Laid w n (now work) count × (all (on (trailIn w n (now work) count)) (premises x) ≡ true) × (on (trailIn w n (now work) count) (x .term) ≡ true) ⌝ }
     ensures { λ r. ⌜ r ≡ levelOf (trailIn w n (now (work .entry)) count) (clashSet (x .term) (premises x)) ⌝ }
 {
     let l = state::level_at(work, w, n, count, Row(x.term));
@@ -90,10 +112,10 @@ fn clash_level(work: &[u64], w: usize, n: usize, count: usize, x: Step) -> u64
     trail::larger(l.0, p.0)
 }
 
-// A premise column with its value on the trail.
+// A premise column with its value, where it stands on the trail.
 fn premise(work: &[u64], w: usize, n: usize, count: usize, p: u16) -> Premise
     requires { ⌜ Laid w n (now work) count ⌝ }
-    ensures { λ r. ⌜ r ≡ valued (valueAt (trailIn w n (now (work .entry)) count)) p ⌝ }
+    ensures { λ r. ⌜ (r .row ≡ p) × Looked (on (trailIn w n (now (work .entry)) count)) (valueAt (trailIn w n (now (work .entry)) count)) r ⌝ }
 {
     Premise {
         row: p,
@@ -101,9 +123,9 @@ fn premise(work: &[u64], w: usize, n: usize, count: usize, p: u16) -> Premise
     }
 }
 
-// What the row claims: its term, its value, and its premises with their values on the trail.
+// What the row claims: its term, its value, and its premises, which all stand on the trail, with their values there.
 fn claim(work: &[u64], w: usize, n: usize, count: usize, x: Step) -> Claim
-    requires { ⌜ Laid w n (now work) count ⌝ }
+    requires { ⌜ Laid w n (now work) count × (all (on (trailIn w n (now work) count)) (premises x) ≡ true) ⌝ }
     ensures { λ r. ⌜ Claims (trailIn w n (now (work .entry)) count) x r ⌝ }
 {
     Claim {
@@ -229,8 +251,19 @@ pub fn deduce(terms: &[u16], work: &mut [u64], w: usize, n: usize, st: Status, x
     if c != 0 {
         return Answer::Refused(c);
     }
+    let level = premises_level(work, w, n, st.count, x);
     let ps = [x.p, x.q, x.r, x.s, x.t];
-    let kept = moves::propagate(work, w, n, st.count, st.top, Row(x.term), x.value, &ps);
+    let kept = moves::propagate(
+        work,
+        w,
+        n,
+        st.count,
+        st.top,
+        Row(x.term),
+        x.value,
+        &ps,
+        level,
+    );
     let top = kept.top;
     Answer::Allowed(Status {
         count: kept.count,

@@ -6,13 +6,11 @@ use mathlib.Core.List.{List, [], _∷_}
 use Prim.Native.Nat.{ℕ, zero, suc, _≤_}
 use native.Mathlib.Omega.{arith}
 use lib.Dec.{eqb, eqb→eq}
-use Rattle.calculus.specs.Sheets.{blank}
-use Rattle.calculus.specs.Trail.{Set, Trail, Entry, on, valueAt, levelAt}
+use Rattle.calculus.specs.Trail.{Set, Trail, on}
 use Rattle.calculus.specs.Steps as calculus
 use Rattle.calculus.specs.Steps.{answer}
 use Rattle.calculus.specs.Reached.{Within, Below, Reached, ReachedState}
 use Rattle.calculus.proofs.Facts.{is-or-not, true-T}
-use Rattle.calculus.proofs.Entries.{entry-off}
 use Rattle.bitset.specs.Windows.{setAt}
 use Rattle.trail.specs.Words
 use Rattle.trail.specs.Words.{trailIn}
@@ -89,11 +87,3 @@ refused-by {c} {k} a e h = go c e
 pub passed-by : {c k : ℕ} (a : calculus.Answer) → k ≡ c → k ≡ 0 → answer c a ≡ a
 unfolding answer
 passed-by {c} {k} a e z = rw (sym e ∙ z)
-
--- ---- a term that does not stand on the trail
-
-pub off-value : (tr : Trail) (t : ℕ) → on tr t ≡ false → blank ≡ valueAt tr t
-off-value tr t h = sym (ap (λ (e : Entry). e .value) (entry-off tr t h))
-
-pub off-level : (tr : Trail) (t : ℕ) → on tr t ≡ false → 0 ≡ levelAt tr t
-off-level tr t h = sym (ap (λ (e : Entry). e .level) (entry-off tr t h))

@@ -1,5 +1,6 @@
 // Where a run stands, what a step answers, and look-ups on the trail that any number may be asked of.
 ghost use mathlib.Core.Path.{_≡_};
+ghost use mathlib.Core.Bool.{true};
 ghost use Prim.Native.Nat.{_<_};
 ghost use Rattle.calculus.specs.Terms.{prop};
 ghost use Rattle.calculus.specs.Trail.{on, valueAt, levelAt, assigned};
@@ -33,30 +34,24 @@ pub fn stands(work: &[u64], w: usize, n: usize, count: usize, t: Row) -> bool
     false
 }
 
-// The value of t on the trail; blank where it does not stand there.
+// The value of t, where it stands on the trail.
 pub fn value_at(work: &[u64], w: usize, n: usize, count: usize, t: Row) -> u16
     requires { ⌜ Laid w n (now work) count ⌝ }
-    ensures { λ r. ⌜ r ≡ valueAt (trailIn w n (now (work .entry)) count) (t .0) ⌝ }
+    ensures { λ r. ⌜ (on (trailIn w n (now (work .entry)) count) (t .0) ≡ true → r ≡ valueAt (trailIn w n (now (work .entry)) count) (t .0)) ⌝ }
 {
     if (t.0 as usize) < n {
-        if trail::present(work, w, n, count, t) {
-            return trail::value(work, w, n, count, t);
-        }
-        return BLANK;
+        return trail::value(work, w, n, count, t);
     }
     BLANK
 }
 
-// The level of t on the trail; 0 where it does not stand there.
+// The level of t, where it stands on the trail.
 pub fn level_at(work: &[u64], w: usize, n: usize, count: usize, t: Row) -> Level
     requires { ⌜ Laid w n (now work) count ⌝ }
-    ensures { λ r. ⌜ r .0 ≡ levelAt (trailIn w n (now (work .entry)) count) (t .0) ⌝ }
+    ensures { λ r. ⌜ (on (trailIn w n (now (work .entry)) count) (t .0) ≡ true → r .0 ≡ levelAt (trailIn w n (now (work .entry)) count) (t .0)) ⌝ }
 {
     if (t.0 as usize) < n {
-        if trail::present(work, w, n, count, t) {
-            return trail::level(work, w, n, count, t);
-        }
-        return Level(0);
+        return trail::level(work, w, n, count, t);
     }
     Level(0)
 }

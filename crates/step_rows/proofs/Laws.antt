@@ -7,22 +7,15 @@ use Rattle.calculus.specs.Lists.{all}
 use Rattle.calculus.specs.Terms.{filled, leftFilled}
 use Rattle.calculus.specs.Steps.{isBlank}
 
--- a blank column is followed by a blank one
-pub left-more : (x y : ℕ) (ys : List ℕ) → leftFilled (x ∷ y ∷ ys) ≡ ((not (isBlank x) || isBlank y) && leftFilled (y ∷ ys))
-left-more x y ys = go (isBlank x) (isBlank y)
+-- of two columns, a blank one is followed by a blank one
+pub left-two : (x y : ℕ) → leftFilled (x ∷ y ∷ []) ≡ (not (isBlank x) || isBlank y)
+left-two x y = go (isBlank x) (isBlank y)
   where
-    go : (g h : Bool) → cond g (h && all isBlank ys) (cond h (all isBlank ys) (leftFilled ys)) ≡ ((not g || h) && cond h (all isBlank ys) (leftFilled ys))
+    go : (g h : Bool) → cond g (h && true) (cond h true true) ≡ (not g || h)
     go true true = refl
     go true false = refl
-    go false h = refl
-
--- one column by itself
-pub left-one : (x : ℕ) → leftFilled (x ∷ []) ≡ true
-left-one x = go (isBlank x)
-  where
-    go : (g : Bool) → cond g true true ≡ true
-    go true = refl
-    go false = refl
+    go false true = refl
+    go false false = refl
 
 -- the test p of every filled column
 pub all-more : (p : ℕ → Bool) (x : ℕ) (xs : List ℕ) → all p (filled (x ∷ xs)) ≡ (isBlank x || (p x && all p (filled xs)))

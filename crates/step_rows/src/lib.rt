@@ -1,6 +1,6 @@
 // The tests of a step row by itself: its columns (number 9) and the rows that it names (number 11).
 ghost use mathlib.Core.Path.{_≡_};
-ghost use mathlib.Core.List.{List, _∷_};
+ghost use mathlib.Core.List.{List, [], _∷_};
 ghost use Prim.Native.Nat.{ℕ};
 ghost use lib.Dec.{ltb};
 ghost use Rattle.calculus.specs.Lists.{all};
@@ -22,13 +22,20 @@ fn no_premise(x: Step) -> bool
     (x.p == BLANK) & ((x.q == BLANK) & ((x.r == BLANK) & ((x.s == BLANK) & (x.t == BLANK))))
 }
 
-// After a blank premise column there are blank ones only: where a column is blank, the next is.
+// After a blank premise column there are blank ones only.
 fn from_left(x: Step) -> bool
     ensures { λ r. ⌜ r ≡ leftFilled (premiseCells x) ⌝ }
 {
-    (!(x.p == BLANK) | (x.q == BLANK))
-        & ((!(x.q == BLANK) | (x.r == BLANK))
-            & ((!(x.r == BLANK) | (x.s == BLANK)) & (!(x.s == BLANK) | (x.t == BLANK))))
+    if x.p == BLANK {
+        return (x.q == BLANK) & ((x.r == BLANK) & ((x.s == BLANK) & (x.t == BLANK)));
+    }
+    if x.q == BLANK {
+        return (x.r == BLANK) & ((x.s == BLANK) & (x.t == BLANK));
+    }
+    if x.r == BLANK {
+        return (x.s == BLANK) & (x.t == BLANK);
+    }
+    !(x.s == BLANK) | (x.t == BLANK)
 }
 
 // The columns of decide: term and value.
@@ -83,13 +90,26 @@ fn more_known(n: usize, p: u16, rest: bool) -> bool
     (p == BLANK) | (((p as usize) < n) & rest)
 }
 
+// The premises from column r on are below n. Most rows have none there, and then nothing more is read.
+fn late_known(n: usize, x: Step) -> bool
+    ensures { λ r. ⌜ r ≡ all (λ y. ltb y n) (filled (x .r ∷ x .s ∷ x .t ∷ [])) ⌝ }
+{
+    if x.r == BLANK {
+        return true;
+    }
+    let t = more_known(n, x.t, true);
+    let s = more_known(n, x.s, t);
+    more_known(n, x.r, s)
+}
+
 // The premises are below n.
 fn premises_known(n: usize, x: Step) -> bool
     ensures { λ r. ⌜ r ≡ all (λ y. ltb y n) (premises x) ⌝ }
 {
-    let t = more_known(n, x.t, true);
-    let s = more_known(n, x.s, t);
-    let r = more_known(n, x.r, s);
+    if x.p == BLANK {
+        return true;
+    }
+    let r = late_known(n, x);
     let q = more_known(n, x.q, r);
     more_known(n, x.p, q)
 }

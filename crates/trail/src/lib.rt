@@ -46,18 +46,18 @@ pub fn present(work: &[u64], w: usize, terms: usize, n: usize, t: Row) -> bool
     0 < work[terms * w + 2 * terms + t.0 as usize]
 }
 
-// The value of term t, which is on the trail.
+// The value of term t, where it is on the trail.
 pub fn value(work: &[u64], w: usize, terms: usize, n: usize, t: Row) -> u16
-    requires { ⌜ Laid w terms (now work) n × (t .0 < terms) × (on (trailIn w terms (now work) n) (t .0) ≡ true) ⌝ }
-    ensures { λ r. ⌜ r ≡ valueAt (trailIn w terms (now (work .entry)) n) (t .0) ⌝ }
+    requires { ⌜ Laid w terms (now work) n × (t .0 < terms) ⌝ }
+    ensures { λ r. ⌜ (on (trailIn w terms (now (work .entry)) n) (t .0) ≡ true → r ≡ valueAt (trailIn w terms (now (work .entry)) n) (t .0)) ⌝ }
 {
     (work[terms * w + t.0 as usize] % 65536) as u16
 }
 
-// The level of term t, which is on the trail.
+// The level of term t, where it is on the trail.
 pub fn level(work: &[u64], w: usize, terms: usize, n: usize, t: Row) -> Level
-    requires { ⌜ Laid w terms (now work) n × (t .0 < terms) × (on (trailIn w terms (now work) n) (t .0) ≡ true) ⌝ }
-    ensures { λ r. ⌜ r .0 ≡ levelAt (trailIn w terms (now (work .entry)) n) (t .0) ⌝ }
+    requires { ⌜ Laid w terms (now work) n × (t .0 < terms) ⌝ }
+    ensures { λ r. ⌜ (on (trailIn w terms (now (work .entry)) n) (t .0) ≡ true → r .0 ≡ levelAt (trailIn w terms (now (work .entry)) n) (t .0)) ⌝ }
 {
     Level(work[terms * w + terms + t.0 as usize])
 }

@@ -1,7 +1,9 @@
 //! Benchmarks: medians of many runs in one process, and the ratio of the static
 //! libraries to the plain checker.
 //!
-//! `bench [--plain-only] [--runs N]`
+//! `bench [--plain-only] [--runs N] [--only WORD]`
+//!
+//! `--only` measures what has the word in its name, as for a profile.
 //!
 //! The runs of the two alternate. Sheets are in memory; the workspace and the
 //! trail buffer have the least lengths, are not cleared between the runs and so
@@ -98,11 +100,15 @@ fn medians(runs: usize, repeats: usize, tasks: &mut [Box<dyn FnMut() + '_>]) -> 
 struct Bench {
     runs: usize,
     plain_only: bool,
+    only: String,
 }
 
 impl Bench {
     /// Measures the call on the sheets and prints a line, per step or per call.
     fn run(&self, name: &str, sheets: &Sheets, per_step: bool) -> Result<(), String> {
+        if !name.contains(&self.only) {
+            return Ok(());
+        }
         let mut runners: Vec<Run> = vec![run_plain];
         runners.extend(run_library().filter(|_| !self.plain_only));
         let rows = sheets.rows();
@@ -150,7 +156,10 @@ impl Bench {
         Ok(())
     }
 
-    fn read(&self) -> Result<(), String> {
+    fn read(&self, name: &str) -> Result<(), String> {
+        if !name.contains(&self.only) {
+            return Ok(());
+        }
         let (about, text) = work::text();
         let mut readers: Vec<ReadText> = vec![read_plain];
         readers.extend(read_library().filter(|_| !self.plain_only));
@@ -173,9 +182,7 @@ impl Bench {
         }
         let times = medians(self.runs, 10, &mut tasks);
         let bytes = text.len() as f64;
-        line("text reader", &about, "MB/s", &times, |time| {
-            bytes * 1e3 / time
-        });
+        line(name, &about, "MB/s", &times, |time| bytes * 1e3 / time);
         Ok(())
     }
 }
@@ -209,19 +216,21 @@ fn all(bench: &Bench) -> Result<(), String> {
     bench.run("cut-heavy log", &work::cut_heavy(), true)?;
     bench.run("terms, distinct heads", &work::distinct_heads(), false)?;
     bench.run("terms, one head", &work::one_head(), false)?;
-    bench.read()
+    bench.read("text reader")
 }
 
 fn main() -> ExitCode {
     let mut bench = Bench {
         runs: 201,
         plain_only: false,
+        only: String::new(),
     };
     let mut args = std::env::args().skip(1);
     while let Some(flag) = args.next() {
         let number = |value: Option<String>| value.and_then(|value| value.parse().ok());
         match flag.as_str() {
             "--plain-only" => bench.plain_only = true,
+            "--only" => bench.only = args.next().unwrap_or_default(),
             "--runs" => bench.runs = number(args.next()).unwrap_or(bench.runs).max(1),
             _ => {
                 eprintln!("bench: {flag} is no option");

@@ -38,7 +38,7 @@ returns c = level-all _ _ _ _ _ (found-none _ _ _ _ (c .before .before .next-mem
 
 level-requires : tie.Need-level-requires Inv-loop μ-loop
 level-requires c κs = let h = found-at _ _ _ _ _ (c .before .before .before .next-member .ensures) (c .before .found .given .1) in
-    let o = c .before .before .before .before .before .before .before .pre .2 _ (h .1 .member) in (c .before .before .before .before .before .before .before .pre .0, on-below _ _ _ (c .before .before .before .before .before .before .before .pre .0 .below) o, o)
+    let o = c .before .before .before .before .before .before .before .pre .2 _ (h .1 .member) in (c .before .before .before .before .before .before .before .pre .0, on-below _ _ _ (c .before .before .before .before .before .before .before .pre .0 .below) o)
 
 larger-requires : tie.Need-larger-requires Inv-loop μ-loop
 larger-requires c κs = search needs
@@ -54,7 +54,7 @@ loop-less c = let h = found-at _ _ _ _ _ (c .before .before .before .before .bef
 
 loop-again : tie.Need-loop-again Inv-loop μ-loop
 loop-again c = let h = found-at _ _ _ _ _ (c .before .before .before .before .before .before .next-member .ensures) (c .before .before .before .before .found .given .1) in
-    rw (c .before .larger .ensures, c .before .before .level .ensures) (level-next _ _ _ (h .1) _ _ (c .before .before .before .before .before .before .before .before .before .before .pre .0 .distinct) (c .before .before .before .before .before .before .before .before .loop .inv))
+    rw (c .before .larger .ensures, c .before .before .level .ensures (c .before .before .before .before .before .before .before .before .before .before .pre .2 _ (h .1 .member))) (level-next _ _ _ (h .1) _ _ (c .before .before .before .before .before .before .before .before .before .before .pre .0 .distinct) (c .before .before .before .before .before .before .before .before .loop .inv))
 
 returns-2 : tie.Need-returns-2 Inv-loop μ-loop
 returns-2 c = level-all _ _ (64 * c .before .before .before .args .w) _ _ (λ u p q. absurd (omega arith)) (past _ _ _) (c .before .loop .inv)

@@ -19,7 +19,7 @@ same-length : tie.Need-same-length
 same-length c = search needs
 
 returns : tie.Need-returns
-returns c = cut-stands _ _ _ _ _ _ _ _ _ (c .before .before .before .before .lower .ensures ∙ ap (λ (x : ℕ). x - 1) (c .before .before .before .before .before .level .ensures)) (c .before .before .cut .ensures)
+returns c = cut-stands _ _ _ _ _ _ _ _ _ (c .before .before .before .before .lower .ensures ∙ ap (λ (x : ℕ). x - 1) (c .before .before .before .before .before .level .ensures (c .before .before .before .before .before .before .before .before .pre .2))) (c .before .before .cut .ensures)
 
 pub clear-spec : {M : Type 1} → statement M
 clear-spec = tie.close (tie.spec level-requires lower-requires cut-requires same-length returns)

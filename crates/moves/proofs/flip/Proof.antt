@@ -11,7 +11,7 @@ use Rattle.moves.proofs.flip.Statement.{statement}
 use Rattle.moves.proofs.flip.Tie as tie
 
 value-requires : tie.Need-value-requires
-value-requires c κs = (c .before .before .pre .0 .laid, c .before .before .pre .0 .row, c .before .before .pre .0 .within _ (c .before .before .pre .0 .member))
+value-requires c κs = (c .before .before .pre .0 .laid, c .before .before .pre .0 .row)
 
 lower-requires : tie.Need-lower-requires
 lower-requires c κs = search needs
@@ -29,7 +29,7 @@ same-length : tie.Need-same-length
 same-length c = search needs
 
 returns : tie.Need-returns
-returns c = flip-stands _ _ _ _ _ _ _ _ _ _ (c .before .before .before .before .before .before .before .before .cut .ensures .trail ∙ ap (λ (x : ℕ). keptTo x (trailIn (c .before .before .before .before .before .before .before .before .before .before .before .before .before .before .args .w) (c .before .before .before .before .before .before .before .before .before .before .before .before .before .before .args .terms) (c .before .before .before .before .before .before .before .before .before .before .before .before .before .before .args .work .now) (c .before .before .before .before .before .before .before .before .before .before .before .before .before .before .args .n))) (c .before .before .before .before .before .before .before .before .before .before .lower .ensures ∙ ap (λ (x : ℕ). x - 1) (c .before .before .before .before .before .before .before .before .before .before .before .before .before .before .pre .2))) (c .before .before .before .other .ensures ∙ ap opposite (c .before .before .before .before .before .before .before .before .before .before .before .value .ensures)) (c .before .before .decide .ensures)
+returns c = flip-stands _ _ _ _ _ _ _ _ _ _ (c .before .before .before .before .before .before .before .before .cut .ensures .trail ∙ ap (λ (x : ℕ). keptTo x (trailIn (c .before .before .before .before .before .before .before .before .before .before .before .before .before .before .args .w) (c .before .before .before .before .before .before .before .before .before .before .before .before .before .before .args .terms) (c .before .before .before .before .before .before .before .before .before .before .before .before .before .before .args .work .now) (c .before .before .before .before .before .before .before .before .before .before .before .before .before .before .args .n))) (c .before .before .before .before .before .before .before .before .before .before .lower .ensures ∙ ap (λ (x : ℕ). x - 1) (c .before .before .before .before .before .before .before .before .before .before .before .before .before .before .pre .2))) (c .before .before .before .other .ensures ∙ ap opposite (c .before .before .before .before .before .before .before .before .before .before .before .value .ensures (c .before .before .before .before .before .before .before .before .before .before .before .before .before .before .pre .0 .within _ (c .before .before .before .before .before .before .before .before .before .before .before .before .before .before .pre .0 .member)))) (c .before .before .decide .ensures)
 
 pub flip-spec : {M : Type 1} → statement M
 flip-spec =

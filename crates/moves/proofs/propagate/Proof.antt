@@ -1,10 +1,8 @@
 -- `moves::propagate` meets its contract. Assumes nothing.
-use mathlib.Core.Path.{ap₂, _∙_}
 use native.Mathlib.Omega.{arith}
-use Rattle.calculus.specs.Trail.{levelOf}
 use Rattle.trail.proofs.Laws.{why-in, room-one}
 use Rattle.trail.proofs.Frames.{built}
-use Rattle.moves.proofs.Laws.{rows-in, within-same, justified-stands}
+use Rattle.moves.proofs.Laws.{rows-in, justified-stands}
 use borrow.Author.Needs.{needs}
 use Rattle.moves.proofs.propagate.Statement.{statement}
 use Rattle.moves.proofs.propagate.Tie as tie
@@ -18,24 +16,27 @@ mul-b c = omega (arith, why-in (c .before .before .before .args .w) _ _ (c .befo
 gather-requires : tie.Need-gather-requires
 gather-requires c κs = (omega (arith, why-in (c .before .before .before .before .args .w) _ _ (c .before .before .before .before .pre .1), c .before .before .before .before .pre .0 .enough), rows-in _ _ _ _ _ (c .before .before .before .before .pre .0) (c .before .before .before .before .pre .4))
 
-level-of-requires : tie.Need-level-of-requires
-level-of-requires c κs = let a = built _ _ _ _ _ _ (c .before .before .before .before .before .before .before .before .pre .0) (c .before .before .before .before .before .before .before .before .pre .1) (c .before .before .before .before .before .before .before .before .pre .2) (c .before .before .before .gather .ensures .only) in (a .laid, omega (arith, why-in (c .before .before .before .before .before .before .before .before .args .w) _ _ (c .before .before .before .before .before .before .before .before .pre .1), a .laid .enough), within-same _ _ _ _ (c .before .before .before .gather .ensures .set) (a .trail) (c .before .before .before .before .before .before .before .before .pre .4))
-
 push-requires : tie.Need-push-requires
-push-requires c κs = let a = built _ _ _ _ _ _ (c .before .before .before .before .before .before .before .before .before .before .pre .0) (c .before .before .before .before .before .before .before .before .before .before .pre .1) (c .before .before .before .before .before .before .before .before .before .before .pre .2) (c .before .before .before .before .before .gather .ensures .only) in (a .laid, c .before .before .before .before .before .before .before .before .before .before .pre .1, rw (a .trail) (c .before .before .before .before .before .before .before .before .before .before .pre .2))
+push-requires c κs =
+    let p = c .before .before .before .before .before .before .before .before .pre in
+    let a = built _ _ _ _ _ _ (p .0) (p .1) (p .2) (c .before .before .before .gather .ensures .only) in
+    (a .laid, p .1, rw (a .trail) (p .2))
 
 larger-requires : tie.Need-larger-requires
 larger-requires c κs = search needs
 
 add-t12 : tie.Need-add-t12
-add-t12 c = omega (arith, room-one _ _ _ _ _ (c .before .before .before .before .before .before .before .before .before .before .before .before .before .before .pre .0) (c .before .before .before .before .before .before .before .before .before .before .before .before .before .before .pre .1) (c .before .before .before .before .before .before .before .before .before .before .before .before .before .before .pre .2))
+add-t12 c = let p = c .before .before .before .before .before .before .before .before .before .before .before .before .pre in omega (arith, room-one _ _ _ _ _ (p .0) (p .1) (p .2))
 
 same-length : tie.Need-same-length
 same-length c = search needs
 
 returns : tie.Need-returns
-returns c = let a = built _ _ _ _ _ _ (c .before .before .before .before .before .before .before .before .before .before .before .before .before .before .pre .0) (c .before .before .before .before .before .before .before .before .before .before .before .before .before .before .pre .1) (c .before .before .before .before .before .before .before .before .before .before .before .before .before .before .pre .2) (c .before .before .before .before .before .before .before .before .before .gather .ensures .only) in
-    rw (c .larger .ensures) (justified-stands _ _ _ _ _ _ _ _ _ _ _ (a .trail) (c .before .before .before .before .before .before .before .before .before .before .before .before .before .before .pre .3) (c .before .before .before .before .before .before .before .before .before .gather .ensures .set) (c .before .before .before .before .before .level-of .ensures ∙ ap₂ levelOf (a .trail) (c .before .before .before .before .before .before .before .before .before .gather .ensures .set)) (c .before .before .before .push .ensures))
+returns c =
+    let p = c .before .before .before .before .before .before .before .before .before .before .before .before .pre in
+    let g = c .before .before .before .before .before .before .before .gather .ensures in
+    let a = built _ _ _ _ _ _ (p .0) (p .1) (p .2) (g .only) in
+    rw (c .larger .ensures) (justified-stands _ _ _ _ _ _ _ _ _ _ _ (a .trail) (p .3) (g .set) (p .5) (c .before .before .before .push .ensures))
 
 pub propagate-spec : {M : Type 1} → statement M
 propagate-spec =
@@ -44,7 +45,6 @@ propagate-spec =
     cast-b
     mul-b
     gather-requires
-    level-of-requires
     push-requires
     larger-requires
     add-t12

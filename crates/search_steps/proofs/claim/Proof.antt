@@ -1,6 +1,5 @@
 -- `search_steps::claim` meets its contract.
-use Rattle.rules.proofs.Laws.{premises-valued}
-use Rattle.calculus.specs.Trail.{valueAt}
+use Rattle.rules.proofs.Laws.{premises-looked}
 use mathlib.Core.Path.{refl}
 use borrow.Author.Needs.{needs}
 use Rattle.search_steps.proofs.claim.Statement.{statement}
@@ -22,7 +21,14 @@ premise-requires-5 : tie.Need-premise-requires-5
 premise-requires-5 c κs = search needs
 
 returns : tie.Need-returns
-returns c = record { term = refl; value = refl; premises = rw (c .premise5 .ensures, c .before .premise4 .ensures, c .before .before .premise3 .ensures, c .before .before .before .premise2 .ensures, c .before .before .before .before .premise .ensures) (premises-valued (valueAt _) (c .before .before .before .before .before .before .args .x)) }
+returns c =
+    let k = c .before .before .before .before .before .before in
+    let p = c .before .before .before .before .premise .ensures in
+    let q = c .before .before .before .premise2 .ensures in
+    let r = c .before .before .premise3 .ensures in
+    let s = c .before .premise4 .ensures in
+    let t = c .premise5 .ensures in
+    record { term = refl; value = refl; premises = premises-looked _ _ (k .args .x) _ _ _ _ _ (p .0) (q .0) (r .0) (s .0) (t .0) (p .1, (q .1, (r .1, (s .1, (t .1, tt))))) (k .pre .1) }
 
 pub claim-spec : {M : Type 1} → statement M
 claim-spec =

@@ -20,7 +20,10 @@ unfolding Answers clash
 returns c = (refused-by _ (c .before .clash-number .ensures) (c .if1 .taken), refl)
 
 clash-level-requires : tie.Need-clash-level-requires
-clash-level-requires c κs = search needs
+clash-level-requires c κs =
+    let k = c .before .before .before .before .before .before in
+    let h = clash-on _ _ (k .args .x .rule) (k .args .x .term) (k .args .x .value) _ (sym (c .before .before .clash-number .ensures) ∙ c .before .if1 .left) in
+    (search needs, h .1, h .2)
 
 same-length-2 : tie.Need-same-length-2
 same-length-2 c = search needs
@@ -34,7 +37,10 @@ slice-aggregate-conflict c = search needs
 
 conflict-requires : tie.Need-conflict-requires
 unfolding premises
-conflict-requires c κs = (search needs, search needs, clash-on _ _ (c .before .before .before .before .before .before .before .before .before .before .args .x .rule) (c .before .before .before .before .before .before .before .before .before .before .args .x .term) (c .before .before .before .before .before .before .before .before .before .before .args .x .value) _ (sym (c .before .before .before .before .before .before .clash-number .ensures) ∙ c .before .before .before .before .before .if1 .left))
+conflict-requires c κs =
+    let k = c .before .before .before .before .before .before .before .before .before .before in
+    let h = clash-on _ _ (k .args .x .rule) (k .args .x .term) (k .args .x .value) _ (sym (c .before .before .before .before .before .before .clash-number .ensures) ∙ c .before .before .before .before .before .if1 .left) in
+    (search needs, search needs, h .0)
 
 same-length-3 : tie.Need-same-length-3
 same-length-3 c = search needs

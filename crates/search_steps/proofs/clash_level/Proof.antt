@@ -15,7 +15,7 @@ larger-requires : tie.Need-larger-requires
 larger-requires c κs = search needs
 
 returns : tie.Need-returns
-returns c = rw (c .larger .ensures, c .before .premises-level .ensures, c .before .before .level-at .ensures) (sym (level-more _ _ (c .before .before .before .before .args .x .term) (c .before .before .before .before .pre .distinct)))
+returns c = rw (c .larger .ensures, c .before .premises-level .ensures, c .before .before .level-at .ensures (c .before .before .before .before .pre .2)) (sym (level-more _ _ (c .before .before .before .before .args .x .term) (c .before .before .before .before .pre .0 .distinct)))
 
 pub clash-level-spec : {M : Type 1} → statement M
 clash-level-spec =

@@ -26,7 +26,7 @@ rule-of-requires : tie.Need-rule-of-requires
 rule-of-requires c κs = search needs
 
 claim-requires : tie.Need-claim-requires
-claim-requires c κs = search needs
+claim-requires c κs = (search needs, sym (c .before .before .all-on .ensures) ∙ not-false _ (c .before .if2 .left))
 
 test-requires : tie.Need-test-requires
 test-requires c κs = search needs

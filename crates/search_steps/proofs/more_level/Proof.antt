@@ -1,13 +1,12 @@
 -- `search_steps::more_level` meets its contract.
 use borrow.Author.Tests.{eq-eqb, ne-eqb}
 use Rattle.search_steps.proofs.Laws.{level-blank, level-filled}
-use mathlib.Core.Path.{sym}
 use borrow.Author.Needs.{needs}
 use Rattle.search_steps.proofs.more_level.Statement.{statement}
 use Rattle.search_steps.proofs.more_level.Tie as tie
 
 returns : tie.Need-returns
-returns c = λ xs e. sym (level-blank _ (c .before .before .args .p) xs (eq-eqb _ _ (c .if1 .taken)))
+returns c = λ xs e. level-blank _ (c .before .before .args .p) xs (eq-eqb _ _ (c .if1 .taken))
 
 level-at-requires : tie.Need-level-at-requires
 level-at-requires c κs = search needs
@@ -16,7 +15,9 @@ larger-requires : tie.Need-larger-requires
 larger-requires c κs = search needs
 
 returns-2 : tie.Need-returns-2
-returns-2 c = λ xs e. rw (c .larger .ensures, c .before .level-at .ensures, e) (sym (level-filled _ (c .before .before .before .before .args .p) xs (c .before .before .before .before .pre .distinct) (ne-eqb _ _ (c .before .before .if1 .left))))
+returns-2 c = λ xs e.
+    let k = c .before .before .before .before in
+    rw (c .larger .ensures) (level-filled _ (k .args .p) _ _ xs (k .pre .distinct) (ne-eqb _ _ (c .before .before .if1 .left)) (c .before .level-at .ensures) e)
 
 pub more-level-spec : {M : Type 1} → statement M
 more-level-spec = tie.close (tie.spec returns level-at-requires larger-requires returns-2)

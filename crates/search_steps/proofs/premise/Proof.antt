@@ -1,4 +1,5 @@
 -- `search_steps::premise` meets its contract.
+use mathlib.Core.Path.{refl}
 use borrow.Author.Needs.{needs}
 use Rattle.search_steps.proofs.premise.Statement.{statement}
 use Rattle.search_steps.proofs.premise.Tie as tie
@@ -7,7 +8,7 @@ value-at-requires : tie.Need-value-at-requires
 value-at-requires c κs = search needs
 
 returns : tie.Need-returns
-returns c = rw (c .value-at .ensures)
+returns c = (refl, c .value-at .ensures)
 
 pub premise-spec : {M : Type 1} → statement M
 premise-spec = tie.close (tie.spec value-at-requires returns)

@@ -1,10 +1,17 @@
 -- `step_rows::premises_known` meets its contract.
-use mathlib.Core.Path.{refl}
 use mathlib.Core.List.{[], _∷_}
 use Rattle.calculus.specs.Steps.{premises}
+use borrow.Author.Tests.{eq-eqb}
 use borrow.Author.Needs.{needs}
 use Rattle.step_rows.proofs.premises_known.Statement.{statement}
 use Rattle.step_rows.proofs.premises_known.Tie as tie
+
+returns : tie.Need-returns
+unfolding premises
+returns c = rw (eq-eqb _ _ (c .if1 .taken))
+
+late-known-requires : tie.Need-late-known-requires
+late-known-requires c κs = search needs
 
 more-known-requires : tie.Need-more-known-requires
 more-known-requires c κs = search needs
@@ -12,32 +19,14 @@ more-known-requires c κs = search needs
 more-known-requires-2 : tie.Need-more-known-requires-2
 more-known-requires-2 c κs = search needs
 
-more-known-requires-3 : tie.Need-more-known-requires-3
-more-known-requires-3 c κs = search needs
-
-more-known-requires-4 : tie.Need-more-known-requires-4
-more-known-requires-4 c κs = search needs
-
-more-known-requires-5 : tie.Need-more-known-requires-5
-more-known-requires-5 c κs = search needs
-
-returns : tie.Need-returns
+returns-2 : tie.Need-returns-2
 unfolding premises
-returns c =
+returns-2 c =
     let x = c .before .before .before .before .before .args .x in
-    let t = c .before .before .before .before .more-known .ensures [] refl in
-    let s = c .before .before .before .more-known2 .ensures (x .t ∷ []) t in
-    let r = c .before .before .more-known3 .ensures (x .s ∷ x .t ∷ []) s in
-    let q = c .before .more-known4 .ensures (x .r ∷ x .s ∷ x .t ∷ []) r in
-    c .more-known5 .ensures (x .q ∷ x .r ∷ x .s ∷ x .t ∷ []) q
+    let q = c .before .more-known .ensures (x .r ∷ x .s ∷ x .t ∷ []) (c .before .before .late-known .ensures) in
+    c .more-known2 .ensures (x .q ∷ x .r ∷ x .s ∷ x .t ∷ []) q
 
 pub premises-known-spec : {M : Type 1} → statement M
 premises-known-spec =
     tie.close
-    (tie.spec
-    more-known-requires
-    more-known-requires-2
-    more-known-requires-3
-    more-known-requires-4
-    more-known-requires-5
-    returns)
+    (tie.spec returns late-known-requires more-known-requires more-known-requires-2 returns-2)

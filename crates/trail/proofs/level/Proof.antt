@@ -25,7 +25,7 @@ shared-slice-read-t12 : tie.Need-shared-slice-read-t12
 shared-slice-read-t12 c = search needs
 
 returns : tie.Need-returns
-returns c = sym (ap (λ (e : Entry). e .level) (entry-at _ _ _ _ _ (c .before .before .pre .2)))
+returns c h = sym (ap (λ (e : Entry). e .level) (entry-at _ _ _ _ _ h))
 
 pub level-spec : {M : Type 1} → statement M
 level-spec =

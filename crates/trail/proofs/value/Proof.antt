@@ -25,7 +25,7 @@ cast-result-2 : tie.Need-cast-result-2
 cast-result-2 c = search needs
 
 returns : tie.Need-returns
-returns c = sym (ap (λ (e : Entry). e .value) (entry-at _ _ _ _ _ (c .before .before .pre .2)))
+returns c h = sym (ap (λ (e : Entry). e .value) (entry-at _ _ _ _ _ h))
 
 pub value-spec : {M : Type 1} → statement M
 value-spec =

@@ -1,7 +1,6 @@
 -- `rules::units::unit` meets its contract.
-use Rattle.calculus.specs.Terms.{cells, args}
-use Rattle.calculus.specs.Rules.{fits}
-use Rattle.rules.proofs.Laws.{leading-flat}
+use Rattle.rules.proofs.Laws.{unit-or, unit-and}
+use borrow.Author.Tests.{ne-eqb}
 use borrow.Author.Needs.{needs}
 use Rattle.rules.proofs.units.unit.Statement.{statement}
 use Rattle.rules.proofs.units.unit.Tie as tie
@@ -18,15 +17,25 @@ connected-requires c κs = search needs
 unit-at-requires : tie.Need-unit-at-requires
 unit-at-requires c κs = search needs
 
+returns : tie.Need-returns
+returns c =
+    let k = c .before .before .before .before .before in
+    let t = k .before .term-at .ensures in
+    rw (c .before .unit-at .ensures, c .before .before .connected .ensures, k .after-first .ensures, t)
+    (unit-or _ _ _ _ _ (rw t at (c .before .before .before .if1 .taken)))
+
 connected-requires-2 : tie.Need-connected-requires-2
 connected-requires-2 c κs = search needs
 
 unit-at-requires-2 : tie.Need-unit-at-requires-2
 unit-at-requires-2 c κs = search needs
 
-returns : tie.Need-returns
-unfolding fits cells args
-returns c = rw (c .before .unit-at2 .ensures, c .before .before .connected2 .ensures, c .before .before .before .unit-at .ensures, c .before .before .before .before .connected .ensures, c .before .before .before .before .before .after-first .ensures, c .before .before .before .before .before .before .term-at .ensures, leading-flat)
+returns-2 : tie.Need-returns-2
+returns-2 c =
+    let k = c .before .before .before .before .before in
+    let t = k .before .term-at .ensures in
+    rw (c .before .unit-at2 .ensures, c .before .before .connected2 .ensures, k .after-first .ensures, t)
+    (unit-and _ _ _ _ _ (ne-eqb _ _ (rw t at (c .before .before .before .if1 .left))))
 
 pub unit-spec : {M : Type 1} → statement M
 unit-spec =
@@ -36,6 +45,7 @@ unit-spec =
     after-first-requires
     connected-requires
     unit-at-requires
+    returns
     connected-requires-2
     unit-at-requires-2
-    returns)
+    returns-2)
