@@ -13,7 +13,7 @@ use borrow.Author.Tests.{leb-true, leb-false, ltb-true, ltb-false, eqb-true, eqb
 use Rattle.calculus.specs.declared.Check.the-variants.{Passed}
 use Rattle.calculus.specs.declared.Term.{Term}
 use Rattle.calculus.specs.declared.Head.the-variants.{Free}
-use Rattle.calculus.proofs.Facts.{both-true, T-true, true-T, below-at, unless-ok}
+use Rattle.calculus.proofs.Facts.{both-true, none-true, T-true, true-T, below-at, unless-ok}
 use Rattle.calculus.specs.Lists.{all, below, eqList, firstWhere}
 use Rattle.calculus.specs.Numbers.{unless, checkOf}
 use Rattle.calculus.specs.Sheets.{blank, sortRows}
@@ -23,17 +23,20 @@ use Rattle.term_sheet.specs.Found.{FirstRepeat, Noted, Known, noted, slo
 
 -- ---- arguments, one more column in front
 
-pub sorts-more : (f : ℕ → ℕ) (x y : ℕ) (xs ys : List ℕ)
-    → eqList (map f (filled (x ∷ xs))) (map f (filled (y ∷ ys)))
-    ≡ ((eqb x blank && eqb y blank) || (not (eqb x blank) && (not (eqb y blank) && (eqb (f x) (f y) && eqList (map f (filled xs)) (map f (filled ys))))))
-sorts-more f x y xs ys = go (eqb x blank) (eqb y blank)
+-- one side is at its end, and the other is not
+pub sorts-end : (f : ℕ → ℕ) (x y : ℕ) (xs ys : List ℕ) → (x ≡ y → ⊥) → (eqb x blank || eqb y blank) ≡ true → false ≡ eqList (map f (filled (x ∷ xs))) (map f (filled (y ∷ ys)))
+sorts-end f x y xs ys d e = go (eqb x blank) refl (eqb y blank) refl e
   where
-    go : (g h : Bool) → eqList (map f (cond g [] (x ∷ filled xs))) (map f (cond h [] (y ∷ filled ys)))
-        ≡ ((g && h) || (not g && (not h && (eqb (f x) (f y) && eqList (map f (filled xs)) (map f (filled ys))))))
-    go true true = refl
-    go true false = refl
-    go false true = refl
-    go false false = refl
+    go : (g : Bool) → eqb x blank ≡ g → (h : Bool) → eqb y blank ≡ h → (g || h) ≡ true → false ≡ eqList (map f (cond g [] (x ∷ filled xs))) (map f (cond h [] (y ∷ filled ys)))
+    go true p true q r = absurd (d (eqb-true x blank p ∙ sym (eqb-true y blank q)))
+    go true p false q r = refl
+    go false p true q r = refl
+    go false p false q r = absurd (true≢false (sym r))
+
+-- both sides go on
+pub sorts-more : (f : ℕ → ℕ) (x y : ℕ) (xs ys : List ℕ) → (eqb x blank || eqb y blank) ≡ false
+    → eqList (map f (filled (x ∷ xs))) (map f (filled (y ∷ ys))) ≡ (eqb (f x) (f y) && eqList (map f (filled xs)) (map f (filled ys)))
+sorts-more f x y xs ys e = let n = none-true (eqb x blank) (eqb y blank) e in rw (n .0, n .1)
 
 -- one term on both sides
 pub sorts-same : (f : ℕ → ℕ) (x y : ℕ) (xs ys : List ℕ) → x ≡ y

@@ -89,9 +89,12 @@ fn more_sort(terms: &[u16], x: u16, y: u16, rest: bool) -> bool
     if x == y {
         return (x == BLANK) | rest;
     }
+    if (x == BLANK) | (y == BLANK) {
+        return false;
+    }
     let s = sheets::sort_of(terms, Row(x));
     let t = sheets::sort_of(terms, Row(y));
-    ((x == BLANK) & (y == BLANK)) | (!(x == BLANK) & (!(y == BLANK) & ((s.0 == t.0) & rest)))
+    (s.0 == t.0) & rest
 }
 
 // ---- the use of a free head
