@@ -53,9 +53,9 @@ pub record Noted (key : ℕ → ℕ) (t : ℕ) (xs : List ℕ) : Type 0 where
   pub size : length xs ≡ 1024
   pub rows : (u : ℕ) → u < t → getD xs (slot (key u)) 0 ≤ u
 
--- the key that equal rows are sought by: a row's head and arguments mixed, by powers of 633, so that near rows are spread over the slots
+-- the key that equal rows are sought by: a row's head and arguments with odd weights, so that rows which differ in one column alone, by less than 1,024, have different slots
 abbrev pub mixed : ℕ → ℕ → ℕ → ℕ → ℕ → ℕ
-mixed h a b c d = h + 633 * a + 305 * b + 553 * c + 865 * d
+mixed h a b c d = h + 3 * a + 5 * b + 7 * c + 11 * d
 
 unfoldable pub mix : List ℕ → ℕ → ℕ
 mix ts t = mixed (head ts t) (getD ts (t * 6 + 2) 0) (getD ts (t * 6 + 3) 0) (getD ts (t * 6 + 4) 0) (getD ts (t * 6 + 5) 0)
