@@ -1,6 +1,6 @@
--- The arguments of a term row, column by column; tests below a bound; the search for equal rows; the first row with a head.
+-- The arguments of a term row, column by column; tests below a bound; the first row with a head; rows noted by a key; the search for equal rows.
 use mathlib.Core.Path.{_≡_, refl, sym, ap, _∙_}
-use mathlib.Core.Bool.{Bool, true, false, not, _&&_, _||_, cond, true≢false}
+use mathlib.Core.Bool.{Bool, true, false, not, _&&_, _||_, cond, true≢false, and-true, and-false}
 use mathlib.Core.List.{List, [], _∷_, map}
 use Prim.Native.Nat.{ℕ, zero, suc, _+_, _*_, _≤_, _<_}
 use native.Mathlib.Omega.{arith}
@@ -12,35 +12,31 @@ use lib.Dec.{eqb, leb, ltb}
 use borrow.Author.Tests.{leb-true, leb-false, ltb-true, ltb-false, eqb-true, eqb-false, ne-eqb, eq-eqb, lt-ltb, le-ltb, not-true}
 use Rattle.calculus.specs.declared.Check.the-variants.{Passed}
 use Rattle.calculus.specs.declared.Term.{Term}
-use Rattle.calculus.specs.declared.Head.{Head}
-use Rattle.calculus.proofs.Facts.{both-true, T-true, true-T, below-at}
+use Rattle.calculus.specs.declared.Head.the-variants.{Free}
+use Rattle.calculus.proofs.Facts.{both-true, none-true, T-true, true-T, below-at, unless-ok}
 use Rattle.calculus.specs.Lists.{all, below, eqList, firstWhere}
 use Rattle.calculus.specs.Numbers.{unless, checkOf}
-use Rattle.calculus.specs.Sheets.{blank}
-use Rattle.calculus.specs.Terms.{head, sort, cells, filled, leftFilled, args, termAt, cellsOf, headOf, earlier, suits, sameUse, firstUse, twins, fresh, termNumber}
+use Rattle.calculus.specs.Sheets.{blank, sortRows}
+use Rattle.calculus.specs.Terms.{head, sort, prop, cells, filled, leftFilled, args, termAt, cellsOf, headOf, earlier, suits, sameUse, firstUse, twins, fresh, termNumber}
 use Rattle.sheets.proofs.Laws.{passed-zero}
-use Rattle.term_sheet.specs.Found.{FirstRepeat, Noted, noted, slot, smaller, column, agree, rowNumber}
+use Rattle.term_sheet.specs.Found.{FirstRepeat, Noted, Known, noted, slot, smaller, least, mix, otherHead, column, agree, before, placed, rowNumber}
 
 -- ---- arguments, one more column in front
 
-pub all-more : (p : ℕ → Bool) (x : ℕ) (xs : List ℕ) → all p (filled (x ∷ xs)) ≡ (eqb x blank || (p x && all p (filled xs)))
-all-more p x xs = go (eqb x blank)
+-- one side is at its end, and the other is not
+pub sorts-end : (f : ℕ → ℕ) (x y : ℕ) (xs ys : List ℕ) → (x ≡ y → ⊥) → (eqb x blank || eqb y blank) ≡ true → false ≡ eqList (map f (filled (x ∷ xs))) (map f (filled (y ∷ ys)))
+sorts-end f x y xs ys d e = go (eqb x blank) refl (eqb y blank) refl e
   where
-    go : (g : Bool) → all p (cond g [] (x ∷ filled xs)) ≡ (g || (p x && all p (filled xs)))
-    go true = refl
-    go false = refl
+    go : (g : Bool) → eqb x blank ≡ g → (h : Bool) → eqb y blank ≡ h → (g || h) ≡ true → false ≡ eqList (map f (cond g [] (x ∷ filled xs))) (map f (cond h [] (y ∷ filled ys)))
+    go true p true q r = absurd (d (eqb-true x blank p ∙ sym (eqb-true y blank q)))
+    go true p false q r = refl
+    go false p true q r = refl
+    go false p false q r = absurd (true≢false (sym r))
 
-pub sorts-more : (f : ℕ → ℕ) (x y : ℕ) (xs ys : List ℕ)
-    → eqList (map f (filled (x ∷ xs))) (map f (filled (y ∷ ys)))
-    ≡ ((eqb x blank && eqb y blank) || (not (eqb x blank) && (not (eqb y blank) && (eqb (f x) (f y) && eqList (map f (filled xs)) (map f (filled ys))))))
-sorts-more f x y xs ys = go (eqb x blank) (eqb y blank)
-  where
-    go : (g h : Bool) → eqList (map f (cond g [] (x ∷ filled xs))) (map f (cond h [] (y ∷ filled ys)))
-        ≡ ((g && h) || (not g && (not h && (eqb (f x) (f y) && eqList (map f (filled xs)) (map f (filled ys))))))
-    go true true = refl
-    go true false = refl
-    go false true = refl
-    go false false = refl
+-- both sides go on
+pub sorts-more : (f : ℕ → ℕ) (x y : ℕ) (xs ys : List ℕ) → (eqb x blank || eqb y blank) ≡ false
+    → eqList (map f (filled (x ∷ xs))) (map f (filled (y ∷ ys))) ≡ (eqb (f x) (f y) && eqList (map f (filled xs)) (map f (filled ys)))
+sorts-more f x y xs ys e = let n = none-true (eqb x blank) (eqb y blank) e in rw (n .0, n .1)
 
 -- one term on both sides
 pub sorts-same : (f : ℕ → ℕ) (x y : ℕ) (xs ys : List ℕ) → x ≡ y
@@ -51,24 +47,45 @@ sorts-same f x y xs ys e = rw (← e) (go (eqb x blank))
     go true = refl
     go false = rw (eq-eqb (f x) (f x) refl)
 
-pub left-flat : (x y z w : ℕ) → leftFilled (x ∷ y ∷ z ∷ w ∷ [])
-    ≡ ((eqb x blank && (eqb y blank && (eqb z blank && eqb w blank)))
-    || (not (eqb x blank) && ((eqb y blank && (eqb z blank && eqb w blank)) || (not (eqb y blank) && ((eqb z blank && eqb w blank) || not (eqb z blank))))))
-left-flat x y z w = go (eqb x blank) (eqb y blank) (eqb z blank) (eqb w blank)
+-- a row whose first argument is blank has none
+pub all-blank : (p : ℕ → Bool) (x : ℕ) (xs : List ℕ) → x ≡ blank → true ≡ all p (filled (x ∷ xs))
+all-blank p x xs e = rw (eq-eqb x blank e)
+
+pub all-filled : (p : ℕ → Bool) (x : ℕ) (xs : List ℕ) → (x ≡ blank → ⊥) → all p (filled (x ∷ xs)) ≡ (p x && all p (filled xs))
+all-filled p x xs d = rw (ne-eqb x blank d)
+
+-- ---- the place of a row's arguments
+
+-- nothing but blanks
+abbrev bare : List ℕ → Bool
+bare xs = all (λ y. eqb y blank) xs
+
+bare-before : (t : ℕ) (xs : List ℕ) → (all (before t) xs && bare xs) ≡ bare xs
+bare-before t [] = refl
+bare-before t (x ∷ xs) = go (eqb x blank) (ltb x t) (bare-before t xs)
   where
-    go : (a b c d : Bool) → cond a (b && (c && (d && true))) (cond b (c && (d && true)) (cond c (d && true) (cond d true true)))
-        ≡ ((a && (b && (c && d))) || (not a && ((b && (c && d)) || (not b && ((c && d) || not c)))))
-    go true true true true = refl
-    go true true true false = refl
-    go true true false d = refl
-    go true false c d = refl
-    go false true true true = refl
-    go false true true false = refl
-    go false true false d = refl
-    go false false true true = refl
-    go false false true false = refl
-    go false false false true = refl
-    go false false false false = refl
+    go : (g l : Bool) → (all (before t) xs && bare xs) ≡ bare xs → (((g || l) && all (before t) xs) && (g && bare xs)) ≡ (g && bare xs)
+    go true l e = e
+    go false true e = and-false (all (before t) xs)
+    go false false e = refl
+
+pub placed-blank : (t x : ℕ) (xs : List ℕ) → x ≡ blank → placed t (x ∷ xs) ≡ bare xs
+placed-blank t x xs e = rw (eq-eqb x blank e) (bare-before t xs)
+
+pub placed-filled : (t x : ℕ) (xs : List ℕ) → (x ≡ blank → ⊥) → placed t (x ∷ xs) ≡ (ltb x t && placed t xs)
+placed-filled t x xs d = rw (ne-eqb x blank d) (go (ltb x t))
+  where
+    go : (l : Bool) → ((l && all (before t) xs) && leftFilled xs) ≡ (l && (all (before t) xs && leftFilled xs))
+    go true = refl
+    go false = refl
+
+pub placed-last : (t x : ℕ) → placed t (x ∷ []) ≡ (eqb x blank || ltb x t)
+placed-last t x = go (eqb x blank) (ltb x t)
+  where
+    go : (g l : Bool) → (((g || l) && true) && cond g true true) ≡ (g || l)
+    go true l = refl
+    go false true = refl
+    go false false = refl
 
 -- ---- tests of all numbers below a bound
 
@@ -126,19 +143,16 @@ where-low p (suc n) = go (ltb (firstWhere n p) n) refl (p n)
     go false e true = omega arith
     go false e false = omega arith
 
-pub where-before : (p : ℕ → Bool) (n : ℕ) → below (firstWhere n p) (λ k. not (p k)) ≡ true
+where-holds : (p : ℕ → Bool) (n : ℕ) → firstWhere n p < n → p (firstWhere n p) ≡ true
 unfolding firstWhere
-where-before p zero = refl
-where-before p (suc n) = go (ltb (firstWhere n p) n) refl (p n) refl (where-before p n) (where-low p n)
+where-holds p zero h = absurd (not-suc-le-zero h)
+where-holds p (suc n) h = go (ltb (firstWhere n p) n) refl (p n) refl (where-holds p n) h
   where
-    go : (g : Bool) → ltb (firstWhere n p) n ≡ g → (b : Bool) → p n ≡ b → below (firstWhere n p) (λ k. not (p k)) ≡ true → firstWhere n p ≤ n
-        → below (cond g (firstWhere n p) (cond b n (suc n))) (λ k. not (p k)) ≡ true
-    go true e b d h l = h
-    go false e true d h l = let s : firstWhere n p ≡ n = omega (arith, ltb-false (firstWhere n p) n e) in rw s at h
-    go false e false d h l =
-        let s : firstWhere n p ≡ n = omega (arith, ltb-false (firstWhere n p) n e) in
-        let r : below n (λ k. not (p k)) ≡ true = rw s at h in
-        rw (r, d)
+    go : (g : Bool) → ltb (firstWhere n p) n ≡ g → (b : Bool) → p n ≡ b → (firstWhere n p < n → p (firstWhere n p) ≡ true)
+        → cond g (firstWhere n p) (cond b n (suc n)) < suc n → p (cond g (firstWhere n p) (cond b n (suc n))) ≡ true
+    go true e b d f l = f (ltb-true (firstWhere n p) n e)
+    go false e true d f l = d
+    go false e false d f l = absurd (omega arith)
 
 -- ---- the use of a head
 
@@ -150,27 +164,9 @@ pub same-self : (ts : List ℕ) (u t : ℕ) → u ≡ t → true ≡ sameUse ts 
 unfolding sameUse
 same-self ts u t e = rw (e, eq-eqb (sort ts t) (sort ts t) refl, eqlist-self (map (sort ts) (args ts t)))
 
--- row u has another head than row t
-abbrev pub otherHead : List ℕ → ℕ → ℕ → Bool
-otherHead ts t u = not (eqb (head ts u) (head ts t))
-
 pub use-found : (ts : List ℕ) (t u : ℕ) → u < t → below u (otherHead ts t) ≡ true → head ts u ≡ head ts t → u ≡ firstUse ts t
 unfolding firstUse
 use-found ts t u l e h = sym (where-found (λ v. eqb (head ts v) (head ts t)) t u e (eq-eqb (head ts u) (head ts t) h) l)
-
--- rows before the one in the slot of row t's head have another head
-others : (ts xs : List ℕ) (t v : ℕ) → Noted ts t xs → v ≤ getD xs (slot (head ts t)) 0 → v ≤ t → below v (otherHead ts t) ≡ true
-others ts xs t v N l m = below-of (otherHead ts t) v other
-  where
-    other : (u : ℕ) → u < v → otherHead ts t u ≡ true
-    other u h = ap not (ne-eqb (head ts u) (head ts t) (λ e. let r = N .rows u (omega arith) in let q = ap (λ x. getD xs (slot x) 0) e in omega arith))
-
-pub use-new : (ts xs : List ℕ) (t : ℕ) → Noted ts t xs → t ≤ getD xs (slot (head ts t)) 0 → t ≡ firstUse ts t
-unfolding firstUse
-use-new ts xs t N h = sym (where-none (λ u. eqb (head ts u) (head ts t)) t (others ts xs t t N h (omega arith)))
-
-pub use-slot : (ts xs : List ℕ) (t v : ℕ) → Noted ts t xs → v ≡ getD xs (slot (head ts t)) 0 → v < t → head ts v ≡ head ts t → v ≡ firstUse ts t
-use-slot ts xs t v N q l h = use-found ts t v l (others ts xs t v N (omega arith) (omega arith)) h
 
 pub use-none : (ts : List ℕ) (t u : ℕ) → u ≡ t → below u (otherHead ts t) ≡ true → t ≡ firstUse ts t
 unfolding firstUse
@@ -183,47 +179,107 @@ pub use-low : (ts : List ℕ) (t : ℕ) → firstUse ts t ≤ t
 unfolding firstUse
 use-low ts t = where-low (λ u. eqb (head ts u) (head ts t)) t
 
--- one row more is noted
-pub note-none : (ts xs : List ℕ) → length xs ≡ 1024 → Noted ts 0 xs
-note-none ts xs e = record { size = e; rows = λ u h. absurd (not-suc-le-zero h) }
+use-head : (ts : List ℕ) (t : ℕ) → firstUse ts t < t → head ts (firstUse ts t) ≡ head ts t
+unfolding firstUse
+use-head ts t h = eqb-true _ _ (where-holds (λ u. eqb (head ts u) (head ts t)) t h)
 
-pub note-more : (ts xs ys : List ℕ) (t : ℕ) → Noted ts t xs → ys ≡ noted xs (head ts t) t → Noted ts (t + 1) ys
-unfolding noted
-note-more ts xs ys t N e =
-    record { size = rw e (simp length-set (N .size)); rows = λ u h. rw e (go u h (eqb (slot (head ts u)) (slot (head ts t))) refl) }
+-- arguments of the same sorts are props alike
+same-plain : (f : ℕ → ℕ) (xs ys : List ℕ) → eqList (map f xs) (map f ys) ≡ true → all (λ a. not (eqb (f a) 0)) xs ≡ all (λ a. not (eqb (f a) 0)) ys
+same-plain f [] [] e = refl
+same-plain f [] (y ∷ ys) e = absurd (true≢false (sym e))
+same-plain f (x ∷ xs) [] e = absurd (true≢false (sym e))
+same-plain f (x ∷ xs) (y ∷ ys) e =
+    let b = both-true (eqb (f x) (f y)) (eqList (map f xs) (map f ys)) e in
+    rw (eqb-true (f x) (f y) (b .0), same-plain f xs ys (b .1))
+
+alike : (ts : List ℕ) (u t : ℕ) → sameUse ts u t ≡ true → (sort ts u ≡ sort ts t) × (eqList (map (sort ts) (args ts u)) (map (sort ts) (args ts t)) ≡ true)
+unfolding sameUse
+alike ts u t e = let b = both-true (eqb (sort ts u) (sort ts t)) _ e in (eqb-true _ _ (b .0), b .1)
+
+-- a free head used for the first time
+pub free-first : (ss ts : List ℕ) (t u : ℕ) → u ≡ t → u ≡ firstUse ts t → (leb (sort ts t) (sortRows ss) && all (λ a. not (prop ts a)) (args ts t)) ≡ suits ss ts t Free
+unfolding suits
+free-first ss ts t u e f = rw (← f, e, ← same-self ts t t refl, and-true)
+
+-- a free head used before, by a row that suits it
+pub free-again : (ss ts : List ℕ) (t u : ℕ) {e : Term} → Known ss ts t e u → headOf (head ts t) ≡ Free → (u ≡ t → ⊥) → sameUse ts u t ≡ suits ss ts t Free
+unfolding suits
+free-again ss ts t u K h d = go (sameUse ts u t) refl
   where
-    least : (a b : ℕ) → (smaller a b ≤ a) × (smaller a b ≤ b)
-    least a b = pick (ltb b a) refl
-      where
-        pick : (g : Bool) → ltb b a ≡ g → (cond g b a ≤ a) × (cond g b a ≤ b)
-        pick true q = let l : b < a = ltb-true b a q in (omega arith, omega arith)
-        pick false q = let l : a ≤ b = ltb-false b a q in (omega arith, omega arith)
+    low : u < t
+    low = let l = use-low ts t in let q = K .first in omega (arith, d)
 
+    suited : (leb (sort ts u) (sortRows ss) && all (λ a. not (prop ts a)) (args ts u)) ≡ true
+    suited =
+        let l : firstUse ts t < t = rw (K .first) at low in
+        let q : head ts u ≡ head ts t = rw (K .first) (use-head ts t l) in
+        both-true _ _ (rw (q, h) at (K .suit low)) .0
+
+    go : (g : Bool) → sameUse ts u t ≡ g → sameUse ts u t ≡ ((leb (sort ts t) (sortRows ss) && all (λ a. not (prop ts a)) (args ts t)) && sameUse ts (firstUse ts t) t)
+    go true e =
+        let b = alike ts u t e in
+        rw (← K .first, e, and-true, ← b .0, ← same-plain (sort ts) (args ts u) (args ts t) (b .1), suited)
+    go false e = rw (← K .first, e, and-false)
+
+-- ---- rows noted by a key
+
+smaller-low : (a b : ℕ) → (smaller a b ≤ a) × (smaller a b ≤ b)
+smaller-low a b = pick (ltb b a) refl
+  where
+    pick : (g : Bool) → ltb b a ≡ g → (cond g b a ≤ a) × (cond g b a ≤ b)
+    pick true q = let l : b < a = ltb-true b a q in (omega arith, omega arith)
+    pick false q = let l : a ≤ b = ltb-false b a q in (omega arith, omega arith)
+
+pub least-low : (xs : List ℕ) (k t v : ℕ) → v ≡ least xs k t → v ≤ t
+least-low xs k t v e = rw e (smaller-low (getD xs (slot k) 0) t .1)
+
+-- what holds of every row with another key than row t holds of the rows before the least one of its slot
+pub before-least : (key : ℕ → ℕ) (p : ℕ → Bool) (xs : List ℕ) (t v : ℕ) → Noted key t xs → v ≡ least xs (key t) t → ((u : ℕ) → (key u ≡ key t → ⊥) → p u ≡ true) → below v p ≡ true
+before-least key p xs t v N e f = below-of p v (λ u h. f u (λ s. other u h s))
+  where
+    other : (u : ℕ) → u < v → key u ≡ key t → ⊥
+    other u h s =
+        let l = smaller-low (getD xs (slot (key t)) 0) t in
+        let r : getD xs (slot (key t)) 0 ≤ u = rw s at (N .rows u (omega arith)) in
+        omega arith
+
+pub note-none : (key : ℕ → ℕ) (xs : List ℕ) → length xs ≡ 1024 → Noted key 0 xs
+note-none key xs e = record { size = e; rows = λ u h. absurd (not-suc-le-zero h) }
+
+-- one row more is noted
+pub note-more : (key : ℕ → ℕ) (xs ys : List ℕ) (t : ℕ) → Noted key t xs → ys ≡ noted xs (key t) t → Noted key (t + 1) ys
+unfolding noted
+note-more key xs ys t N e =
+    record { size = rw e (simp length-set (N .size)); rows = λ u h. rw e (go u h (eqb (slot (key u)) (slot (key t))) refl) }
+  where
     -- a row of the same slot, row t among them
-    under : (u : ℕ) → u < t + 1 → slot (head ts u) ≡ slot (head ts t) → (g : Bool) → leb t u ≡ g → smaller (getD xs (slot (head ts t)) 0) t ≤ u
-    under u h s true q = let l : t ≤ u = leb-true t u q in omega (arith, least (getD xs (slot (head ts t)) 0) t .1)
+    under : (u : ℕ) → u < t + 1 → slot (key u) ≡ slot (key t) → (g : Bool) → leb t u ≡ g → least xs (key t) t ≤ u
+    under u h s true q = let l : t ≤ u = leb-true t u q in omega (arith, smaller-low (getD xs (slot (key t)) 0) t .1)
     under u h s false q =
         let l : u < t = leb-false t u q in
-        let r : getD xs (slot (head ts t)) 0 ≤ u = rw s at (N .rows u l) in
-        omega (arith, least (getD xs (slot (head ts t)) 0) t .0)
+        let r : getD xs (slot (key t)) 0 ≤ u = rw s at (N .rows u l) in
+        omega (arith, smaller-low (getD xs (slot (key t)) 0) t .0)
 
     -- a row of another slot is not row t
-    earlier-row : (u : ℕ) → u < t + 1 → (slot (head ts u) ≡ slot (head ts t) → ⊥) → u < t
+    earlier-row : (u : ℕ) → u < t + 1 → (slot (key u) ≡ slot (key t) → ⊥) → u < t
     earlier-row u h d = close (leb t u) refl
       where
         close : (g : Bool) → leb t u ≡ g → u < t
-        close true q = let l : t ≤ u = leb-true t u q in let e : u ≡ t = omega arith in absurd (d (ap (λ x. slot (head ts x)) e))
+        close true q = let l : t ≤ u = leb-true t u q in let e : u ≡ t = omega arith in absurd (d (ap (λ x. slot (key x)) e))
         close false q = leb-false t u q
 
-    go : (u : ℕ) → u < t + 1 → (g : Bool) → eqb (slot (head ts u)) (slot (head ts t)) ≡ g
-        → getD (set xs (slot (head ts t)) (smaller (getD xs (slot (head ts t)) 0) t)) (slot (head ts u)) 0 ≤ u
+    go : (u : ℕ) → u < t + 1 → (g : Bool) → eqb (slot (key u)) (slot (key t)) ≡ g → getD (set xs (slot (key t)) (least xs (key t) t)) (slot (key u)) 0 ≤ u
     go u h true q =
-        let s : slot (head ts u) ≡ slot (head ts t) = eqb-true (slot (head ts u)) (slot (head ts t)) q in
-        let i : slot (head ts t) < length xs = omega (arith, N .size) in
-        rw (s, getD-set-same xs (slot (head ts t)) (smaller (getD xs (slot (head ts t)) 0) t) 0 i) (under u h s (leb t u) refl)
+        let s : slot (key u) ≡ slot (key t) = eqb-true (slot (key u)) (slot (key t)) q in
+        let i : slot (key t) < length xs = omega (arith, N .size) in
+        rw (s, getD-set-same xs (slot (key t)) (least xs (key t) t) 0 i) (under u h s (leb t u) refl)
     go u h false q =
-        let d = eqb-false (slot (head ts u)) (slot (head ts t)) q in
-        rw (getD-set-other xs (slot (head ts t)) (slot (head ts u)) (smaller (getD xs (slot (head ts t)) 0) t) 0 d) (N .rows u (earlier-row u h d))
+        let d = eqb-false (slot (key u)) (slot (key t)) q in
+        rw (getD-set-other xs (slot (key t)) (slot (key u)) (least xs (key t) t) 0 d) (N .rows u (earlier-row u h d))
+
+-- rows before the least one of row t's slot have another head
+pub heads-before : (ts xs : List ℕ) (t v : ℕ) → Noted (head ts) t xs → v ≡ least xs (head ts t) t → below v (otherHead ts t) ≡ true
+heads-before ts xs t v N e = before-least (head ts) (otherHead ts t) xs t v N e (λ u d. ap not (ne-eqb (head ts u) (head ts t) d))
 
 -- ---- the search for a row like row t
 
@@ -258,21 +314,23 @@ like ts t u k h e = ap not (turned (agree ts t u 0) (agree ts t u 1) (agree ts t
     turned true false b a h e = absurd (true≢false (sym e))
     turned false c b a h e = absurd (true≢false (sym e))
 
--- rows before the first use of row t's head are unlike row t
-pub before-use : (ts : List ℕ) (t : ℕ) → below (firstUse ts t) (unlike ts t) ≡ true
-unfolding firstUse
-before-use ts t = below-of (unlike ts t) n other
+-- rows of another mix are unlike row t
+other-mix : (ts : List ℕ) (t u : ℕ) → (mix ts u ≡ mix ts t → ⊥) → unlike ts t u ≡ true
+unfolding twins mix
+other-mix ts t u d = go (twins ts t u) refl
   where
-    p : ℕ → Bool
-    p u = eqb (head ts u) (head ts t)
+    same : twins ts t u ≡ true → (k : ℕ) → k < 6 → eqb k 1 ≡ false → getD ts (u * 6 + k) 0 ≡ getD ts (t * 6 + k) 0
+    same e k h n = sym (eqb-true (getD ts (t * 6 + k) 0) (getD ts (u * 6 + k) 0) (rw n at (below-is (λ j. eqb j 1 || eqb (getD ts (t * 6 + j) 0) (getD ts (u * 6 + j) 0)) 6 k e h)))
 
-    n : ℕ
-    n = firstWhere t p
+    go : (g : Bool) → twins ts t u ≡ g → not g ≡ true
+    go true e =
+        let h : head ts u ≡ head ts t = simp unary-clauses at (same e 0 (omega arith) refl) in
+        absurd (d (rw (h, same e 2 (omega arith) refl, same e 3 (omega arith) refl, same e 4 (omega arith) refl, same e 5 (omega arith) refl)))
+    go false e = refl
 
-    other : (u : ℕ) → u < n → unlike ts t u ≡ true
-    other u h =
-        let d = eqb-false (head ts u) (head ts t) (not-true (p u) (below-is (λ k. not (p k)) n u (where-before p t) h)) in
-        unlike-here ts t u 4 (omega arith) (ap not (ne-eqb (getD ts (t * 6 + 0) 0) (getD ts (u * 6 + 0) 0) (λ s. d (sym (simp unary-clauses at s)))))
+-- rows before the least one of its slot are unlike row t
+pub unlike-before : (ts xs : List ℕ) (t v : ℕ) → Noted (mix ts) t xs → v ≡ least xs (mix ts t) t → below v (unlike ts t) ≡ true
+unlike-before ts xs t v N e = before-least (mix ts) (unlike ts t) xs t v N e (other-mix ts t)
 
 pub fresh-row : (ts : List ℕ) (t u : ℕ) → u ≡ t → below u (unlike ts t) ≡ true → fresh ts t ≡ true
 unfolding fresh
@@ -307,11 +365,35 @@ unfolding rowNumber
 row-passed ss ts t r e q = passed _ _ (not (eqb t r)) (ap not (eq-eqb t r q)) (passed-zero _ e)
 
 -- a row's tests, by what the code asks of the row that it has read
-pub early : (ts : List ℕ) (t : ℕ) {e : Term} {r : Bool} → e ≡ termAt ts t → r ≡ all (λ x. eqb x blank || ltb x t) (cellsOf e) → earlier ts t ≡ r
-unfolding earlier cells
-early ts t p q = rw (q, p)
+pub row-flat : (ss ts : List ℕ) (t : ℕ) {e : Term} (g : Bool) → e ≡ termAt ts t
+    → rowNumber ss ts t g ≡ unless (all (before t) (cellsOf e)) 3 (unless (leftFilled (cellsOf e) && suits ss ts t (headOf (e .head))) 4 (unless g 5 0))
+unfolding rowNumber earlier cells
+row-flat ss ts t g p = rw p
 
-pub fitting : (ss ts : List ℕ) (t : ℕ) {e : Term} {k : Head} {f s : Bool} → e ≡ termAt ts t → k ≡ headOf (e .head) → s ≡ suits ss ts t k → f ≡ leftFilled (cellsOf e)
-    → (leftFilled (cells ts t) && suits ss ts t (headOf (head ts t))) ≡ (f && s)
-unfolding cells
-fitting ss ts t p k q r = rw (r, q, k, p)
+module _ (a b c g : Bool) where
+  abbrev number : ℕ
+  number = unless a 3 (unless (b && c) 4 (unless g 5 0))
+
+  pub ragged : a ≡ true → (a && b) ≡ false → 4 ≡ number
+  unfolding unless
+  ragged p q = let r : b ≡ false = rw p at q in rw (p, r)
+
+  pub unfit : (a && b) ≡ true → c ≡ false → 4 ≡ number
+  unfolding unless
+  unfit p q = let r = both-true a b p in rw (r .0, r .1, q)
+
+  pub repeats : (a && b) ≡ true → c ≡ true → g ≡ false → 5 ≡ number
+  unfolding unless
+  repeats p q h = let r = both-true a b p in rw (r .0, r .1, q, h)
+
+  pub fine : (a && b) ≡ true → c ≡ true → g ≡ true → 0 ≡ number
+  unfolding unless
+  fine p q h = let r = both-true a b p in rw (r .0, r .1, q, h)
+
+-- a row without trouble suits its head
+pub suited-row : (ss ts : List ℕ) (u : ℕ) → termNumber ss ts u ≡ 0 → suits ss ts u (headOf (head ts u)) ≡ true
+unfolding termNumber
+suited-row ss ts u e =
+    let p = unless-ok (earlier ts u) 3 _ (omega arith) e in
+    let q = unless-ok (leftFilled (cells ts u) && suits ss ts u (headOf (head ts u))) 4 _ (omega arith) (p .1) in
+    both-true (leftFilled (cells ts u)) _ (T-true _ (q .0)) .1

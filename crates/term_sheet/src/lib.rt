@@ -1,15 +1,14 @@
 // The rows of the term sheet: numbers 3, 4 and 5.
 ghost use mathlib.Core.Path.{_≡_};
-ghost use mathlib.Core.Bool.{_&&_, _||_, not, true};
+ghost use mathlib.Core.Bool.{_&&_, not, true};
 ghost use mathlib.Core.List.{List, _∷_, map};
 ghost use Prim.Native.Nat.{ℕ, _+_, _*_, _-_, _<_, _≤_};
 ghost use lib.ListN.{length};
-ghost use lib.Dec.{eqb, ltb};
-ghost use Rattle.calculus.specs.Lists.{all, eqList};
+ghost use lib.Dec.{eqb};
+ghost use Rattle.calculus.specs.Lists.{all, below, eqList};
 ghost use Rattle.calculus.specs.Numbers.{checkOf};
-ghost use Rattle.calculus.specs.Sheets.{blank};
-ghost use Rattle.calculus.specs.Terms.{sort, prop, filled, leftFilled, cellsOf, argsOf, sameUse, firstUse, suits, termsNumber};
-ghost use Rattle.term_sheet.specs.Found.{FirstRepeat, Whole, Noted, noted, smaller, mostNumbers, column, agree, rowNumber};
+ghost use Rattle.calculus.specs.Terms.{head, sort, prop, filled, cellsOf, argsOf, headOf, sameUse, firstUse, suits, termAt, termsNumber};
+ghost use Rattle.term_sheet.specs.Found.{FirstRepeat, Whole, Known, noted, smaller, least, mixed, mix, otherHead, mostNumbers, column, agree, before, placed, rowNumber};
 use calculus::Check;
 use calculus::Head;
 use calculus::Row;
@@ -42,8 +41,11 @@ fn count(e: Term) -> u16
 fn more_prop(terms: &[u16], x: u16, rest: bool) -> bool
     ensures { λ r. ⌜ ((xs : List ℕ) → rest ≡ all (prop (now (terms .entry))) (filled xs) → r ≡ all (prop (now (terms .entry))) (filled (x ∷ xs))) ⌝ }
 {
+    if x == BLANK {
+        return true;
+    }
     let s = sheets::sort_of(terms, Row(x));
-    (x == BLANK) | ((s.0 == 0) & rest)
+    (s.0 == 0) & rest
 }
 
 // Whether all arguments of a row are props.
@@ -60,14 +62,20 @@ fn all_props(terms: &[u16], e: Term) -> bool
 fn more_plain(terms: &[u16], x: u16, rest: bool) -> bool
     ensures { λ r. ⌜ ((xs : List ℕ) → rest ≡ all (λ a. not (prop (now (terms .entry)) a)) (filled xs) → r ≡ all (λ a. not (prop (now (terms .entry)) a)) (filled (x ∷ xs))) ⌝ }
 {
+    if x == BLANK {
+        return true;
+    }
     let s = sheets::sort_of(terms, Row(x));
-    (x == BLANK) | (!(s.0 == 0) & rest)
+    !(s.0 == 0) & rest
 }
 
 // Whether no argument of a row is a prop.
 fn all_plain(terms: &[u16], e: Term) -> bool
     ensures { λ r. ⌜ r ≡ all (λ a. not (prop (now (terms .entry)) a)) (argsOf e) ⌝ }
 {
+    if e.a == BLANK {
+        return true;
+    }
     let d = more_plain(terms, e.d, true);
     let c = more_plain(terms, e.c, d);
     let b = more_plain(terms, e.b, c);
@@ -81,22 +89,22 @@ fn more_sort(terms: &[u16], x: u16, y: u16, rest: bool) -> bool
     if x == y {
         return (x == BLANK) | rest;
     }
+    if (x == BLANK) | (y == BLANK) {
+        return false;
+    }
     let s = sheets::sort_of(terms, Row(x));
     let t = sheets::sort_of(terms, Row(y));
-    ((x == BLANK) & (y == BLANK)) | (!(x == BLANK) & (!(y == BLANK) & ((s.0 == t.0) & rest)))
+    (s.0 == t.0) & rest
 }
 
 // ---- the use of a free head
 
-// Whether rows u and t are of one sort, with as many arguments of the same sorts.
-fn same_use(terms: &[u16], u: Row, t: Row) -> bool
+// Whether rows u and t, row t read as g, are of one sort, with as many arguments of the same sorts.
+fn same_use(terms: &[u16], u: Row, t: Row, g: Term) -> bool
+    requires { ⌜ g ≡ termAt (now terms) (t .0) ⌝ }
     ensures { λ r. ⌜ r ≡ sameUse (now (terms .entry)) (u .0) (t .0) ⌝ }
 {
-    if u.0 == t.0 {
-        return true;
-    }
     let e = rows::term_at(terms, u);
-    let g = rows::term_at(terms, t);
     let d = more_sort(terms, e.d, g.d, true);
     let c = more_sort(terms, e.c, g.c, d);
     let b = more_sort(terms, e.b, g.b, c);
@@ -104,12 +112,7 @@ fn same_use(terms: &[u16], u: Row, t: Row) -> bool
     (e.sort == g.sort) & a
 }
 
-// A row number as an index.
-fn wide(x: u16) -> usize
-    ensures { λ r. ⌜ r ≡ x ⌝ }
-{
-    x as usize
-}
+// ---- rows noted by a key
 
 // The lesser of a and b.
 fn smaller_of(a: u16, b: usize) -> u16
@@ -118,21 +121,24 @@ fn smaller_of(a: u16, b: usize) -> u16
     if b < a as usize { b as u16 } else { a }
 }
 
-// Row t, whose head is h, is noted in the head's slot.
-fn note(slots: &mut [u16; 1024], h: u16, t: usize)
-    ensures { λ r. ⌜ now (slots .exit) ≡ noted (now (slots .entry)) h t ⌝ }
+// Row t, whose key is k, is noted in the key's slot. The least row of that slot is returned, row t among them.
+fn note(slots: &mut [u16; 1024], k: u32, t: usize) -> usize
+    ensures { λ r. ⌜ now (slots .exit) ≡ noted (now (slots .entry)) k t ⌝ }
+    ensures { λ r. ⌜ r ≡ least (now (slots .entry)) k t ⌝ }
 {
-    let s = (h % 1024) as usize;
-    slots[s] = smaller_of(slots[s], t);
+    let s = (k % 1024) as usize;
+    let u = smaller_of(slots[s], t);
+    slots[s] = u;
+    u as usize
 }
 
-// The first row with the head of row t, row after row.
-fn scan_use(terms: &[u16], t: usize) -> usize
-    requires { ⌜ Whole (now terms) t ⌝ }
+// The first row with the head of row t, where no row before `from` has it.
+fn first_use(terms: &[u16], t: usize, from: usize) -> usize
+    requires { ⌜ Whole (now terms) t × (from ≤ t) × (below from (otherHead (now terms) t) ≡ true) ⌝ }
     ensures { λ r. ⌜ r ≡ firstUse (now (terms .entry)) t ⌝ }
 {
     let h = terms[t * 6];
-    let mut u: usize = 0;
+    let mut u = from;
     while u < t {
         if terms[u * 6] == h {
             return u;
@@ -140,23 +146,6 @@ fn scan_use(terms: &[u16], t: usize) -> usize
         u += 1;
     }
     t
-}
-
-// The same, by the slots: no row before the one in the head's slot has that head, so that only heads that share a slot are scanned for.
-fn first_use(terms: &[u16], t: usize, slots: &[u16; 1024]) -> usize
-    requires { ⌜ Whole (now terms) t × Noted (now terms) t (now slots) ⌝ }
-    ensures { λ r. ⌜ r ≡ firstUse (now (terms .entry)) t ⌝ }
-{
-    let h = terms[t * 6];
-    let s = (h % 1024) as usize;
-    let v = wide(slots[s]);
-    if t <= v {
-        return t;
-    }
-    if terms[v * 6] == h {
-        return v;
-    }
-    scan_use(terms, t)
 }
 
 // ---- a row's head, sort and arguments
@@ -179,11 +168,11 @@ fn suits_equality(terms: &[u16], e: Term) -> bool
     (e.sort == 0) & (n == 2) & !(a.0 == 0) & (a.0 == b.0)
 }
 
-// Whether row t suits select.
-fn suits_select(sorts: &[u16], terms: &[u16], t: Row) -> bool
+// Whether row t, read as e, suits select.
+fn suits_select(sorts: &[u16], terms: &[u16], t: Row, e: Term) -> bool
+    requires { ⌜ e ≡ termAt (now terms) (t .0) ⌝ }
     ensures { λ r. ⌜ r ≡ suits (now (sorts .entry)) (now (terms .entry)) (t .0) Head.Select ⌝ }
 {
-    let e = rows::term_at(terms, t);
     let n = count(e);
     let a = sheets::sort_of(terms, Row(e.a));
     let b = sheets::sort_of(terms, Row(e.b));
@@ -193,11 +182,11 @@ fn suits_select(sorts: &[u16], terms: &[u16], t: Row) -> bool
     (n == 2) & y & (b.0 == i) & (e.sort == v)
 }
 
-// Whether row t suits store.
-fn suits_store(sorts: &[u16], terms: &[u16], t: Row) -> bool
+// Whether row t, read as e, suits store.
+fn suits_store(sorts: &[u16], terms: &[u16], t: Row, e: Term) -> bool
+    requires { ⌜ e ≡ termAt (now terms) (t .0) ⌝ }
     ensures { λ r. ⌜ r ≡ suits (now (sorts .entry)) (now (terms .entry)) (t .0) Head.Store ⌝ }
 {
-    let e = rows::term_at(terms, t);
     let n = count(e);
     let a = sheets::sort_of(terms, Row(e.a));
     let b = sheets::sort_of(terms, Row(e.b));
@@ -209,54 +198,58 @@ fn suits_store(sorts: &[u16], terms: &[u16], t: Row) -> bool
     (n == 3) & y & (a.0 == e.sort) & (b.0 == i) & (c.0 == v)
 }
 
-// Whether row t suits its free head, which row u is the first to use.
-fn suits_free(sorts: &[u16], terms: &[u16], t: Row, u: Row) -> bool
-    requires { ⌜ u .0 ≡ firstUse (now terms) (t .0) ⌝ }
+// Whether row t, read as e, suits its free head, which row u is the first to use. An earlier row suits the head, so that to be used like it is enough.
+fn suits_free(sorts: &[u16], terms: &[u16], t: Row, e: Term, u: Row) -> bool
+    requires { ⌜ Known (now sorts) (now terms) (t .0) e (u .0) × (headOf (head (now terms) (t .0)) ≡ Head.Free) ⌝ }
     ensures { λ r. ⌜ r ≡ suits (now (sorts .entry)) (now (terms .entry)) (t .0) Head.Free ⌝ }
 {
-    let e = rows::term_at(terms, t);
-    let p = all_plain(terms, e);
-    let s = same_use(terms, u, t);
-    (e.sort as usize <= sorts.len() / 2) & p & s
+    if u.0 == t.0 {
+        let p = all_plain(terms, e);
+        return (e.sort as usize <= sorts.len() / 2) & p;
+    }
+    same_use(terms, u, t, e)
 }
 
-// Whether row t suits its head, which row u is the first to use.
-fn suits_head(sorts: &[u16], terms: &[u16], t: Row, k: Head, u: Row) -> bool
-    requires { ⌜ u .0 ≡ firstUse (now terms) (t .0) ⌝ }
+// Whether row t, read as e, suits its head k, which row u is the first to use.
+fn suits_head(sorts: &[u16], terms: &[u16], t: Row, e: Term, k: Head, u: Row) -> bool
+    requires { ⌜ Known (now sorts) (now terms) (t .0) e (u .0) × (headOf (head (now terms) (t .0)) ≡ k) ⌝ }
     ensures { λ r. ⌜ r ≡ suits (now (sorts .entry)) (now (terms .entry)) (t .0) k ⌝ }
 {
-    let e = rows::term_at(terms, t);
-    let n = count(e);
     match k {
         Head::Equality => suits_equality(terms, e),
-        Head::Negation => connective(terms, e, n == 1),
-        Head::Conjunction => connective(terms, e, 2 <= n),
-        Head::Disjunction => connective(terms, e, 2 <= n),
-        Head::Select => suits_select(sorts, terms, t),
-        Head::Store => suits_store(sorts, terms, t),
-        Head::Free => suits_free(sorts, terms, t, u),
+        Head::Negation => connective(terms, e, count(e) == 1),
+        Head::Conjunction => connective(terms, e, 2 <= count(e)),
+        Head::Disjunction => connective(terms, e, 2 <= count(e)),
+        Head::Select => suits_select(sorts, terms, t, e),
+        Head::Store => suits_store(sorts, terms, t, e),
+        Head::Free => suits_free(sorts, terms, t, e, u),
         Head::Unlisted => false,
     }
 }
 
 // Whether every filled argument of row t is an earlier row.
 fn all_earlier(e: Term, t: Row) -> bool
-    ensures { λ r. ⌜ r ≡ all (λ x. eqb x blank || ltb x (t .0)) (cellsOf e) ⌝ }
+    ensures { λ r. ⌜ r ≡ all (before (t .0)) (cellsOf e) ⌝ }
 {
     ((e.a == BLANK) | (e.a < t.0))
         & (((e.b == BLANK) | (e.b < t.0))
             & (((e.c == BLANK) | (e.c < t.0)) & ((e.d == BLANK) | (e.d < t.0))))
 }
 
-// Whether the arguments are filled from the left.
-fn left_filled(e: Term) -> bool
-    ensures { λ r. ⌜ r ≡ leftFilled (cellsOf e) ⌝ }
+// Whether every filled argument of row t is an earlier row, and the arguments are filled from the left.
+fn in_place(e: Term, t: Row) -> bool
+    ensures { λ r. ⌜ r ≡ placed (t .0) (cellsOf e) ⌝ }
 {
-    let a = e.a == BLANK;
-    let b = e.b == BLANK;
-    let c = e.c == BLANK;
-    let d = e.d == BLANK;
-    (a & (b & (c & d))) | (!a & ((b & (c & d)) | (!b & ((c & d) | !c))))
+    if e.a == BLANK {
+        return (e.b == BLANK) & ((e.c == BLANK) & (e.d == BLANK));
+    }
+    if e.b == BLANK {
+        return (e.a < t.0) & ((e.c == BLANK) & (e.d == BLANK));
+    }
+    if e.c == BLANK {
+        return (e.a < t.0) & ((e.b < t.0) & (e.d == BLANK));
+    }
+    (e.a < t.0) & ((e.b < t.0) & ((e.c < t.0) & ((e.d == BLANK) | (e.d < t.0))))
 }
 
 // ---- the first row that repeats an earlier one
@@ -278,6 +271,28 @@ fn differ(terms: &[u16], t: usize, u: usize, k: usize) -> bool
     !(terms[t * 6 + j] == terms[u * 6 + j])
 }
 
+// The mix of a head and four arguments, the key that equal rows are sought by.
+fn mixed_of(head: u16, a: u16, b: u16, c: u16, d: u16) -> u32
+    ensures { λ r. ⌜ r ≡ mixed head a b c d ⌝ }
+{
+    head as u32 + 3 * a as u32 + 5 * b as u32 + 7 * c as u32 + 11 * d as u32
+}
+
+// The mix of row t.
+fn mix_of(terms: &[u16], t: usize) -> u32
+    requires { ⌜ Whole (now terms) t ⌝ }
+    ensures { λ r. ⌜ r ≡ mix (now (terms .entry)) t ⌝ }
+{
+    let i = t * 6;
+    mixed_of(
+        terms[i],
+        terms[i + 2],
+        terms[i + 3],
+        terms[i + 4],
+        terms[i + 5],
+    )
+}
+
 // The first of the first n rows with the same head and arguments as an earlier one; n where there is none.
 pub fn first_repeat(terms: &[u16], n: usize) -> usize
     requires { ⌜ n * 6 ≤ length (now terms) ⌝ }
@@ -286,9 +301,8 @@ pub fn first_repeat(terms: &[u16], n: usize) -> usize
     let mut slots = [BLANK; 1024];
     let mut t: usize = 0;
     'rows: while t < n {
-        // Rows before the first use of the head have another one.
-        let mut u = first_use(terms, t, &slots);
-        note(&mut slots, terms[t * 6], t);
+        // Rows before the least one in the slot of row t's mix have another mix, so that they differ from row t.
+        let mut u = note(&mut slots, mix_of(terms, t), t);
         'pairs: while u < t {
             let mut k: usize = 0;
             while k < 5 {
@@ -307,23 +321,22 @@ pub fn first_repeat(terms: &[u16], n: usize) -> usize
 
 // ---- numbers 3, 4, 5
 
-// The number of row t, where row u is the first to use its head and `twin` is the first row that repeats an earlier one.
-fn check_term(sorts: &[u16], terms: &[u16], t: Row, u: Row, twin: usize) -> Check
-    requires { ⌜ u .0 ≡ firstUse (now terms) (t .0) ⌝ }
+// The number of row t, read as e, where row u is the first to use its head and `twin` is the first row that repeats an earlier one.
+fn check_term(sorts: &[u16], terms: &[u16], t: Row, e: Term, u: Row, twin: usize) -> Check
+    requires { ⌜ Known (now sorts) (now terms) (t .0) e (u .0) ⌝ }
     ensures { λ r. ⌜ r ≡ checkOf (rowNumber (now (sorts .entry)) (now (terms .entry)) (t .0) (not (eqb (t .0) twin))) ⌝ }
 {
-    let e = rows::term_at(terms, t);
-    if !all_earlier(e, t) {
+    if !in_place(e, t) {
+        if all_earlier(e, t) {
+            return Check::Refused(4);
+        }
         return Check::Refused(3);
     }
     let k = rows::head_of(e.head);
-    let s = suits_head(sorts, terms, t, k, u);
-    let f = left_filled(e);
-    if !(f & s) {
+    if !suits_head(sorts, terms, t, e, k, u) {
         return Check::Refused(4);
     }
-    let fresh = !(t.0 as usize == twin);
-    if !fresh {
+    if t.0 as usize == twin {
         return Check::Refused(5);
     }
     Check::Passed
@@ -339,14 +352,16 @@ pub fn check_terms(sorts: &[u16], terms: &[u16]) -> Check
     let mut slots = [BLANK; 1024];
     let mut t: u16 = 0;
     while (t as usize) < n {
-        let u = first_use(terms, t as usize, &slots);
-        let c = check_term(sorts, terms, Row(t), Row(u as u16), twin);
+        let i = t as usize;
+        let e = rows::term_at(terms, Row(t));
+        let v = note(&mut slots, e.head as u32, i);
+        let u = first_use(terms, i, v);
+        let c = check_term(sorts, terms, Row(t), e, Row(u as u16), twin);
         match c {
             Check::Refused(number) => {
                 return Check::Refused(number);
             }
             Check::Passed => {
-                note(&mut slots, terms[t as usize * 6], t as usize);
                 t += 1;
             }
         }

@@ -1,7 +1,7 @@
 -- `term_sheet::more_sort` meets its contract.
 use mathlib.Core.Path.{sym}
 use Rattle.calculus.specs.Terms.{sort}
-use Rattle.term_sheet.proofs.Laws.{sorts-more, sorts-same}
+use Rattle.term_sheet.proofs.Laws.{sorts-end, sorts-more, sorts-same}
 use borrow.Author.Needs.{needs}
 use Rattle.term_sheet.proofs.more_sort.Statement.{statement}
 use Rattle.term_sheet.proofs.more_sort.Tie as tie
@@ -11,16 +11,21 @@ returns c xs ys e =
     let s = c .before .before .args in
     rw e (sym (sorts-same (sort (s .terms .now)) (s .x) (s .y) xs ys (c .if1 .taken)))
 
+returns-2 : tie.Need-returns-2
+returns-2 c xs ys e =
+    let s = c .before .before .before .args in
+    sorts-end (sort (s .terms .now)) (s .x) (s .y) xs ys (c .before .if1 .left) (c .if2 .taken)
+
 sort-of-requires : tie.Need-sort-of-requires
 sort-of-requires c κs = search needs
 
 sort-of-requires-2 : tie.Need-sort-of-requires-2
 sort-of-requires-2 c κs = search needs
 
-returns-2 : tie.Need-returns-2
-returns-2 c xs ys e =
-    let s = c .before .before .before .before .before .before .args in
-    rw (c .before .before .sort-of2 .ensures, c .before .before .before .sort-of .ensures, e) (sym (sorts-more (sort (s .terms .now)) (s .x) (s .y) xs ys))
+returns-3 : tie.Need-returns-3
+returns-3 c xs ys e =
+    let s = c .before .before .before .before .before .before .before .args in
+    rw (c .before .before .sort-of2 .ensures, c .before .before .before .sort-of .ensures, e) (sym (sorts-more (sort (s .terms .now)) (s .x) (s .y) xs ys (c .before .before .before .before .if2 .left)))
 
 pub more-sort-spec : {M : Type 1} → statement M
-more-sort-spec = tie.close (tie.spec returns sort-of-requires sort-of-requires-2 returns-2)
+more-sort-spec = tie.close (tie.spec returns returns-2 sort-of-requires sort-of-requires-2 returns-3)

@@ -22,9 +22,12 @@ mul-slots c = search needs
 element-write-slots : tie.Need-element-write-slots
 element-write-slots c = search needs
 
+cast-result : tie.Need-cast-result
+cast-result c = search needs
+
 returns : tie.Need-returns
 unfolding noted
-returns c = rw (c .smaller-of .ensures)
+returns c = (rw (c .smaller-of .ensures), c .smaller-of .ensures)
 
 pub note-spec : {M : Type 1} → statement M
 note-spec =
@@ -36,4 +39,5 @@ note-spec =
     smaller-of-requires
     mul-slots
     element-write-slots
+    cast-result
     returns)

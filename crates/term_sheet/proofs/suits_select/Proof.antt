@@ -4,9 +4,6 @@ use borrow.Author.Needs.{needs}
 use Rattle.term_sheet.proofs.suits_select.Statement.{statement}
 use Rattle.term_sheet.proofs.suits_select.Tie as tie
 
-term-at-requires : tie.Need-term-at-requires
-term-at-requires c κs = search needs
-
 count-requires : tie.Need-count-requires
 count-requires c κs = search needs
 
@@ -27,13 +24,13 @@ value-sort-requires c κs = search needs
 
 returns : tie.Need-returns
 unfolding suits args arg cells
-returns c = rw (c .before .before .value-sort .ensures, c .before .before .before .index-sort .ensures, c .before .before .before .before .is-array .ensures, c .before .before .before .before .before .sort-of2 .ensures, c .before .before .before .before .before .before .sort-of .ensures, c .before .before .before .before .before .before .before .count .ensures, c .before .before .before .before .before .before .before .before .term-at .ensures)
+returns c =
+    rw (c .before .before .value-sort .ensures, c .before .before .before .index-sort .ensures, c .before .before .before .before .is-array .ensures, c .before .before .before .before .before .sort-of2 .ensures, c .before .before .before .before .before .before .sort-of .ensures, c .before .before .before .before .before .before .before .count .ensures, c .before .before .before .before .before .before .before .before .before .before .pre)
 
 pub suits-select-spec : {M : Type 1} → statement M
 suits-select-spec =
     tie.close
     (tie.spec
-    term-at-requires
     count-requires
     sort-of-requires
     sort-of-requires-2

@@ -4,9 +4,6 @@ use borrow.Author.Needs.{needs}
 use Rattle.term_sheet.proofs.suits_store.Statement.{statement}
 use Rattle.term_sheet.proofs.suits_store.Tie as tie
 
-term-at-requires : tie.Need-term-at-requires
-term-at-requires c κs = search needs
-
 count-requires : tie.Need-count-requires
 count-requires c κs = search needs
 
@@ -30,13 +27,13 @@ value-sort-requires c κs = search needs
 
 returns : tie.Need-returns
 unfolding suits args arg cells
-returns c = rw (c .before .before .before .before .value-sort .ensures, c .before .before .before .before .before .index-sort .ensures, c .before .before .before .before .before .before .is-array .ensures, c .before .before .before .before .before .before .before .sort-of3 .ensures, c .before .before .before .before .before .before .before .before .sort-of2 .ensures, c .before .before .before .before .before .before .before .before .before .sort-of .ensures, c .before .before .before .before .before .before .before .before .before .before .count .ensures, c .before .before .before .before .before .before .before .before .before .before .before .term-at .ensures)
+returns c =
+    rw (c .before .before .before .before .value-sort .ensures, c .before .before .before .before .before .index-sort .ensures, c .before .before .before .before .before .before .is-array .ensures, c .before .before .before .before .before .before .before .sort-of3 .ensures, c .before .before .before .before .before .before .before .before .sort-of2 .ensures, c .before .before .before .before .before .before .before .before .before .sort-of .ensures, c .before .before .before .before .before .before .before .before .before .before .count .ensures, c .before .before .before .before .before .before .before .before .before .before .before .before .before .pre)
 
 pub suits-store-spec : {M : Type 1} → statement M
 suits-store-spec =
     tie.close
     (tie.spec
-    term-at-requires
     count-requires
     sort-of-requires
     sort-of-requires-2
