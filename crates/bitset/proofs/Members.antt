@@ -46,7 +46,7 @@ module _ (ws : List ℕ) (b w i j y : ℕ) (h : i < w) (fits : getD ws (b + i) 0
   word-none e u l m = at-bit u l m ∙ ap (λ (x : ℕ). bitAt x (u - (64 * i + j))) e ∙ bit-zero _
 
   module _ (p : 0 < y) (small : y < 2 ^ 64) where
-    first-in : j + trailingZeros 64 y < 64
+    pub first-in : j + trailingZeros 64 y < 64
     first-in =
         ⊎-elim (λ e. ltb-true _ _ e)
         (λ e. let c : false ≡ true = sym (bit-high (getD ws (b + i) 0) (j + trailingZeros 64 y) fits (ltb-false _ _ e)) ∙ sym (bits (trailingZeros 64 y)) ∙ bit-first y p small in

@@ -18,7 +18,7 @@ use Rattle.bitset.proofs.Windows.{set-past}
 use Rattle.trail.specs.Words.{kinds, levels, trailIn}
 use Rattle.trail.proofs.Abstract.{level-insert, level-none, holds-yes, holds-no}
 use Rattle.trail.proofs.Laws.{entry-at}
-use Rattle.levels.specs.Decisions.{firstOrderAny}
+use Rattle.levels.specs.Decisions.{firstOrderAny, NoneIn}
 
 -- no row past a window is in it
 pub past : (ws : List ℕ) (b w u : ℕ) → 64 * w ≤ u → setAt ws b w u ≡ false
@@ -113,27 +113,33 @@ level-skip s a from t tr top d l e =
     tr top d e))
     (is-or-not (eqb t a))
 
--- ---- p of no member so far
+-- ---- p of none of the members between two rows
 
-abbrev pub NoneSo : Set → (ℕ → Bool) → ℕ → Type 0
-NoneSo s p from = (u : ℕ) → u < from → s u ≡ true → p u ≡ false
+module _ (s : Set) (p : ℕ → Bool) where
+  pub none-join : (a b c : ℕ) → NoneIn s p a b → NoneIn s p b c → NoneIn s p a c
+  none-join a b c f g u l m = ⊎-elim (λ q. f u l (ltb-true u b q)) (λ q. g u (ltb-false u b q) m) (is-or-not (ltb u b))
 
-pub none-next : (s : Set) (p : ℕ → Bool) (from t : ℕ) → NoneSo s p from → Least s from t → p t ≡ false → NoneSo s p (t + 1)
-none-next s p from t h l n u a m =
-    ⊎-elim
-    (λ q. let e : u ≡ t = eqb-true u t q in ap p e ∙ n)
-    (λ q. let ne : u ≡ t → ⊥ = eqb-false u t q in ⊎-elim
-    (λ b. h u (ltb-true u from b) m)
-    (λ b. absurd (true-or-false m (l .none u (ltb-false u from b) (omega arith))))
-    (is-or-not (ltb u from)))
-    (is-or-not (eqb u t))
+  pub none-clear : (a b : ℕ) → Clear s a b → NoneIn s p a b
+  none-clear a b c u l m h = absurd (true-or-false h (c u l m))
 
-pub none-all : (s : Set) (p : ℕ → Bool) (from bound : ℕ) → NoneSo s p from → Clear s from bound → ((u : ℕ) → bound ≤ u → s u ≡ false) → (u : ℕ) → s u ≡ true → p u ≡ false
-none-all s p from bound h c past u m =
-    ⊎-elim
-    (λ b. h u (ltb-true u from b) m)
-    (λ b. absurd (⊎-elim (λ a. true-or-false m (c u (ltb-false u from b) (ltb-true u bound a))) (λ a. true-or-false m (past u (ltb-false u bound a))) (is-or-not (ltb u bound))))
-    (is-or-not (ltb u from))
+  pub none-least : (a t : ℕ) → Least s a t → p t ≡ false → NoneIn s p a (t + 1)
+  none-least a t l n u g m h =
+      ⊎-elim
+      (λ q. let e : u ≡ t = eqb-true u t q in ap p e ∙ n)
+      (λ q. let ne : u ≡ t → ⊥ = eqb-false u t q in none-clear a t (l .none) u g (omega arith) h)
+      (is-or-not (eqb u t))
+
+  -- one member more
+  pub none-next : (from t : ℕ) → NoneIn s p 0 from → Least s from t → p t ≡ false → NoneIn s p 0 (t + 1)
+  none-next from t h l n = none-join 0 from (t + 1) h (none-least from t l n)
+
+  -- there are no members past the bound
+  pub none-past : (bound : ℕ) → NoneIn s p 0 bound → ((u : ℕ) → bound ≤ u → s u ≡ false) → (u : ℕ) → s u ≡ true → p u ≡ false
+  none-past bound f past u h =
+      ⊎-elim (λ q. f u (omega arith) (ltb-true u bound q) h) (λ q. absurd (true-or-false h (past u (ltb-false u bound q)))) (is-or-not (ltb u bound))
+
+  pub none-all : (from bound : ℕ) → NoneIn s p 0 from → Clear s from bound → ((u : ℕ) → bound ≤ u → s u ≡ false) → (u : ℕ) → s u ≡ true → p u ≡ false
+  none-all from bound h c past = none-past bound (none-join 0 from bound h (none-clear from bound c)) past
 
 -- none of the members: the set holds none
 pub holds-none : (tr : Trail) (s : Set) (p : Entry → Bool) → Distinct tr → ((u : ℕ) → s u ≡ true → p (entry tr u) ≡ false) → holds tr s p ≡ false

@@ -10,7 +10,7 @@ ghost use Rattle.calculus.specs.Run.{written};
 ghost use Rattle.calculus.specs.Reached.{Within};
 ghost use Rattle.bitset.specs.Windows.{setAt};
 ghost use Rattle.trail.specs.Words.{trailIn, Laid};
-ghost use Rattle.levels.specs.Decisions.{firstOrderAny};
+ghost use Rattle.levels.specs.Decisions.{firstOrderAny, WordTells};
 use bitset::Found;
 use calculus::Level;
 use calculus::Row;
@@ -126,7 +126,35 @@ pub fn first_order_any(
     (work[terms * w + 2 * terms + u] == 2) & !(sheet[u * 6 + 1] == 0)
 }
 
-// Whether the set at e, whose members are all on the trail, holds a first-order decision of any level.
+// Whether one of the members in word k of the set at e is a first-order decision of any level. `rest` has the bits of the word from bit `off` on.
+fn word_first_order_any(
+    work: &[u64],
+    w: usize,
+    terms: usize,
+    n: usize,
+    sheet: &[u16],
+    e: usize,
+    k: usize,
+) -> bool
+    requires { ⌜ Laid w terms (now work) n × (terms * 6 ≤ length (now sheet)) × (e + w ≤ length (now work)) × Within (setAt (now work) e w) (trailIn w terms (now work) n) × (k < w) ⌝ }
+    ensures { λ r. ⌜ WordTells (trailIn w terms (now (work .entry)) n) (setAt (now (work .entry)) e w) (firstOrderAny (now (sheet .entry))) k r ⌝ }
+{
+    let mut rest = work[e + k];
+    let mut off: usize = 0;
+    while 0 < rest {
+        let j = u64::trailing_zeros(rest) as usize;
+        let t = 64 * k + off + j;
+        if first_order_any(work, w, terms, n, sheet, Row(t as u16)) {
+            return true;
+        }
+        rest = rest >> j as u64 >> 1u64;
+        off = off + j + 1;
+    }
+    false
+}
+
+// Whether the set at e, whose members are all on the trail, holds a first-order decision of any level. Every resolve asks this, so that
+// it goes word by word.
 pub fn holds_first_order_any(
     work: &[u64],
     w: usize,
@@ -138,16 +166,10 @@ pub fn holds_first_order_any(
     requires { ⌜ Laid w terms (now work) n × (terms * 6 ≤ length (now sheet)) × (e + w ≤ length (now work)) × Within (setAt (now work) e w) (trailIn w terms (now work) n) ⌝ }
     ensures { λ r. ⌜ r ≡ holds (trailIn w terms (now (work .entry)) n) (setAt (now (work .entry)) e w) (firstOrderAny (now (sheet .entry))) ⌝ }
 {
-    let mut from: usize = 0;
-    while from < 64 * w {
-        let found = bitset::next_member(work, e, w, from);
-        let Found::At(t) = found else {
-            return false;
-        };
-        if first_order_any(work, w, terms, n, sheet, t) {
+    for k in 0..w {
+        if word_first_order_any(work, w, terms, n, sheet, e, k) {
             return true;
         }
-        from = t.0 as usize + 1;
     }
     false
 }

@@ -1,65 +1,49 @@
--- `levels::holds_first_order_any` meets its contract. No member passed is such a decision. Assumes nothing.
-use Prim.Native.Nat.{_-_, _*_}
-use mathlib.Core.Path.{sym, _∙_}
+-- `levels::holds_first_order_any` meets its contract. No member of a word passed is such a decision. Assumes nothing.
+use Prim.Native.Nat.{_+_, _-_, _*_, _≤_}
 use native.Mathlib.Omega.{arith}
+use mathlib.Core.Path.{sym}
 use borrow.Author.Needs.{needs}
 use Rattle.calculus.specs.Trail.{entry}
 use Rattle.bitset.specs.Windows.{setAt}
-use Rattle.bitset.proofs.Members.{found-at, found-none}
 use Rattle.trail.specs.Words.{trailIn}
-use Rattle.trail.proofs.Abstract.{on-below, holds-yes}
-use Rattle.levels.specs.Decisions.{firstOrderAny}
-use Rattle.levels.proofs.Laws.{NoneSo, past, none-next, none-all, holds-none}
+use Rattle.levels.specs.Decisions.{firstOrderAny, NoneIn}
+use Rattle.levels.proofs.Laws.{past, none-join, none-past, holds-none}
 use Rattle.levels.proofs.holds_first_order_any.Statement.{statement}
 use Rattle.levels.proofs.holds_first_order_any.Tie as tie
 
 abbrev Inv-loop : tie.InvT-loop
-Inv-loop work w terms n sheet e from₀ from = NoneSo (setAt work e w) (λ u. firstOrderAny sheet (entry (trailIn w terms work n) u)) from
+Inv-loop work w terms n sheet e k₀ k = (k ≤ w) × NoneIn (setAt work e w) (λ u. firstOrderAny sheet (entry (trailIn w terms work n) u)) 0 (64 * k)
 
 abbrev μ-loop : tie.MeasureT-loop
-μ-loop work w terms n sheet e from₀ from = 64 * w - from
+μ-loop work w terms n sheet e k₀ k = w - k
 
 loop-holds : tie.Need-loop-holds Inv-loop μ-loop
-loop-holds c = λ u l h. absurd (omega arith)
+loop-holds c = (omega arith, λ u l m. absurd (omega arith))
 
-mul-loop : tie.Need-mul-loop Inv-loop μ-loop
-mul-loop c = search needs
-
-next-member-requires : tie.Need-next-member-requires Inv-loop μ-loop
-next-member-requires c κs = search needs
-
-enum-known-found : tie.Need-enum-known-found Inv-loop μ-loop
-enum-known-found c = search needs
-
-enum-told : tie.Need-enum-told Inv-loop μ-loop
-enum-told c = search needs
+word-first-order-any-requires : tie.Need-word-first-order-any-requires Inv-loop μ-loop
+word-first-order-any-requires c κs = search needs
 
 returns : tie.Need-returns Inv-loop μ-loop
-returns c = sym (holds-none _ _ _ (c .before .before .before .before .before .before .before .pre .0 .distinct) (none-all _ _ _ _ (c .before .before .before .before .loop .inv) (found-none _ _ _ _ (c .before .before .next-member .ensures) (c .enum-told .given .1)) (past _ _ _)))
+returns c = sym (c .before .word-first-order-any .ensures .0 (c .if1 .taken))
 
-first-order-any-requires : tie.Need-first-order-any-requires Inv-loop μ-loop
-first-order-any-requires c κs = let h = found-at _ _ _ _ _ (c .before .before .before .next-member .ensures) (c .before .found .given .1) in
-    let o = c .before .before .before .before .before .before .before .before .pre .3 _ (h .1 .member) in (c .before .before .before .before .before .before .before .before .pre .0, c .before .before .before .before .before .before .before .before .pre .1, on-below _ _ _ (c .before .before .before .before .before .before .before .before .pre .0 .below) o, o)
-
-returns-2 : tie.Need-returns-2 Inv-loop μ-loop
-returns-2 c = let h = found-at _ _ _ _ _ (c .before .before .before .before .before .next-member .ensures) (c .before .before .before .found .given .1) in
-    sym (holds-yes _ _ _ _ (h .1 .member) (c .before .before .before .before .before .before .before .before .before .before .pre .3 _ (h .1 .member)) (sym (c .before .first-order-any .ensures) ∙ c .if1 .taken))
-
-cast-from : tie.Need-cast-from Inv-loop μ-loop
-cast-from c = search needs
-
-add-from : tie.Need-add-from Inv-loop μ-loop
-add-from c = let h = found-at _ _ _ _ _ (c .before .before .before .before .before .before .next-member .ensures) (c .before .before .before .before .found .given .1) in omega (arith, h .0, h .1 .since)
+add-k : tie.Need-add-k Inv-loop μ-loop
+add-k c = search needs
 
 loop-less : tie.Need-loop-less Inv-loop μ-loop
-loop-less c = let h = found-at _ _ _ _ _ (c .before .before .before .before .before .before .next-member .ensures) (c .before .before .before .before .found .given .1) in omega (arith, h .0, h .1 .since)
+loop-less c = search needs
 
 loop-again : tie.Need-loop-again Inv-loop μ-loop
-loop-again c = let h = found-at _ _ _ _ _ (c .before .before .before .before .before .before .next-member .ensures) (c .before .before .before .before .found .given .1) in
-    none-next _ _ _ _ (c .before .before .before .before .before .before .before .before .loop .inv) (h .1) (sym (c .before .before .first-order-any .ensures) ∙ c .before .if1 .left)
+loop-again c =
+    let l = c .before .before .before .loop in
+    let a = c .before .before .before .before .before .before .args in
+    (search needs, none-join (setAt (a .work .now) (a .e) (a .w)) (λ u. firstOrderAny (a .sheet .now) (entry (trailIn (a .w) (a .terms) (a .work .now) (a .n)) u)) 0 (64 * l .k) (64 * (l .k + 1)) (l .inv .1) (c .before .word-first-order-any .ensures .1 (c .if1 .left)))
 
-returns-3 : tie.Need-returns-3 Inv-loop μ-loop
-returns-3 c = sym (holds-none _ _ _ (c .before .before .before .before .pre .0 .distinct) (none-all _ _ _ (64 * c .before .before .before .before .args .w) (c .before .loop .inv) (λ u p q. absurd (omega arith)) (past _ _ _)))
+returns-2 : tie.Need-returns-2 Inv-loop μ-loop
+returns-2 c =
+    let a = c .before .before .before .before .args in
+    let tr = trailIn (a .w) (a .terms) (a .work .now) (a .n) in
+    let s = setAt (a .work .now) (a .e) (a .w) in
+    sym (holds-none tr s (firstOrderAny (a .sheet .now)) (c .before .before .before .before .pre .0 .distinct) (none-past s (λ u. firstOrderAny (a .sheet .now) (entry tr u)) (64 * c .before .loop .k) (c .before .loop .inv .1) (λ u l. past _ _ _ u (omega arith))))
 
 pub holds-first-order-any-spec : {M : Type 1} → statement M
 holds-first-order-any-spec =
@@ -68,15 +52,9 @@ holds-first-order-any-spec =
     Inv-loop
     μ-loop
     loop-holds
-    mul-loop
-    next-member-requires
-    enum-known-found
-    enum-told
+    word-first-order-any-requires
     returns
-    first-order-any-requires
-    returns-2
-    cast-from
-    add-from
+    add-k
     loop-less
     loop-again
-    returns-3)
+    returns-2)

@@ -9,18 +9,19 @@ use Rattle.bitset.specs.Windows.{setAt}
 use Rattle.bitset.proofs.Members.{found-at, found-none}
 use Rattle.trail.specs.Words.{trailIn}
 use Rattle.trail.proofs.Abstract.{on-below}
-use Rattle.levels.proofs.Laws.{NoneSo, past, none-next, none-all, shares-none, shares-one}
+use Rattle.levels.specs.Decisions.{NoneIn}
+use Rattle.levels.proofs.Laws.{past, none-next, none-all, shares-none, shares-one}
 use Rattle.levels.proofs.share_first_order.Statement.{statement}
 use Rattle.levels.proofs.share_first_order.Tie as tie
 
 abbrev Inv-loop : tie.InvT-loop
-Inv-loop work w terms n sheet e f m from₀ from = NoneSo (setAt work e w) (λ u. setAt work f w u && firstOrder sheet (m .0) (entry (trailIn w terms work n) u)) from
+Inv-loop work w terms n sheet e f m from₀ from = NoneIn (setAt work e w) (λ u. setAt work f w u && firstOrder sheet (m .0) (entry (trailIn w terms work n) u)) 0 from
 
 abbrev μ-loop : tie.MeasureT-loop
 μ-loop work w terms n sheet e f m from₀ from = 64 * w - from
 
 loop-holds : tie.Need-loop-holds Inv-loop μ-loop
-loop-holds c = λ u l h. absurd (omega arith)
+loop-holds c = λ u l m. absurd (omega arith)
 
 mul-loop : tie.Need-mul-loop Inv-loop μ-loop
 mul-loop c = search needs
