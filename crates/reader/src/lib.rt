@@ -152,7 +152,7 @@ fn empty_line(core: Core) -> Step
 }
 
 // A row of a sheet.
-fn sheet_row(sheet: Sheet, counts: Counts, line: &[u8], names: &mut [u8; 35360]) -> Row
+fn sheet_row(sheet: Sheet, counts: Counts, line: &[u8], names: &mut [u8; 39008]) -> Row
     requires { ⌜ Bounded counts ⌝ }
     ensures { λ r. ⌜ takenOf r (now (names .exit)) ≡ rowOf sheet (keptOf counts (now (names .entry))) (pieces 32 (now (line .entry))) ⌝ }
     ensures { λ r. ⌜ Within r ⌝ }
@@ -189,7 +189,7 @@ fn row_line(core: Core, taken: Row) -> Step
 }
 
 // A line that is not too long, after good ones.
-fn read_line(core: Core, line: &[u8], names: &mut [u8; 35360]) -> Step
+fn read_line(core: Core, line: &[u8], names: &mut [u8; 39008]) -> Step
     requires { ⌜ Bounded (core .counts) ⌝ }
     ensures { λ r. ⌜ effectOf r (now (names .exit)) ≡ readLine (controlOf core (now (names .entry))) (now (line .entry)) ⌝ }
     ensures { λ r. ⌜ StepBounded r ⌝ }
@@ -224,7 +224,7 @@ fn number_line(core: Core, n: usize) -> Core
 }
 
 // A finished line: the first `at` bytes of the buffer.
-fn end_line(core: Core, n: usize, at: usize, line: &[u8], names: &mut [u8; 35360]) -> Step
+fn end_line(core: Core, n: usize, at: usize, line: &[u8], names: &mut [u8; 39008]) -> Step
     requires { ⌜ Bounded (core .counts) ⌝ }
     requires { ⌜ length (now line) ≡ 526 ⌝ }
     ensures { λ r. ⌜ effectOf r (now (names .exit)) ≡ lineEffect (controlOf core (now (names .entry))) n (take at (now (line .entry))) ⌝ }
@@ -301,7 +301,7 @@ fn feed_newline(
     core: Core,
     pos: Position,
     line: &[u8; 526],
-    names: &mut [u8; 35360],
+    names: &mut [u8; 39008],
     sorts: &mut [u16],
     terms: &mut [u16],
     inputs: &mut [u16],
@@ -328,7 +328,7 @@ fn feed_byte(
     f: Progress,
     b: u8,
     line: &mut [u8; 526],
-    names: &mut [u8; 35360],
+    names: &mut [u8; 39008],
     sorts: &mut [u16],
     terms: &mut [u16],
     inputs: &mut [u16],
@@ -358,7 +358,7 @@ pub fn feed(
     start: Progress,
     piece: &[u8],
     line: &mut [u8; 526],
-    names: &mut [u8; 35360],
+    names: &mut [u8; 39008],
     sorts: &mut [u16],
     terms: &mut [u16],
     inputs: &mut [u16],
@@ -557,7 +557,7 @@ fn leave_sheet(code: u16, sheet: &mut [u16])
 pub fn finish(
     f: Progress,
     line: &mut [u8; 526],
-    names: &mut [u8; 35360],
+    names: &mut [u8; 39008],
     sorts: &mut [u16],
     terms: &mut [u16],
     inputs: &mut [u16],
@@ -597,7 +597,7 @@ pub extern "C" fn cdsat_read(
         r (now (sorts .exit)) (now (terms .exit)) (now (inputs .exit)) (now (steps .exit)) ⌝ }
 {
     let mut line = [0u8; 526];
-    let mut names = [0u8; 35360];
+    let mut names = [0u8; 39008];
     let start = begin(sorts, terms, inputs, steps);
     let f = feed(
         start,

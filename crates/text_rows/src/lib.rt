@@ -1,5 +1,6 @@
 // Rows of sorts and terms, and what all rows share.
 ghost use mathlib.Core.Path.{_≡_};
+ghost use mathlib.Core.Bool.{false};
 ghost use mathlib.Core.List.{List, []};
 ghost use Prim.Native.Nat.{ℕ, _+_, _≤_, _<_};
 ghost use lib.ListN.{getD};
@@ -47,7 +48,7 @@ pub fn refuse(counts: Counts, code: u16, place: usize) -> Row
 }
 
 // What a field says of the terms so far.
-fn term_ref(names: &[u8; 35360], count: usize, f: &[u8]) -> u16
+fn term_ref(names: &[u8; 39008], count: usize, f: &[u8]) -> u16
     requires { ⌜ count ≤ 256 ⌝ }
     ensures { λ r. ⌜ r ≡ refOf (namesFrom (now (names .entry)) 32 count) (now (f .entry)) ⌝ }
 {
@@ -62,7 +63,7 @@ fn term_ref(names: &[u8; 35360], count: usize, f: &[u8]) -> u16
 
 // Field k of a line as a term.
 pub fn term_column(
-    names: &[u8; 35360],
+    names: &[u8; 39008],
     count: usize,
     line: &[u8],
     marks: &[usize; 18],
@@ -77,7 +78,7 @@ pub fn term_column(
 }
 
 // What a field says of the sorts so far.
-fn sort_ref(names: &[u8; 35360], count: usize, f: &[u8]) -> u16
+fn sort_ref(names: &[u8; 39008], count: usize, f: &[u8]) -> u16
     requires { ⌜ count ≤ 32 ⌝ }
     ensures { λ r. ⌜ r ≡ sortRef (namesFrom (now (names .entry)) 0 count) (now (f .entry)) ⌝ }
 {
@@ -95,7 +96,7 @@ fn sort_ref(names: &[u8; 35360], count: usize, f: &[u8]) -> u16
 
 // Field k of a line as a sort.
 pub fn sort_column(
-    names: &[u8; 35360],
+    names: &[u8; 39008],
     count: usize,
     line: &[u8],
     marks: &[usize; 18],
@@ -110,7 +111,8 @@ pub fn sort_column(
 }
 
 // Whether a row may not have this name of its own.
-pub fn is_taken(names: &[u8; 35360], base: usize, count: usize, f: &[u8]) -> bool
+pub fn is_taken(names: &[u8; 39008], base: usize, count: usize, f: &[u8]) -> bool
+    requires { ⌜ base ≤ 288 ⌝ }
     requires { ⌜ base + count ≤ 544 ⌝ }
     ensures { λ r. ⌜ r ≡ isTaken (namesFrom (now (names .entry)) base count) (now (f .entry)) ⌝ }
 {
@@ -127,18 +129,19 @@ pub fn is_taken(names: &[u8; 35360], base: usize, count: usize, f: &[u8]) -> boo
 }
 
 // A sort row that is good.
-fn put_sort(counts: Counts, line: &[u8], marks: &[usize; 18], names: &mut [u8; 35360]) -> Row
+fn put_sort(counts: Counts, line: &[u8], marks: &[usize; 18], names: &mut [u8; 39008]) -> Row
     requires { ⌜ Bounded counts ⌝ }
     requires { ⌜ counts .sorts < 32 ⌝ }
     requires { ⌜ shapeOf 3 0 (pieces 32 (now line)) ≡ Shape.Good ⌝ }
     requires { ⌜ Marked (now line) (now marks) 3 ⌝ }
+    requires { ⌜ isTaken (namesFrom (now names) 0 (counts .sorts)) (getD (pieces 32 (now line)) 0 []) ≡ false ⌝ }
     ensures { λ r. ⌜ takenOf r (now (names .exit)) ≡ sortAdded (keptOf counts (now (names .entry))) (pieces 32 (now (line .entry))) ⌝ }
     ensures { λ r. ⌜ Within r ⌝ }
 {
     let n = counts.sorts;
     let index = sort_column(names, n, line, marks, 1);
     let value = sort_column(names, n, line, marks, 2);
-    text_names::put_name(names, n, text_fields::field(line, marks, 0));
+    text_names::put_name(names, 0, n, text_fields::field(line, marks, 0));
     Row {
         code: 0,
         place: 0,
@@ -155,7 +158,7 @@ fn put_sort(counts: Counts, line: &[u8], marks: &[usize; 18], names: &mut [u8; 3
 }
 
 // A sort row that is well formed.
-fn add_sort(counts: Counts, line: &[u8], marks: &[usize; 18], names: &mut [u8; 35360]) -> Row
+fn add_sort(counts: Counts, line: &[u8], marks: &[usize; 18], names: &mut [u8; 39008]) -> Row
     requires { ⌜ Bounded counts ⌝ }
     requires { ⌜ shapeOf 3 0 (pieces 32 (now line)) ≡ Shape.Good ⌝ }
     requires { ⌜ Marked (now line) (now marks) 3 ⌝ }
@@ -173,7 +176,7 @@ fn add_sort(counts: Counts, line: &[u8], marks: &[usize; 18], names: &mut [u8; 3
 }
 
 // A line of the sort sheet.
-pub fn sort_row(counts: Counts, line: &[u8], names: &mut [u8; 35360]) -> Row
+pub fn sort_row(counts: Counts, line: &[u8], names: &mut [u8; 39008]) -> Row
     requires { ⌜ Bounded counts ⌝ }
     ensures { λ r. ⌜ takenOf r (now (names .exit)) ≡ sortRow (keptOf counts (now (names .entry))) (pieces 32 (now (line .entry))) ⌝ }
     ensures { λ r. ⌜ Within r ⌝ }

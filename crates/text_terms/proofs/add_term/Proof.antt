@@ -45,7 +45,7 @@ returns-2 c =
     )
 
 put-term-requires : tie.Need-put-term-requires
-put-term-requires c κs = search needs
+put-term-requires c κs = let a = c .before .before .before .before .before .before .before .args in (c .before .before .before .before .before .before .before .pre .0, (omega arith, (c .before .before .before .before .before .before .before .pre .1 .0, (c .before .before .before .before .before .before .before .pre .1 .1, sym (c .before .before .is-taken .ensures ∙ ap (isTaken (namesFrom (a .names .now) 32 (a .counts .terms))) (c .before .before .before .field .ensures)) ∙ c .before .if2 .left))))
 
 returns-3 : tie.Need-returns-3
 returns-3 c =

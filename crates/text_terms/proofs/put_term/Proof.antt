@@ -7,22 +7,22 @@ use Rattle.text_terms.proofs.put_term.Statement.{statement}
 use Rattle.text_terms.proofs.put_term.Tie as tie
 
 sort-column-requires : tie.Need-sort-column-requires
-sort-column-requires c κs = (omega (arith, c .before .before .pre .0, c .before .before .pre .1 .0), (omega arith, c .before .before .pre .1 .1 .1 2 (omega arith)))
+sort-column-requires c κs = (omega (arith, c .before .before .pre .0, c .before .before .pre .1 .0), (omega arith, c .before .before .pre .1 .1 .1 .0 2 (omega arith)))
 
 term-column-requires : tie.Need-term-column-requires
-term-column-requires c κs = (omega (arith, c .before .before .before .before .pre .0, c .before .before .before .before .pre .1 .0), (omega arith, c .before .before .before .before .pre .1 .1 .1 3 (omega arith)))
+term-column-requires c κs = (omega (arith, c .before .before .before .before .pre .0, c .before .before .before .before .pre .1 .0), (omega arith, c .before .before .before .before .pre .1 .1 .1 .0 3 (omega arith)))
 
 term-column-requires-2 : tie.Need-term-column-requires-2
-term-column-requires-2 c κs = (omega (arith, c .before .before .before .before .before .before .pre .0, c .before .before .before .before .before .before .pre .1 .0), (omega arith, c .before .before .before .before .before .before .pre .1 .1 .1 4 (omega arith)))
+term-column-requires-2 c κs = (omega (arith, c .before .before .before .before .before .before .pre .0, c .before .before .before .before .before .before .pre .1 .0), (omega arith, c .before .before .before .before .before .before .pre .1 .1 .1 .0 4 (omega arith)))
 
 term-column-requires-3 : tie.Need-term-column-requires-3
-term-column-requires-3 c κs = (omega (arith, c .before .before .before .before .before .before .before .before .pre .0, c .before .before .before .before .before .before .before .before .pre .1 .0), (omega arith, c .before .before .before .before .before .before .before .before .pre .1 .1 .1 5 (omega arith)))
+term-column-requires-3 c κs = (omega (arith, c .before .before .before .before .before .before .before .before .pre .0, c .before .before .before .before .before .before .before .before .pre .1 .0), (omega arith, c .before .before .before .before .before .before .before .before .pre .1 .1 .1 .0 5 (omega arith)))
 
 term-column-requires-4 : tie.Need-term-column-requires-4
-term-column-requires-4 c κs = (omega (arith, c .before .before .before .before .before .before .before .before .before .before .pre .0, c .before .before .before .before .before .before .before .before .before .before .pre .1 .0), (omega arith, c .before .before .before .before .before .before .before .before .before .before .pre .1 .1 .1 6 (omega arith)))
+term-column-requires-4 c κs = (omega (arith, c .before .before .before .before .before .before .before .before .before .before .pre .0, c .before .before .before .before .before .before .before .before .before .before .pre .1 .0), (omega arith, c .before .before .before .before .before .before .before .before .before .before .pre .1 .1 .1 .0 6 (omega arith)))
 
 field-requires : tie.Need-field-requires
-field-requires c κs = (omega arith, c .before .before .before .before .before .before .before .before .before .before .before .before .pre .1 .1 .1 1 (omega arith))
+field-requires c κs = (omega arith, c .before .before .before .before .before .before .before .before .before .before .before .before .pre .1 .1 .1 .0 1 (omega arith))
 
 head-of-requires : tie.Need-head-of-requires
 head-of-requires c κs =
@@ -35,19 +35,14 @@ head-of-requires c κs =
       ),
     )
 
-add-put-name : tie.Need-add-put-name
-add-put-name c = omega (arith, c .before .before .before .before .before .before .before .before .before .before .before .before .before .before .before .pre .0, c .before .before .before .before .before .before .before .before .before .before .before .before .before .before .before .pre .1 .0)
-
 field-requires-2 : tie.Need-field-requires-2
-field-requires-2 c κs = (omega arith, c .before .before .before .before .before .before .before .before .before .before .before .before .before .before .before .pre .1 .1 .1 0 (omega arith))
+field-requires-2 c κs = (omega arith, c .before .before .before .before .before .before .before .before .before .before .before .before .before .before .before .pre .1 .1 .1 .0 0 (omega arith))
 
 put-name-requires : tie.Need-put-name-requires
-put-name-requires c κs =
-    let the-pre = c .before .before .before .before .before .before .before .before .before .before .before .before .before .before .before .before .pre in
-    omega (arith, the-pre .1 .0)
+put-name-requires c κs = (omega arith, (omega arith, (c .before .before .before .before .before .before .before .before .before .before .before .before .before .before .before .before .pre .1 .0, rw (c .field2 .ensures) (field-short 7 (pieces 32 (c .before .before .before .before .before .before .before .before .before .before .before .before .before .before .before .before .args .line .now)) 0 (c .before .before .before .before .before .before .before .before .before .before .before .before .before .before .before .before .pre .1 .1 .0) (omega arith)))))
 
-add-t22 : tie.Need-add-t22
-add-t22 c =
+add-t23 : tie.Need-add-t23
+add-t23 c =
     let the-pre = c .before .before .before .before .before .before .before .before .before .before .before .before .before .before .before .before .before .pre in
     omega (arith, the-pre .1 .0)
 
@@ -64,7 +59,7 @@ returns c =
     let the-term-column4 = c .before .before .before .before .before .before .term-column4 in
     let h = the-head-of .ensures in (
       term-stored (a .counts) (a .names .now) _ (the-pre .0) (the-pre .1 .0) (pieces 32 (a .line .now))
-          (the-pre .1 .1 .0) (c .before .field2 .ensures) (the-head-of .result) _ (omega (arith, c .before .before .put-name-arg .given))
+          (the-pre .1 .1 .0) (c .before .field2 .ensures) (the-pre .1 .1 .1 .1) (the-head-of .result) _ (omega (arith, c .before .before .put-name-arg .given))
           (rw (the-field .ensures) at h) _ (c .put-name .ensures) (the-sort-column .result) (the-term-column .result)
           (the-term-column2 .result) (the-term-column3 .result) (the-term-column4 .result) (the-sort-column .ensures)
           (the-term-column .ensures) (the-term-column2 .ensures) (the-term-column3 .ensures)
@@ -83,8 +78,7 @@ put-term-spec =
     term-column-requires-4
     field-requires
     head-of-requires
-    add-put-name
     field-requires-2
     put-name-requires
-    add-t22
+    add-t23
     returns)
