@@ -5,5 +5,6 @@ pub mod Bytes
 pub mod Ends
 pub mod Sizes
 pub mod Whole
+pub mod Runs
 pub mod Final
 pub mod Pieces

@@ -1,5 +1,5 @@
 -- The bytes of a text, fed one by one, do what its lines do.
-use Prim.Native.Nat.{ℕ, _+_, _-_, _≤_, _<_, min}
+use Prim.Native.Nat.{ℕ, _+_, _≤_, _<_, min}
 use mathlib.Core.Path.{_≡_, refl, ap, sym, _∙_}
 use mathlib.Core.Bool.{Bool, true, false}
 use mathlib.Core.List.{List, [], _∷_, _++_, append-assoc}
@@ -81,7 +81,7 @@ line-more k s l (x ∷ xs) = step (eqb x 10) where
   step false = behind (pieces 10 xs)
 
 -- of a line that is too long the first 526 bytes say so
-effect-cut : (c : Control) (n : ℕ) (p : List ℕ) → lineEffect c n (take 526 p) ≡ lineEffect c n p
+pub effect-cut : (c : Control) (n : ℕ) (p : List ℕ) → lineEffect c n (take 526 p) ≡ lineEffect c n p
 unfolding lineEffect
 effect-cut c n p = go (leb (length p) 525) refl where
   go : (t : Bool) → leb (length p) 525 ≡ t

@@ -1,11 +1,11 @@
 // The reader of the four sheets as text.
 ghost use mathlib.Core.Path.{_≡_};
-ghost use mathlib.Core.List.{List};
-ghost use Prim.Native.Nat.{ℕ, _+_, _≤_, _<_, _^_};
-ghost use lib.Dec.{eqb};
+ghost use mathlib.Core.List.{List, [], _∷_, _++_};
+ghost use Prim.Native.Nat.{ℕ, _+_, _-_, _≤_, _<_, _^_};
+ghost use lib.Dec.{eqb, ltb};
 ghost use lib.ListN.{length, take, set, replicate};
 ghost use lib.Seq.{sets};
-ghost use Rattle.text_fields.specs.Split.{pieces, same};
+ghost use Rattle.text_fields.specs.Split.{pick, before, pieces, same};
 ghost use Rattle.text_rows.specs.View.{keptOf, takenOf, Bounded, Within};
 ghost use Rattle.reader.specs.Text.{quiet, bad, enter, headerOf, header, nextSheet, rowOf, row, readLine, numbered, lineEffect, isSteps, faultOf, counted, outcomeOf, TextRead};
 ghost use Rattle.reader.specs.Stream.{Sheets, LineEnded, stored, stepByte, feedAll, controlOf, effectOf, StepBounded, streamOf, holdRows, codeOf, leftSheet, Begun, Finished};
@@ -152,7 +152,7 @@ fn empty_line(core: Core) -> Step
 }
 
 // A row of a sheet.
-fn sheet_row(sheet: Sheet, counts: Counts, line: &[u8], names: &mut [u8; 35360]) -> Row
+fn sheet_row(sheet: Sheet, counts: Counts, line: &[u8], names: &mut [u8; 39008]) -> Row
     requires { ⌜ Bounded counts ⌝ }
     ensures { λ r. ⌜ takenOf r (now (names .exit)) ≡ rowOf sheet (keptOf counts (now (names .entry))) (pieces 32 (now (line .entry))) ⌝ }
     ensures { λ r. ⌜ Within r ⌝ }
@@ -189,7 +189,7 @@ fn row_line(core: Core, taken: Row) -> Step
 }
 
 // A line that is not too long, after good ones.
-fn read_line(core: Core, line: &[u8], names: &mut [u8; 35360]) -> Step
+fn read_line(core: Core, line: &[u8], names: &mut [u8; 39008]) -> Step
     requires { ⌜ Bounded (core .counts) ⌝ }
     ensures { λ r. ⌜ effectOf r (now (names .exit)) ≡ readLine (controlOf core (now (names .entry))) (now (line .entry)) ⌝ }
     ensures { λ r. ⌜ StepBounded r ⌝ }
@@ -224,9 +224,9 @@ fn number_line(core: Core, n: usize) -> Core
 }
 
 // A finished line: the first `at` bytes of the buffer.
-fn end_line(core: Core, n: usize, at: usize, line: &[u8], names: &mut [u8; 35360]) -> Step
+fn end_line(core: Core, n: usize, at: usize, line: &[u8], names: &mut [u8; 39008]) -> Step
     requires { ⌜ Bounded (core .counts) ⌝ }
-    requires { ⌜ length (now line) ≡ 526 ⌝ }
+    requires { ⌜ at ≤ length (now line) + (at - 526) ⌝ }
     ensures { λ r. ⌜ effectOf r (now (names .exit)) ≡ lineEffect (controlOf core (now (names .entry))) n (take at (now (line .entry))) ⌝ }
     ensures { λ r. ⌜ StepBounded r ⌝ }
 {
@@ -296,25 +296,27 @@ fn put_byte(line: &mut [u8], at: usize, b: u8)
     }
 }
 
-// A newline: the line is read, and its row stored.
+// A newline: line n, the first `at` bytes of `line`, is read, and its row stored.
 fn feed_newline(
     core: Core,
-    pos: Position,
-    line: &[u8; 526],
-    names: &mut [u8; 35360],
+    n: usize,
+    at: usize,
+    line: &[u8],
+    names: &mut [u8; 39008],
     sorts: &mut [u16],
     terms: &mut [u16],
     inputs: &mut [u16],
     steps: &mut [u16],
 ) -> Core
     requires { ⌜ Bounded (core .counts) ⌝ }
-    ensures { λ r. ⌜ LineEnded (controlOf core (now (names .entry))) (pos .line) (take (pos .at) (now (line .entry)))
+    requires { ⌜ at ≤ length (now line) + (at - 526) ⌝ }
+    ensures { λ r. ⌜ LineEnded (controlOf core (now (names .entry))) n (take at (now (line .entry)))
         (record { sorts = now (sorts .entry); terms = now (terms .entry); inputs = now (inputs .entry); steps = now (steps .entry) })
         (controlOf r (now (names .exit)))
         (record { sorts = now (sorts .exit); terms = now (terms .exit); inputs = now (inputs .exit); steps = now (steps .exit) }) ⌝ }
     ensures { λ r. ⌜ Bounded (r .counts) ⌝ }
 {
-    let step = end_line(core, pos.line, pos.at, line, names);
+    let step = end_line(core, n, at, line, names);
     let sheet = core.sheet;
     let counts = core.counts;
     let cells = step.cells;
@@ -328,7 +330,7 @@ fn feed_byte(
     f: Progress,
     b: u8,
     line: &mut [u8; 526],
-    names: &mut [u8; 35360],
+    names: &mut [u8; 39008],
     sorts: &mut [u16],
     terms: &mut [u16],
     inputs: &mut [u16],
@@ -343,7 +345,17 @@ fn feed_byte(
     let core = f.core;
     let next = text_position::advanced_by(pos.line, pos.at, b);
     if text_fields::is_newline(b) {
-        let after = feed_newline(core, pos, line, names, sorts, terms, inputs, steps);
+        let after = feed_newline(
+            core,
+            pos.line,
+            pos.at,
+            line,
+            names,
+            sorts,
+            terms,
+            inputs,
+            steps,
+        );
         return Progress {
             pos: next,
             core: after,
@@ -353,12 +365,12 @@ fn feed_byte(
     Progress { pos: next, core }
 }
 
-// The bytes of a piece of the text, in order. Piece after piece is the whole.
-pub fn feed(
+// The bytes of a piece, one by one.
+fn feed_bytes(
     start: Progress,
     piece: &[u8],
     line: &mut [u8; 526],
-    names: &mut [u8; 35360],
+    names: &mut [u8; 39008],
     sorts: &mut [u16],
     terms: &mut [u16],
     inputs: &mut [u16],
@@ -375,6 +387,112 @@ pub fn feed(
     while i < piece.len() {
         f = feed_byte(f, piece[i], line, names, sorts, terms, inputs, steps);
         i += 1;
+    }
+    f
+}
+
+// A line that stands whole in a piece: `l` is what stands before its newline.
+fn feed_line(
+    f: Progress,
+    l: &[u8],
+    names: &mut [u8; 39008],
+    sorts: &mut [u16],
+    terms: &mut [u16],
+    inputs: &mut [u16],
+    steps: &mut [u16],
+) -> Progress
+    requires { ⌜ Bounded (f .core .counts) ⌝ }
+    requires { ⌜ f .pos .at ≡ 0 ⌝ }
+    requires { ⌜ before 10 (now l) ≡ length (now l) ⌝ }
+    ensures { λ r. ⌜ ((line : List ℕ) → streamOf r line (now (names .exit)) (now (sorts .exit)) (now (terms .exit)) (now (inputs .exit)) (now (steps .exit))
+        ≡ feedAll (streamOf f line (now (names .entry)) (now (sorts .entry)) (now (terms .entry)) (now (inputs .entry)) (now (steps .entry)))
+        (now (l .entry) ++ (10 ∷ []))) ⌝ }
+    ensures { λ r. ⌜ Bounded (r .core .counts) ⌝ }
+{
+    let pos = f.pos;
+    let core = f.core;
+    let next = text_position::advanced_by(pos.line, pos.at, 10);
+    let after = feed_newline(
+        core,
+        pos.line,
+        l.len(),
+        l,
+        names,
+        sorts,
+        terms,
+        inputs,
+        steps,
+    );
+    Progress {
+        pos: next,
+        core: after,
+    }
+}
+
+// The bytes up to the next newline, n bytes before it: a whole line at once, else one by one.
+fn feed_part(
+    f: Progress,
+    rest: &[u8],
+    n: usize,
+    line: &mut [u8; 526],
+    names: &mut [u8; 39008],
+    sorts: &mut [u16],
+    terms: &mut [u16],
+    inputs: &mut [u16],
+    steps: &mut [u16],
+) -> Progress
+    requires { ⌜ Bounded (f .core .counts) ⌝ }
+    requires { ⌜ n ≡ before 10 (now rest) ⌝ }
+    requires { ⌜ n ≤ length (now rest) ⌝ }
+    ensures { λ r. ⌜ streamOf r (now (line .exit)) (now (names .exit)) (now (sorts .exit)) (now (terms .exit)) (now (inputs .exit)) (now (steps .exit))
+        ≡ feedAll (streamOf f (now (line .entry)) (now (names .entry)) (now (sorts .entry)) (now (terms .entry)) (now (inputs .entry)) (now (steps .entry)))
+        (take (n + 1) (now (rest .entry))) ⌝ }
+    ensures { λ r. ⌜ Bounded (r .core .counts) ⌝ }
+{
+    if n == rest.len() {
+        return feed_bytes(f, rest, line, names, sorts, terms, inputs, steps);
+    }
+    let at = f.pos.at;
+    if at != 0 {
+        let end = n + 1;
+        return feed_bytes(f, &rest[..end], line, names, sorts, terms, inputs, steps);
+    }
+    feed_line(f, &rest[..n], names, sorts, terms, inputs, steps)
+}
+
+// The place after a newline at `at`, or the end of the piece.
+fn place_after(at: usize, end: usize) -> usize
+    ensures { λ r. ⌜ r ≡ pick (ltb at end) (at + 1) end ⌝ }
+{
+    if at < end {
+        return at + 1;
+    }
+    end
+}
+
+// The bytes of a piece of the text, in order. Piece after piece is the whole.
+pub fn feed(
+    start: Progress,
+    piece: &[u8],
+    line: &mut [u8; 526],
+    names: &mut [u8; 39008],
+    sorts: &mut [u16],
+    terms: &mut [u16],
+    inputs: &mut [u16],
+    steps: &mut [u16],
+) -> Progress
+    requires { ⌜ Bounded (start .core .counts) ⌝ }
+    ensures { λ r. ⌜ streamOf r (now (line .exit)) (now (names .exit)) (now (sorts .exit)) (now (terms .exit)) (now (inputs .exit)) (now (steps .exit))
+        ≡ feedAll (streamOf start (now (line .entry)) (now (names .entry)) (now (sorts .entry)) (now (terms .entry)) (now (inputs .entry)) (now (steps .entry)))
+        (now (piece .entry)) ⌝ }
+    ensures { λ r. ⌜ Bounded (r .core .counts) ⌝ }
+{
+    let mut f = start;
+    let mut i = 0;
+    while i < piece.len() {
+        let n = text_fields::scan(&piece[i..], 10);
+        f = feed_part(f, &piece[i..], n, line, names, sorts, terms, inputs, steps);
+        i = place_after(i + n, piece.len());
     }
     f
 }
@@ -557,7 +675,7 @@ fn leave_sheet(code: u16, sheet: &mut [u16])
 pub fn finish(
     f: Progress,
     line: &mut [u8; 526],
-    names: &mut [u8; 35360],
+    names: &mut [u8; 39008],
     sorts: &mut [u16],
     terms: &mut [u16],
     inputs: &mut [u16],
@@ -597,7 +715,7 @@ pub extern "C" fn cdsat_read(
         r (now (sorts .exit)) (now (terms .exit)) (now (inputs .exit)) (now (steps .exit)) ⌝ }
 {
     let mut line = [0u8; 526];
-    let mut names = [0u8; 35360];
+    let mut names = [0u8; 39008];
     let start = begin(sorts, terms, inputs, steps);
     let f = feed(
         start,

@@ -7,8 +7,8 @@ use native.Mathlib.Omega.{arith}
 use native.Mathlib.Numerals.{add-one}
 use borrow.Author.Tests.{eq-eqb, ne-eqb, le-leb, lt-leb}
 use lib.Dec.{eqb, leb}
-use lib.ListN.{length, take, drop, getD, drop-of-length-le, length-drop}
-use lib.Seq.{drop-cons, take-all}
+use lib.ListN.{length, drop, getD, drop-of-length-le}
+use lib.Seq.{drop-cons}
 use Rattle.text_fields.specs.Split.{pick, before, same}
 use Rattle.text_fields.specs.Class.{classOf, isSpace}
 use Rattle.text_fields.specs.declared.ByteClass.the-variants.{Space, Newline, Name, Other}
@@ -100,7 +100,3 @@ decimal-led (b ∷ d ∷ ds) h k = pick-true _ _ (eq-eqb _ _ h)
 pub decimal-more : (f : List ℕ) → (length f ≡ 0 → ⊥) → (getD f 0 0 ≡ 48 → ⊥) → decimal f ≡ digits 0 f
 decimal-more [] h k = absurd (h refl)
 decimal-more (b ∷ bs) h k = pick-false _ _ (ne-eqb _ _ k)
-
--- what the code's `&l[i..]` holds
-pub rest : (i : ℕ) (l : List ℕ) → take (length l - i) (drop i l) ≡ drop i l
-rest i l = take-all (length l - i) (drop i l) (omega (arith, length-drop i l))

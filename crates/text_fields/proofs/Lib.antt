@@ -1,3 +1,4 @@
 pub mod Laws
 pub mod Cut
 pub mod Lines
+pub mod Splits

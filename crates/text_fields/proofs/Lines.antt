@@ -1,43 +1,23 @@
 -- Laws of the shape of a line, field after field, and of a search in a list.
-use Prim.Native.Nat.{ℕ, suc, _+_, _-_, _≤_, _<_}
-use mathlib.Core.Path.{_≡_, sym}
+use Prim.Native.Nat.{ℕ, zero, suc, _+_, _≤_, _<_}
+use mathlib.Core.Path.{_≡_, refl, sym, _∙_}
 use mathlib.Core.Bool.{Bool, true, false}
 use mathlib.Core.List.{List, [], _∷_}
 use native.Mathlib.Omega.{arith}
+use native.Mathlib.Nat.{add-zero, add-suc, suc-add}
 use native.Mathlib.Numerals.{add-one}
-use borrow.Author.Tests.{eq-eqb, ne-eqb}
+use borrow.Author.Tests.{ne-eqb, eqb-true}
 use lib.Dec.{eqb}
-use lib.ListN.{length, drop, getD, drop-of-length-le}
+use lib.ListN.{length, take, drop, getD, drop-of-length-le}
 use lib.Seq.{drop-cons}
 use Rattle.text_fields.specs.Split.{pick, same, bytes}
-use Rattle.text_fields.specs.Class.{classOf, isName, named}
-use Rattle.text_fields.specs.Shape.{filled, spaced, wellFormed, firstMalformed, shapeOf}
-use Rattle.text_fields.specs.Words.{indexFrom, refOf}
+use Rattle.text_fields.specs.Shape.{spaced, fieldsAre, wellFormed, firstMalformed, shapeAt, shapeOf}
+use Rattle.text_fields.specs.Words.{indexFrom, indexOr, refOf}
 use Rattle.text_fields.specs.declared.Found.the-variants.{At, Nothing}
 use Rattle.text_fields.specs.declared.Shape.the-variants.{Good, Faulty}
 
--- the bytes from i on
-module _ (f : List ℕ) (i : ℕ) where
-  pub named-more : i < length f → isName (classOf (getD f i 0)) ≡ true → named (drop i f) ≡ named (drop (i + 1) f)
-  named-more h e = rw (drop-cons f i 0, e, add-one)
-
-  pub named-stop : i < length f → isName (classOf (getD f i 0)) ≡ false → named (drop i f) ≡ false
-  named-stop h e = rw (drop-cons f i 0, e)
-
-  pub named-end : length f ≤ i → named (drop i f) ≡ true
-  named-end h = rw drop-of-length-le
-
 -- the fields from k on
 module _ (fs : List (List ℕ)) (k : ℕ) where
-  pub spaced-more : k < length fs → filled (getD fs k []) ≡ true → spaced (drop k fs) ≡ spaced (drop (k + 1) fs)
-  spaced-more h e = rw (drop-cons fs k [], e, add-one)
-
-  pub spaced-stop : k < length fs → filled (getD fs k []) ≡ false → spaced (drop k fs) ≡ false
-  spaced-stop h e = rw (drop-cons fs k [], e)
-
-  pub spaced-end : length fs ≤ k → spaced (drop k fs) ≡ true
-  spaced-end h = rw drop-of-length-le
-
   module _ (v : ℕ) where
     pub formed-more : k < length fs → wellFormed (eqb (k + 1) v) (getD fs k []) ≡ true
         → firstMalformed v (k + 1) (drop k fs) ≡ firstMalformed v (k + 1 + 1) (drop (k + 1) fs)
@@ -49,15 +29,23 @@ module _ (fs : List (List ℕ)) (k : ℕ) where
     pub formed-end : length fs ≤ k → firstMalformed v (k + 1) (drop k fs) ≡ 0
     formed-end h = rw drop-of-length-le
 
-  module _ (f : List ℕ) where
-    pub index-more : k < length fs → same (getD fs k []) f ≡ false → indexFrom k (drop k fs) f ≡ indexFrom (k + 1) (drop (k + 1) fs) f
-    index-more h e = rw (drop-cons fs k [], e, add-one)
+-- none of these words is the field's
+abbrev pub Missed : List (List ℕ) → List ℕ → Type 0
+Missed [] f = Unit {0}
+Missed (w ∷ ws) f = (same w f ≡ false) × Missed ws f
 
-    pub index-stop : k < length fs → same (getD fs k []) f ≡ true → indexFrom k (drop k fs) f ≡ At k
-    index-stop h e = rw (drop-cons fs k [], e)
+-- a search that has passed the first j words
+pub index-after : (k : ℕ) (ws : List (List ℕ)) (f : List ℕ) (j : ℕ) → Missed (take j ws) f → indexFrom k ws f ≡ indexFrom (k + j) (drop j ws) f
+index-after k ws f zero m = rw add-zero
+index-after k [] f (suc j) m = refl
+index-after k (w ∷ ws) f (suc j) m = rw (m .0, add-suc) (index-after (suc k) ws f j (m .1) ∙ rw suc-add)
 
-    pub index-end : length fs ≤ k → indexFrom k (drop k fs) f ≡ Nothing
-    index-end h = rw drop-of-length-le
+pub index-missed : (k : ℕ) (ws : List (List ℕ)) (f : List ℕ) → Missed ws f → indexFrom k ws f ≡ Nothing
+index-missed k [] f m = refl
+index-missed k (w ∷ ws) f m = rw (m .0) (index-missed (suc k) ws f (m .1))
+
+pub index-hit : (k : ℕ) (ws : List (List ℕ)) (f : List ℕ) (j : ℕ) → Missed (take j ws) f → j < length ws → same (getD ws j []) f ≡ true → indexFrom k ws f ≡ At (k + j)
+index-hit k ws f j m h e = index-after k ws f j m ∙ rw (drop-cons ws j [] h, e)
 
 -- what is found lies in the list
 pub index-below : (k : ℕ) (fs : List (List ℕ)) (f : List ℕ) (i : ℕ) → indexFrom k fs f ≡ At i → i < k + length fs
@@ -78,26 +66,39 @@ module _ (fs : List (List ℕ)) (f : List ℕ) where
     unfolding refOf
     ref-none e = rw (no, e)
 
+    pub ref-found : indexOr (indexFrom 0 fs f) ≡ refOf fs f
+    unfolding refOf
+    ref-found = rw no
+
     pub ref-at : (k : ℕ) → indexFrom 0 fs f ≡ At k → k ≡ refOf fs f
     unfolding refOf
     ref-at k e = rw (no, e)
 
 -- the shape of a line
 module _ (columns v : ℕ) (fs : List (List ℕ)) where
-  pub shape-unspaced : spaced fs ≡ false → Faulty 0 ≡ shapeOf columns v fs
+  pub shape-unfit : fieldsAre columns fs ≡ false → Faulty 0 ≡ shapeOf columns v fs
   unfolding shapeOf
-  shape-unspaced e = rw e
+  shape-unfit e = go (spaced fs) (eqb (length fs) columns) e where
+    go : (t u : Bool) → pick t u false ≡ false → Faulty 0 ≡ pick t (pick u (shapeAt (firstMalformed v 1 fs)) (Faulty 0)) (Faulty 0)
+    go true true p = absurd (let z : _≡_ {A = ℕ} 0 1 = cc in omega arith)
+    go true false p = refl
+    go false u p = refl
 
-  module _ (e : spaced fs ≡ true) where
-    pub shape-count : (length fs ≡ columns → ⊥) → Faulty 0 ≡ shapeOf columns v fs
-    unfolding shapeOf
-    shape-count h = rw (e, ne-eqb (length fs) columns h)
+  module _ (fit : fieldsAre columns fs ≡ true) where
+    both : (spaced fs ≡ true) × (eqb (length fs) columns ≡ true)
+    both = go (spaced fs) (eqb (length fs) columns) fit where
+      go : (t u : Bool) → pick t u false ≡ true → (t ≡ true) × (u ≡ true)
+      go true u p = (refl, p)
+      go false u p = absurd (let z : _≡_ {A = ℕ} 0 1 = cc in omega arith)
 
-    module _ (h : length fs ≡ columns) (place : ℕ) (is : place ≡ firstMalformed v 1 fs) where
+    pub fields-long : length fs ≡ columns
+    fields-long = eqb-true (length fs) columns (both .1)
+
+    module _ (place : ℕ) (is : place ≡ firstMalformed v 1 fs) where
       pub shape-good : place ≡ 0 → Good ≡ shapeOf columns v fs
       unfolding shapeOf
-      shape-good z = rw (e, eq-eqb (length fs) columns h, sym is, z)
+      shape-good z = rw (both .0, both .1, sym is, z)
 
       pub shape-faulty : (place ≡ 0 → ⊥) → Faulty place ≡ shapeOf columns v fs
       unfolding shapeOf
-      shape-faulty z = rw (e, eq-eqb (length fs) columns h, sym is, ne-eqb place 0 z)
+      shape-faulty z = rw (both .0, both .1, sym is, ne-eqb place 0 z)

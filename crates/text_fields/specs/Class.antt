@@ -1,8 +1,9 @@
 -- The class of a byte: a space, a newline, part of a name, or none of these.
-use Prim.Native.Nat.{ℕ}
+use Prim.Native.Nat.{ℕ, suc, _+_}
 use mathlib.Core.Bool.{Bool, true, false}
 use mathlib.Core.List.{List, [], _∷_}
 use lib.Dec.{eqb, leb}
+use lib.ListN.{drop}
 use Rattle.text_fields.specs.Split.{pick}
 use Rattle.text_fields.specs.declared.ByteClass.{ByteClass}
 use Rattle.text_fields.specs.declared.ByteClass.the-variants.{Space, Newline, Name, Other}
@@ -34,3 +35,12 @@ isNewline Other = false
 abbrev pub named : List ℕ → Bool
 named [] = true
 named (b ∷ bs) = pick (isName (classOf b)) (named bs) false
+
+-- how many bytes at the front are parts of names
+abbrev pub run : List ℕ → ℕ
+run [] = 0
+run (b ∷ bs) = pick (isName (classOf b)) (suc (run bs)) 0
+
+-- where the bytes of names that stand from `at` on end
+abbrev pub nameEnd : List ℕ → ℕ → ℕ
+nameEnd l at = at + run (drop at l)

@@ -19,6 +19,10 @@ abbrev pub spaced : List (List ℕ) → Bool
 spaced [] = true
 spaced (f ∷ fs) = pick (filled f) (spaced fs) false
 
+-- so many fields, all filled
+abbrev pub fieldsAre : ℕ → List (List ℕ) → Bool
+fieldsAre columns fs = pick (spaced fs) (eqb (length fs) columns) false
+
 -- a field of the value column holds a value; any other has at most 64 bytes
 abbrev pub wellFormed : Bool → List ℕ → Bool
 wellFormed true f = isNumber (value f)

@@ -1,11 +1,10 @@
 -- How a text is cut: bytes into lines, and a line into fields.
-use Prim.Native.Nat.{ℕ, suc, _+_}
+use Prim.Native.Nat.{ℕ, suc}
 use Prim.Native.Char.{code}
 use Prim.Native.String.{String, [] as none, _∷_ as _then_}
 use mathlib.Core.Bool.{Bool, true, false}
 use mathlib.Core.List.{List, [], _∷_}
 use lib.Dec.{eqb}
-use lib.ListN.{drop}
 
 -- a or b, by a test
 abbrev pub pick : {A : Type 0} → Bool → A → A → A
@@ -31,10 +30,6 @@ prepend b (p ∷ ps) = (b ∷ p) ∷ ps
 abbrev pub pieces : ℕ → List ℕ → List (List ℕ)
 pieces c [] = [] ∷ []
 pieces c (b ∷ bs) = pick (eqb b c) ([] ∷ pieces c bs) (prepend b (pieces c bs))
-
--- where the field that starts at `at` ends
-abbrev pub fieldEnd : List ℕ → ℕ → ℕ
-fieldEnd l at = at + before 32 (drop at l)
 
 -- whether two lists of bytes are the same, all bytes of them
 abbrev pub same : List ℕ → List ℕ → Bool

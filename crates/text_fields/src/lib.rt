@@ -1,13 +1,15 @@
 // Fields of a line: what the bytes of a line, a field, a value and a word say. Every function answers for any bytes.
 ghost use mathlib.Core.Path.{_≡_};
+ghost use mathlib.Core.Bool.{true};
 ghost use mathlib.Core.List.{[]};
-ghost use Prim.Native.Nat.{_+_, _≤_};
-ghost use lib.ListN.{length, getD};
-ghost use Rattle.text_fields.specs.Split.{fieldEnd, before, pieces, same as sameBytes};
-ghost use Rattle.text_fields.specs.Class.{classOf, isSpace, isName, isNewline, named};
+ghost use Prim.Native.Nat.{_≤_, _<_};
+ghost use lib.ListN.{length, drop, getD};
+ghost use Rattle.text_fields.specs.Split.{before, pieces, same as sameBytes};
+ghost use Rattle.text_fields.specs.Class.{classOf, isSpace, isName, isNewline, nameEnd};
 ghost use Rattle.text_fields.specs.Number.{digits, decimal, number as numberOf, value as valueOf, isNumber};
-ghost use Rattle.text_fields.specs.Words.{stepWords, ruleWords, headWords, indexFrom, refOf};
-ghost use Rattle.text_fields.specs.Shape.{filled, spaced, wellFormed, firstMalformed, shapeOf};
+ghost use Rattle.text_fields.specs.Words.{stepWords, ruleWords, headWords, indexFrom, indexOr, refOf};
+ghost use Rattle.text_fields.specs.Shape.{wellFormed, firstMalformed, fieldsAre, shapeOf};
+ghost use Rattle.text_fields.specs.Marks.{FieldAt, Marked};
 
 // The class of a byte.
 pub enum ByteClass {
@@ -79,30 +81,6 @@ fn is_space(b: u8) -> bool
     }
 }
 
-// How many bytes stand before the first space.
-fn scan_field(s: &[u8]) -> usize
-    ensures { λ r. ⌜ r ≡ before 32 (now (s .entry)) ⌝ }
-    ensures { λ r. ⌜ r ≤ length (now (s .entry)) ⌝ }
-{
-    let mut i = 0;
-    while i < s.len() {
-        if is_space(s[i]) {
-            return i;
-        }
-        i += 1;
-    }
-    i
-}
-
-// The end of the field that starts at `at`: the first space from there on, or the line's end.
-fn field_end(line: &[u8], at: usize) -> usize
-    requires { ⌜ at ≤ length (now line) ⌝ }
-    ensures { λ r. ⌜ r ≡ fieldEnd (now (line .entry)) at ⌝ }
-    ensures { λ r. ⌜ r ≤ length (now (line .entry)) ⌝ }
-{
-    at + scan_field(&line[at..])
-}
-
 // Whether two slices hold the same bytes.
 pub fn same(a: &[u8], b: &[u8]) -> bool
     ensures { λ r. ⌜ r ≡ sameBytes (now (a .entry)) (now (b .entry)) ⌝ }
@@ -118,38 +96,6 @@ pub fn same(a: &[u8], b: &[u8]) -> bool
         i += 1;
     }
     true
-}
-
-// How many fields a line has.
-fn count_fields(line: &[u8]) -> usize
-    ensures { λ r. ⌜ r ≡ length (pieces 32 (now (line .entry))) ⌝ }
-    ensures { λ r. ⌜ r ≤ length (now (line .entry)) + 1 ⌝ }
-{
-    let mut n = 1;
-    let mut from = field_end(line, 0);
-    while from < line.len() {
-        from = field_end(line, from + 1);
-        n += 1;
-    }
-    n
-}
-
-// Field k of a line, or nothing where the line has no such field.
-pub fn field(line: &[u8], k: usize) -> &[u8]
-    ensures { λ r. ⌜ now r ≡ getD (pieces 32 (now (line .entry))) k [] ⌝ }
-{
-    let mut from = 0;
-    let mut left = k;
-    while left > 0 {
-        let end = field_end(line, from);
-        if end == line.len() {
-            return &line[end..end];
-        }
-        from = end + 1;
-        left -= 1;
-    }
-    let to = field_end(line, from);
-    &line[from..to]
 }
 
 // The number that a field's digits make.
@@ -238,45 +184,6 @@ pub fn is_newline(b: u8) -> bool
     }
 }
 
-// Whether every byte is part of a name.
-fn is_named(f: &[u8]) -> bool
-    ensures { λ r. ⌜ r ≡ named (now (f .entry)) ⌝ }
-{
-    let mut i = 0;
-    while i < f.len() {
-        if !is_name_byte(f[i]) {
-            return false;
-        }
-        i += 1;
-    }
-    true
-}
-
-// Whether a field has at least one byte, each part of a name.
-fn is_filled(f: &[u8]) -> bool
-    ensures { λ r. ⌜ r ≡ filled (now (f .entry)) ⌝ }
-{
-    if f.len() < 1 {
-        return false;
-    }
-    is_named(f)
-}
-
-// Whether all fields of a line are filled.
-fn is_spaced(line: &[u8]) -> bool
-    ensures { λ r. ⌜ r ≡ spaced (pieces 32 (now (line .entry))) ⌝ }
-{
-    let n = count_fields(line);
-    let mut k = 0;
-    while k < n {
-        if !is_filled(field(line, k)) {
-            return false;
-        }
-        k += 1;
-    }
-    true
-}
-
 // Whether a field holds a value.
 fn holds_value(f: &[u8]) -> bool
     ensures { λ r. ⌜ r ≡ isNumber (valueOf (now (f .entry))) ⌝ }
@@ -297,15 +204,72 @@ fn is_well_formed(valued: bool, f: &[u8]) -> bool
     f.len() <= 64
 }
 
+// The end of the bytes of names that stand from `from` on.
+fn name_end(line: &[u8], from: usize) -> usize
+    requires { ⌜ from ≤ length (now line) ⌝ }
+    ensures { λ r. ⌜ r ≡ nameEnd (now (line .entry)) from ⌝ }
+    ensures { λ r. ⌜ r ≤ length (now (line .entry)) ⌝ }
+{
+    let mut i = from;
+    while i < line.len() {
+        if !is_name_byte(line[i]) {
+            return i;
+        }
+        i += 1;
+    }
+    i
+}
+
+// Whether a line has so many fields, all filled; then `marks` tells where each starts and ends.
+fn split(line: &[u8], columns: usize, marks: &mut [usize; 18]) -> bool
+    requires { ⌜ columns ≤ 9 ⌝ }
+    requires { ⌜ length (now marks) ≡ 18 ⌝ }
+    ensures { λ r. ⌜ r ≡ fieldsAre columns (pieces 32 (now (line .entry))) ⌝ }
+    ensures { λ r. ⌜ (r ≡ true → Marked (now (line .entry)) (now (marks .exit)) columns) ⌝ }
+{
+    let mut from = 0;
+    let mut k = 0;
+    while k < columns {
+        let end = name_end(line, from);
+        if end == from {
+            return false;
+        }
+        marks[k * 2] = from;
+        marks[k * 2 + 1] = end;
+        k += 1;
+        if end == line.len() {
+            return k == columns;
+        }
+        if !is_space(line[end]) {
+            return false;
+        }
+        from = end + 1;
+    }
+    false
+}
+
+// Field k of a line that was split.
+pub fn field<'a>(line: &'a [u8], marks: &[usize; 18], k: usize) -> &'a [u8]
+    requires { ⌜ k < 9 ⌝ }
+    requires { ⌜ FieldAt (now line) (now marks) k ⌝ }
+    ensures { λ r. ⌜ now r ≡ getD (pieces 32 (now (line .entry))) k [] ⌝ }
+{
+    let from = marks[k * 2];
+    let to = marks[k * 2 + 1];
+    &line[from..to]
+}
+
 // The number of the first malformed field, or 0.
-fn first_malformed(line: &[u8], column: usize) -> usize
+fn first_malformed(line: &[u8], columns: usize, column: usize, marks: &[usize; 18]) -> usize
+    requires { ⌜ columns ≤ 9 ⌝ }
+    requires { ⌜ length (pieces 32 (now line)) ≡ columns ⌝ }
+    requires { ⌜ Marked (now line) (now marks) columns ⌝ }
     ensures { λ r. ⌜ r ≡ firstMalformed column 1 (pieces 32 (now (line .entry))) ⌝ }
 {
-    let n = count_fields(line);
     let mut k = 0;
-    while k < n {
+    while k < columns {
         let place = k + 1;
-        if !is_well_formed(place == column, field(line, k)) {
+        if !is_well_formed(place == column, field(line, marks, k)) {
             return place;
         }
         k += 1;
@@ -313,72 +277,131 @@ fn first_malformed(line: &[u8], column: usize) -> usize
     0
 }
 
-// Whether a line of values is well formed. `column` is the number of the value column, 0 where there is none.
-pub fn check_line(line: &[u8], columns: usize, column: usize) -> Shape
+// Whether a line of values is well formed; then `marks` tells where its fields are. `column` is the number of the value column, 0 where there is none.
+pub fn check_line(line: &[u8], columns: usize, column: usize, marks: &mut [usize; 18]) -> Shape
+    requires { ⌜ columns ≤ 9 ⌝ }
+    requires { ⌜ length (now marks) ≡ 18 ⌝ }
     ensures { λ r. ⌜ r ≡ shapeOf columns column (pieces 32 (now (line .entry))) ⌝ }
+    ensures { λ r. ⌜ (r ≡ Shape.Good → Marked (now (line .entry)) (now (marks .exit)) columns) ⌝ }
 {
-    if !is_spaced(line) {
+    if !split(line, columns, marks) {
         return Shape::Faulty(0);
     }
-    if count_fields(line) != columns {
-        return Shape::Faulty(0);
-    }
-    let place = first_malformed(line, column);
+    let place = first_malformed(line, columns, column, marks);
     if place == 0 {
         return Shape::Good;
     }
     Shape::Faulty(place)
 }
 
-// Where a word stands in a list of words with single spaces between them.
-fn find_word(words: &[u8], f: &[u8]) -> Found
-    ensures { λ r. ⌜ r ≡ indexFrom 0 (pieces 32 (now (words .entry))) (now (f .entry)) ⌝ }
+// Where a head's word stands among the heads that are not free.
+pub fn find_head(f: &[u8]) -> Found
+    ensures { λ r. ⌜ r ≡ indexFrom 0 headWords (now (f .entry)) ⌝ }
 {
-    let n = count_fields(words);
-    let mut k = 0;
-    while k < n {
-        if same(field(words, k), f) {
-            return Found::At(k);
-        }
-        k += 1;
+    if same(b"eq", f) {
+        return Found::At(0);
+    }
+    if same(b"not", f) {
+        return Found::At(1);
+    }
+    if same(b"and", f) {
+        return Found::At(2);
+    }
+    if same(b"or", f) {
+        return Found::At(3);
+    }
+    if same(b"select", f) {
+        return Found::At(4);
+    }
+    if same(b"store", f) {
+        return Found::At(5);
     }
     Found::Nothing
-}
-
-// What a field says of a list of words.
-fn word_number(words: &[u8], f: &[u8]) -> u16
-    requires { ⌜ length (now words) ≤ 60000 ⌝ }
-    ensures { λ r. ⌜ r ≡ refOf (pieces 32 (now (words .entry))) (now (f .entry)) ⌝ }
-{
-    if same(f, b"-") {
-        return 65535;
-    }
-    let Found::At(k) = find_word(words, f) else {
-        return 65534;
-    };
-    k as u16
 }
 
 // The number of a step's word.
 pub fn step_number(f: &[u8]) -> u16
     ensures { λ r. ⌜ r ≡ refOf stepWords (now (f .entry)) ⌝ }
 {
-    word_number(b"decide deduce clash resolve clear jump flip", f)
+    if same(f, b"-") {
+        return 65535;
+    }
+    if same(b"decide", f) {
+        return 0;
+    }
+    if same(b"deduce", f) {
+        return 1;
+    }
+    if same(b"clash", f) {
+        return 2;
+    }
+    if same(b"resolve", f) {
+        return 3;
+    }
+    if same(b"clear", f) {
+        return 4;
+    }
+    if same(b"jump", f) {
+        return 5;
+    }
+    if same(b"flip", f) {
+        return 6;
+    }
+    65534
+}
+
+// The number of a rule's word, of the words from `unit` on.
+fn late_rule(f: &[u8]) -> u16
+    ensures { λ r. ⌜ r ≡ indexOr (indexFrom 7 (drop 7 ruleWords) (now (f .entry))) ⌝ }
+{
+    if same(b"unit", f) {
+        return 7;
+    }
+    if same(b"eval", f) {
+        return 8;
+    }
+    if same(b"cong", f) {
+        return 9;
+    }
+    if same(b"pred", f) {
+        return 10;
+    }
+    if same(b"read", f) {
+        return 11;
+    }
+    if same(b"skip", f) {
+        return 12;
+    }
+    65534
 }
 
 // The number of a rule's word.
 pub fn rule_number(f: &[u8]) -> u16
     ensures { λ r. ⌜ r ≡ refOf ruleWords (now (f .entry)) ⌝ }
 {
-    word_number(
-        b"same differ refl sym trans neg part unit eval cong pred read skip",
-        f,
-    )
-}
-
-// Where a head's word stands among the heads that are not free.
-pub fn find_head(f: &[u8]) -> Found
-    ensures { λ r. ⌜ r ≡ indexFrom 0 headWords (now (f .entry)) ⌝ }
-{
-    find_word(b"eq not and or select store", f)
+    if same(f, b"-") {
+        return 65535;
+    }
+    if same(b"same", f) {
+        return 0;
+    }
+    if same(b"differ", f) {
+        return 1;
+    }
+    if same(b"refl", f) {
+        return 2;
+    }
+    if same(b"sym", f) {
+        return 3;
+    }
+    if same(b"trans", f) {
+        return 4;
+    }
+    if same(b"neg", f) {
+        return 5;
+    }
+    if same(b"part", f) {
+        return 6;
+    }
+    late_rule(f)
 }

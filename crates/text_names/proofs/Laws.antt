@@ -1,19 +1,17 @@
--- Laws of tags, of slots and of the search of a table.
-use Prim.Native.Nat.{ℕ, zero, suc, _+_, _-_, _*_, _%_, _≤_, _<_}
+-- Laws of tags, of equal lists and of slots.
+use Prim.Native.Nat.{ℕ, zero, suc, _+_, _*_, _%_, _≤_, _<_}
 use mathlib.Core.Path.{_≡_, refl, ap, sym, _∙_}
 use mathlib.Core.Bool.{Bool, true, false}
-use mathlib.Core.List.{List, [], _∷_}
+use mathlib.Core.List.{List, [], _∷_, _++_}
 use native.Mathlib.Omega.{arith}
 use native.Mathlib.Nat.{le-of-suc-le-suc}
 use native.Mathlib.Numerals.{add-one}
-use borrow.Author.Tests.{eqb-true, eqb-false}
+use borrow.Author.Tests.{eqb-true, eq-eqb, ne-eqb}
 use lib.Dec.{eqb}
-use lib.ListN.{length, drop, getD, set, drop-of-length-le, length-append, List·getD-append}
-use lib.Seq.{drop-cons, paste, paste-suc, length-paste, getD-at}
+use lib.ListN.{length, take, drop, getD, set, drop-of-length-le, length-append, List·getD-append}
+use lib.Seq.{drop-cons, paste, paste-suc, length-paste, getD-drop, drop-at}
 use Rattle.text_fields.specs.Split.{pick, same}
-use Rattle.text_fields.specs.Words.{indexFrom}
-use Rattle.text_fields.specs.declared.Found.the-variants.{At, Nothing}
-use Rattle.text_names.specs.Table.{tagFrom, tagOf, tagAt, written, nameAt, namesFrom, padTo, slotOf}
+use Rattle.text_names.specs.Table.{tagFrom, tagOf, lengthAt, held, lastPlace, padTo, slotOf, withName}
 
 -- the tag, byte after byte
 module _ (h : ℕ) (l : List ℕ) (i : ℕ) where
@@ -44,42 +42,18 @@ same-unequal a b h = go (same a b) refl where
   go true e = absurd (h (same-equal a b e))
   go false e = e
 
--- a name whose tag is not that of slot k is not name k; where the tags agree, what is written decides
-module _ (t : List ℕ) (k : ℕ) (name : List ℕ) (byte : getD name 0 0 < 256) where
-  no-name : same (256 ∷ []) name ≡ false
-  no-name = same-unequal (256 ∷ []) name (λ e. let q : getD (256 ∷ []) 0 0 ≡ getD name 0 0 = ap (λ (l : List ℕ). getD l 0 0) e in omega arith)
+-- a list is the same as itself
+pub same-self : (a : List ℕ) → same a a ≡ true
+same-self [] = refl
+same-self (x ∷ xs) = rw (eq-eqb x x refl, same-self xs)
 
-  pub name-tagged : (tagAt t k ≡ tagOf name → ⊥) → false ≡ same (nameAt t k) name
-  unfolding nameAt
-  name-tagged h = go (eqb (tagAt t k) (tagOf (written t k))) refl where
-    go : (b : Bool) → eqb (tagAt t k) (tagOf (written t k)) ≡ b → false ≡ same (pick b (written t k) (256 ∷ [])) name
-    go true e = sym (same-unequal (written t k) name (λ p. h (eqb-true (tagAt t k) (tagOf (written t k)) e ∙ ap tagOf p)))
-    go false e = sym no-name
-
-  pub name-written : tagAt t k ≡ tagOf name → same (written t k) name ≡ same (nameAt t k) name
-  unfolding nameAt
-  name-written h = go (eqb (tagAt t k) (tagOf (written t k))) refl where
-    go : (b : Bool) → eqb (tagAt t k) (tagOf (written t k)) ≡ b → same (written t k) name ≡ same (pick b (written t k) (256 ∷ [])) name
-    go true e = refl
-    go false e = same-unequal (written t k) name (λ p. eqb-false (tagAt t k) (tagOf (written t k)) e (h ∙ ap tagOf (sym p))) ∙ sym no-name
-
--- the search, name after name
-module _ (t name : List ℕ) (base count k : ℕ) (h : k < count) where
-  one-less : count - k ≡ suc (count - (k + 1))
-  one-less = omega arith
-
-  one-on : suc (base + k) ≡ base + (k + 1)
-  one-on = omega arith
-
-  pub find-hit : same (nameAt t (base + k)) name ≡ true → indexFrom k (namesFrom t (base + k) (count - k)) name ≡ At k
-  find-hit e = rw (one-less, e)
-
-  pub find-miss : same (nameAt t (base + k)) name ≡ false
-      → indexFrom k (namesFrom t (base + k) (count - k)) name ≡ indexFrom (k + 1) (namesFrom t (base + (k + 1)) (count - (k + 1))) name
-  find-miss e = rw (one-less, e, one-on, add-one)
-
-pub find-end : (t name : List ℕ) (base count k : ℕ) → count ≤ k → indexFrom k (namesFrom t (base + k) (count - k)) name ≡ Nothing
-find-end t name base count k h = let e : count - k ≡ 0 = omega arith in rw e
+-- a tag is a byte
+pub tag-small : (name : List ℕ) → tagOf name < 256
+unfolding tagOf
+tag-small name = go 0 name (omega arith) where
+  go : (h : ℕ) (l : List ℕ) → h < 256 → tagFrom h l < 256
+  go h [] k = k
+  go h (b ∷ bs) k = go ((h * 31 + b) % 256) bs (omega arith)
 
 pub length-padTo : (n : ℕ) (l : List ℕ) → length (padTo n l) ≡ n
 length-padTo zero l = refl
@@ -99,23 +73,31 @@ getD-past (x ∷ xs) zero h = absurd (omega arith)
 getD-past (x ∷ xs) (suc i) h = getD-past xs i (le-of-suc-le-suc h)
 
 -- the bytes of a name's slot
-module _ (name : List ℕ) where
-  pub length-slot : length (slotOf name) ≡ 65
+module _ (name : List ℕ) (earlier : ℕ) where
+  pub length-slot : length (slotOf name earlier) ≡ 67
   unfolding slotOf
-  length-slot = length-append (padTo 64 name) (tagOf name ∷ []) ∙ rw (length-padTo 64 name)
+  length-slot = length-append (padTo 64 name) (length name ∷ tagOf name ∷ earlier ∷ []) ∙ rw (length-padTo 64 name)
 
-  slot-padded : (i : ℕ) → i < 64 → getD (slotOf name) i 0 ≡ getD name i 0
+  pub slot-padded : (i : ℕ) → i < 64 → getD (slotOf name earlier) i 0 ≡ getD name i 0
   unfolding slotOf
-  slot-padded i h = List·getD-append (padTo 64 name) (tagOf name ∷ []) 0 i (rw (length-padTo 64 name) h) ∙ getD-padTo 64 name i h
+  slot-padded i h = List·getD-append (padTo 64 name) (length name ∷ tagOf name ∷ earlier ∷ []) 0 i (rw (length-padTo 64 name) h) ∙ getD-padTo 64 name i h
 
-  pub slot-tag : (i : ℕ) → i < 65 → 64 ≤ i → getD (slotOf name) i 0 ≡ tagOf name
+  slot-tail : (k : ℕ) → getD (slotOf name earlier) (64 + k) 0 ≡ getD (length name ∷ tagOf name ∷ earlier ∷ []) k 0
   unfolding slotOf
-  slot-tag i h k = let e : i ≡ 64 = omega arith in rw e (getD-at (padTo 64 name) (tagOf name) [] 0 64 (length-padTo 64 name))
+  slot-tail k =
+      sym (getD-drop 64 (padTo 64 name ++ (length name ∷ tagOf name ∷ earlier ∷ [])) k 0)
+      ∙ ap (λ (l : List ℕ). getD l k 0) (drop-at (padTo 64 name) (length name ∷ tagOf name ∷ earlier ∷ []) 64 (length-padTo 64 name))
 
-  pub slot-byte : (i : ℕ) → i < 64 → getD name i 0 ≡ getD (slotOf name) i 0
-  slot-byte i h = sym (slot-padded i h)
+  pub slot-length : getD (slotOf name earlier) 64 0 ≡ length name
+  slot-length = slot-tail 0
 
-  pub slot-zero : (i : ℕ) → i < 64 → length name ≤ i → 0 ≡ getD (slotOf name) i 0
+  pub slot-tag : getD (slotOf name earlier) 65 0 ≡ tagOf name
+  slot-tag = slot-tail 1
+
+  pub slot-earlier : getD (slotOf name earlier) 66 0 ≡ earlier
+  slot-earlier = slot-tail 2
+
+  pub slot-zero : (i : ℕ) → i < 64 → length name ≤ i → 0 ≡ getD (slotOf name earlier) i 0
   slot-zero i h k = sym (slot-padded i h ∙ getD-past name i k)
 
 -- a run of stores that copies s into d at a place
@@ -125,3 +107,19 @@ module _ (d : List ℕ) (at : ℕ) (s : List ℕ) (i : ℕ) (t : List ℕ) (is :
 
   pub put-length : i ≤ length s → at + i ≤ length d → length t ≡ length d
   put-length h k = ap length is ∙ length-paste d at s i k h
+
+-- whether a slot holds a name
+module _ (t : List ℕ) (s : ℕ) (name : List ℕ) where
+  pub held-not : (lengthAt t s ≡ length name → ⊥) → false ≡ held t s name
+  unfolding held
+  held-not h = rw (ne-eqb (lengthAt t s) (length name) h)
+
+  pub held-by : lengthAt t s ≡ length name → same (take (length name) (drop (s * 67) t)) name ≡ held t s name
+  unfolding held
+  held-by h = rw (eq-eqb (lengthAt t s) (length name) h)
+
+-- the stores that put a name
+pub put-is : (t : List ℕ) (base n : ℕ) (name : List ℕ) (tag last : ℕ) (p : List ℕ) → tag ≡ tagOf name → last ≡ lastPlace base tag
+    → p ≡ paste t ((base + n) * 67) (slotOf name (getD t last 0)) 67 → set p last n ≡ withName t base n name
+unfolding withName
+put-is t base n name tag last p e f g = rw (g, f, e)

@@ -1,2 +1,3 @@
 pub mod Laws
+pub mod Chase
 pub mod Table

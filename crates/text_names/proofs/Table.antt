@@ -1,139 +1,269 @@
--- Laws of a table of names: what a put does to the lists of names that the table holds.
+-- Laws of a table of names: what a name that is put does to the lists of names that the tables hold.
 use Prim.Native.Nat.{ℕ, zero, suc, _+_, _-_, _*_, _≤_, _<_}
 use mathlib.Core.Path.{_≡_, refl, ap, sym, _∙_}
 use mathlib.Core.Bool.{Bool, true, false}
+use mathlib.Core.Logic.{_⊎_, inl, inr}
 use mathlib.Core.List.{List, [], _∷_, _++_, append-assoc}
 use native.Mathlib.Omega.{arith}
 use native.Mathlib.Nat.{add-suc, suc-add, add-zero}
 use native.Mathlib.Numerals.{add-one}
-use borrow.Author.Tests.{eq-eqb, ne-eqb}
-use lib.ListN.{length, take, drop, getD, length-drop, take-append-drop, List·getD-append}
-use lib.Seq.{paste, take-append-le, drop-append-le, drop-at, take-at, take-all, length-take-le, drop-paste, drop-drop, getD-drop}
-use Rattle.text_fields.specs.Split.{pick, before}
+use borrow.Author.Tests.{eq-eqb, ne-eqb, eqb-true, eqb-false, leb-true, leb-false}
+use lib.Dec.{eqb, leb}
+use lib.ListN.{length, take, drop, getD, length-drop, length-set, List·getD-append}
+use lib.Seq.{paste, drop-at, take-all, length-take-le, length-paste, drop-paste, getD-drop, getD-take, getD-set-same, getD-set-other, ext-getD}
+use Rattle.text_fields.specs.Split.{pick}
 use Rattle.text_fields.specs.Class.{classOf, isName, named}
-use Rattle.text_names.specs.Table.{tagOf, slot, tagAt, written, nameAt, namesFrom, padTo, slotOf}
-use Rattle.text_names.proofs.Laws.{length-padTo, length-slot, slot-tag}
+use Rattle.text_fields.specs.Words.{indexFrom}
+use Rattle.text_fields.specs.declared.ByteClass.the-variants.{Space, Newline, Other}
+use Rattle.text_fields.specs.declared.Found.the-variants.{At, Nothing}
+use Rattle.text_names.specs.Table.{tagOf, lengthAt, tagAt, earlierAt, held, lastPlace, lastOf, chase, found, written, isNumber, nameAt, namesOn, namesFrom, slotOf, withName}
+use Rattle.text_names.proofs.Laws.{same-self, tag-small, length-slot, slot-padded, slot-length, slot-tag, slot-earlier}
+use Rattle.text_names.proofs.Chase.{chase-at, chase-past, take-most, written-short, held-written, found-is}
 
-pub length-names : (t : List ℕ) (k n : ℕ) → length (namesFrom t k n) ≡ n
-length-names t k zero = refl
-length-names t k (suc n) = ap suc (length-names t (suc k) n)
+pub length-names : (t : List ℕ) (base n : ℕ) → length (namesFrom t base n) ≡ n
+length-names t base n = go n 0 where
+  go : (m j : ℕ) → length (namesOn t base n j m) ≡ m
+  go zero j = refl
+  go (suc m) j = ap suc (go m (suc j))
 
-names-snoc : (t : List ℕ) (k n : ℕ) → namesFrom t k (suc n) ≡ namesFrom t k n ++ (nameAt t (k + n) ∷ [])
-names-snoc t k zero = rw add-zero
-names-snoc t k (suc n) = ap (λ (r : List (List ℕ)). nameAt t k ∷ r) (names-snoc t (suc k) n ∙ rw (add-suc, suc-add))
+names-snoc : (t : List ℕ) (base n j m : ℕ) → namesOn t base n j (suc m) ≡ namesOn t base n j m ++ (nameAt t base n (j + m) ∷ [])
+names-snoc t base n j zero = rw add-zero
+names-snoc t base n j (suc m) = ap (λ (r : List (List ℕ)). nameAt t base n j ∷ r) (names-snoc t base n (suc j) m ∙ rw (add-suc, suc-add))
 
-names-same : (t u : List ℕ) (k n : ℕ) → ((j : ℕ) → k ≤ j → j < k + n → nameAt t j ≡ nameAt u j) → namesFrom t k n ≡ namesFrom u k n
-names-same t u k zero h = refl
-names-same t u k (suc n) h = rw (h k (omega arith) (omega arith), names-same t u (suc k) n (λ j l m. h j (omega arith) (omega arith)))
+names-same : (t u : List ℕ) (base n k j m : ℕ) → ((i : ℕ) → i < j + m → nameAt u base k i ≡ nameAt t base n i) → namesOn u base k j m ≡ namesOn t base n j m
+names-same t u base n k j zero h = refl
+names-same t u base n k j (suc m) h = rw (h j (omega arith), names-same t u base n k (suc j) m (λ i l. h i (omega arith)))
 
 -- both of two tests
 pub both : (t x : Bool) → pick t x false ≡ true → (t ≡ true) × (x ≡ true)
 both true x e = (refl, e)
 both false x e = absurd (let z : _≡_ {A = ℕ} 0 1 = cc in omega arith)
 
--- a byte of a name is not 0
-name-filled : (b : ℕ) → isName (classOf b) ≡ true → b ≡ 0 → ⊥
-name-filled b e z =
-    let f : isName (classOf b) ≡ false = rw z in
-    let w : _≡_ {A = Bool} true false = sym e ∙ f in
-    let y : _≡_ {A = ℕ} 0 1 = cc in omega arith
+-- the first byte of a name is a byte
+pub named-byte : (name : List ℕ) → named name ≡ true → getD name 0 0 < 256
+named-byte [] e = omega arith
+named-byte (b ∷ bs) e = go (leb b 126) refl (both (isName (classOf b)) (named bs) e .0) where
+  other : (x y z : Bool) → isName (pick x Space (pick y Newline (pick z Other Other))) ≡ false
+  other true y z = refl
+  other false true z = refl
+  other false false true = refl
+  other false false false = refl
 
--- of a padded name, the bytes up to the first 0 are the name's
-pad-before : (n : ℕ) (l : List ℕ) → named l ≡ true → length l ≤ n → before 0 (padTo n l) ≡ length l
-pad-before zero [] v h = refl
-pad-before (suc n) [] v h = refl
-pad-before zero (x ∷ xs) v h = absurd (omega arith)
-pad-before (suc n) (x ∷ xs) v h =
-    let a = both (isName (classOf x)) (named xs) v in
-    rw (ne-eqb x 0 (name-filled x (a .0)), pad-before n xs (a .1) (omega arith))
+  go : (t : Bool) → leb b 126 ≡ t → isName (classOf b) ≡ true → b < 256
+  go true p q = omega (arith, leb-true b 126 p)
+  go false p q =
+      let r : isName (pick (eqb b 32) Space (pick (eqb b 10) Newline (pick (leb 33 b) Other Other))) ≡ true = rw p at q in
+      let w : _≡_ {A = Bool} true false = sym r ∙ other (eqb b 32) (eqb b 10) (leb 33 b) in
+      absurd (let z : _≡_ {A = ℕ} 0 1 = cc in omega arith)
 
-pad-take : (n : ℕ) (l : List ℕ) → length l ≤ n → take (length l) (padTo n l) ≡ l
-pad-take n [] h = refl
-pad-take zero (x ∷ xs) h = absurd (omega arith)
-pad-take (suc n) (x ∷ xs) h = rw (pad-take n xs (omega arith))
+length-cut : (m : ℕ) (x y : List ℕ) → length x ≡ length y → length (take m x) ≡ length (take m y)
+length-cut zero x y e = refl
+length-cut (suc m) [] [] e = refl
+length-cut (suc m) [] (b ∷ y) e = absurd (omega arith)
+length-cut (suc m) (a ∷ x) [] e = absurd (omega arith)
+length-cut (suc m) (a ∷ x) (b ∷ y) e = ap suc (length-cut m x y (omega arith))
 
--- a slot and a tag that lie in the front part
-slot-front : (x y : List ℕ) (j : ℕ) → j * 65 + 65 ≤ length x → slot (x ++ y) j ≡ slot x j
-slot-front x y j h = rw (drop-append-le (j * 65) x y (omega arith)) (take-append-le 64 (drop (j * 65) x) y (omega (arith, length-drop (j * 65) x)))
+-- two lists of bytes that agree in a slot
+abbrev Agree : List ℕ → List ℕ → ℕ → Type 0
+Agree t u s = (i : ℕ) → i < 67 → getD u (s * 67 + i) 0 ≡ getD t (s * 67 + i) 0
 
-tag-front : (x y : List ℕ) (j : ℕ) → j * 65 + 65 ≤ length x → tagAt (x ++ y) j ≡ tagAt x j
-tag-front x y j h = List·getD-append x y 0 (j * 65 + 64) (omega arith)
+module _ (t u : List ℕ) (long : length u ≡ length t) where
+  cut-same : (a m : ℕ) → ((i : ℕ) → i < m → getD u (a + i) 0 ≡ getD t (a + i) 0) → take m (drop a u) ≡ take m (drop a t)
+  cut-same a m h =
+      ext-getD 0 (take m (drop a u)) (take m (drop a t))
+      (length-cut m (drop a u) (drop a t) (length-drop a u ∙ ap (λ (k : ℕ). k - a) long ∙ sym (length-drop a t)))
+      (λ i l. let k : i < m = omega (arith, take-most m (drop a u)) in
+      getD-take m (drop a u) i 0 k ∙ getD-drop a u i 0 ∙ h i k ∙ sym (getD-take m (drop a t) i 0 k ∙ getD-drop a t i 0))
 
--- a name is known by its slot and its tag
-name-by : (t u : List ℕ) (j : ℕ) → slot t j ≡ slot u j → tagAt t j ≡ tagAt u j → nameAt t j ≡ nameAt u j
-unfolding nameAt
-name-by t u j e f = rw (e, f)
+  module _ (s : ℕ) (agree : Agree t u s) where
+    held-same : (x : List ℕ) → length x ≤ 64 → held u s x ≡ held t s x
+    unfolding held
+    held-same x h = rw (agree 64 (omega arith), cut-same (s * 67) (length x) (λ i l. agree i (omega arith)))
 
-module _ (t : List ℕ) (k : ℕ) (name : List ℕ) (room : k * 65 + 65 ≤ length t) where
-  put : List ℕ
-  put = paste t (k * 65) (slotOf name) 65
+    written-same : written u s ≡ written t s
+    unfolding written
+    written-same = rw (agree 64 (omega arith), cut-same (s * 67) 64 (λ i l. agree i (omega arith)))
 
-  all : take 65 (slotOf name) ≡ slotOf name
-  all = take-all 65 (slotOf name) (omega (arith, length-slot name))
+  chase-same : (base m e : ℕ) (x : List ℕ) → length x ≤ 64 → ((j : ℕ) → j < m → Agree t u (base + j)) → chase u base m e x ≡ chase t base m e x
+  chase-same base zero e x h a = refl
+  chase-same base (suc m) e x h a =
+      rw
+      (a m (omega arith) 65 (omega arith), held-same (base + m) (a m (omega arith)) x h, a m (omega arith) 66 (omega arith), chase-same base m (earlierAt t (base + m)) x h (λ j l. a j (omega arith)), chase-same base m e x h (λ j l. a j (omega arith)))
 
-  -- the table after a put: what stands before the slot, the slot, what stands after it
-  put-parts : put ≡ take (k * 65) t ++ (slotOf name ++ drop (k * 65 + 65) t)
-  unfolding put
-  put-parts = append-assoc (take (k * 65) t) (take 65 (slotOf name)) (drop (k * 65 + 65) t) ∙ rw all
+  -- a table of which nothing changed
+  table-same : (base n : ℕ) → ((j : ℕ) → j < n → Agree t u (base + j)) → ((h : ℕ) → h < 256 → lastOf u base h ≡ lastOf t base h) → namesFrom u base n ≡ namesFrom t base n
+  unfolding nameAt found
+  table-same base n a l =
+      names-same t u base n n 0 n
+      (λ j h.
+      let k : j < n = omega arith in
+      let w = written-same (base + j) (a j k) in
+      rw (w, l (tagOf (written t (base + j))) (tag-small (written t (base + j))), chase-same base n (lastOf t base (tagOf (written t (base + j)))) (written t (base + j)) (written-short t (base + j)) a))
 
-  front : length (take (k * 65) t) ≡ k * 65
-  front = length-take-le (k * 65) t (omega arith)
+-- a name that is put
+module _ (t : List ℕ) (base n : ℕ) (name : List ℕ) (size : length t ≡ 39008) (low : base ≤ 288) (few : n < 256) (short : length name ≤ 64) where
+  pasted : List ℕ
+  pasted = paste t ((base + n) * 67) (slotOf name (lastOf t base (tagOf name))) 67
 
-  put-here : drop (k * 65) put ≡ slotOf name ++ drop (k * 65 + 65) t
-  put-here = ap (drop (k * 65)) put-parts ∙ drop-at (take (k * 65) t) _ (k * 65) front
+  length-pasted : length pasted ≡ length t
+  unfolding pasted
+  length-pasted = length-paste t ((base + n) * 67) (slotOf name (lastOf t base (tagOf name))) 67 (omega arith) (omega (arith, length-slot name (lastOf t base (tagOf name))))
 
-  slot-put : slot put k ≡ padTo 64 name
-  unfolding slotOf
-  slot-put =
-      ap (take 64) (put-here ∙ append-assoc (padTo 64 name) (tagOf name ∷ []) (drop (k * 65 + 65) t))
-      ∙ take-at (padTo 64 name) _ 64 (length-padTo 64 name)
+  pub length-put : length (withName t base n name) ≡ length t
+  unfolding withName pasted
+  length-put = length-set (paste t ((base + n) * 67) (slotOf name (lastOf t base (tagOf name))) 67) (lastPlace base (tagOf name)) n ∙ length-pasted
 
-  tag-put : tagAt put k ≡ tagOf name
-  tag-put =
-      sym (getD-drop (k * 65) put 64 0) ∙ ap (λ (l : List ℕ). getD l 64 0) put-here
-      ∙ List·getD-append (slotOf name) (drop (k * 65 + 65) t) 0 64 (omega (arith, length-slot name)) ∙ slot-tag name 64 (omega arith) (omega arith)
+  pasted-before : (i : ℕ) → i < (base + n) * 67 → getD pasted i 0 ≡ getD t i 0
+  unfolding pasted
+  pasted-before i h =
+      let z : length (take ((base + n) * 67) t) ≡ (base + n) * 67 = length-take-le ((base + n) * 67) t (omega arith) in
+      ap (λ (l : List ℕ). getD l i 0) (append-assoc (take ((base + n) * 67) t) (take 67 (slotOf name (lastOf t base (tagOf name)))) (drop ((base + n) * 67 + 67) t))
+      ∙ List·getD-append (take ((base + n) * 67) t) (take 67 (slotOf name (lastOf t base (tagOf name))) ++ drop ((base + n) * 67 + 67) t) 0 i (omega arith)
+      ∙ getD-take ((base + n) * 67) t i 0 h
 
-  name-put : named name ≡ true → length name ≤ 64 → nameAt put k ≡ name
-  unfolding nameAt
-  name-put g h =
-      let w : written put k ≡ name = rw (slot-put, pad-before 64 name g h) (pad-take 64 name h) in
-      rw (w, tag-put, eq-eqb (tagOf name) (tagOf name) refl)
+  pasted-after : (i : ℕ) → (base + n) * 67 + 67 ≤ i → getD pasted i 0 ≡ getD t i 0
+  unfolding pasted
+  pasted-after i h =
+      let z : (base + n) * 67 + 67 + (i - ((base + n) * 67 + 67)) ≡ i = omega arith in
+      let a = getD-drop ((base + n) * 67 + 67) (paste t ((base + n) * 67) (slotOf name (lastOf t base (tagOf name))) 67) (i - ((base + n) * 67 + 67)) 0 in
+      let b = getD-drop ((base + n) * 67 + 67) t (i - ((base + n) * 67 + 67)) 0 in
+      sym (rw z at a)
+      ∙ ap (λ (l : List ℕ). getD l (i - ((base + n) * 67 + 67)) 0) (drop-paste t ((base + n) * 67) (slotOf name (lastOf t base (tagOf name))) 67 (omega arith) (omega (arith, length-slot name (lastOf t base (tagOf name)))))
+      ∙ (rw z at b)
 
-  name-before : (j : ℕ) → j < k → nameAt put j ≡ nameAt t j
-  name-before j h =
-      name-by put t j
-      (ap (λ (r : List ℕ). slot r j) put-parts ∙ slot-front (take (k * 65) t) _ j (omega (arith, front))
-      ∙ sym (slot-front (take (k * 65) t) (drop (k * 65) t) j (omega (arith, front))) ∙ ap (λ (r : List ℕ). slot r j) (take-append-drop (k * 65) t))
-      (ap (λ (r : List ℕ). tagAt r j) put-parts ∙ tag-front (take (k * 65) t) _ j (omega (arith, front))
-      ∙ sym (tag-front (take (k * 65) t) (drop (k * 65) t) j (omega (arith, front))) ∙ ap (λ (r : List ℕ). tagAt r j) (take-append-drop (k * 65) t))
+  pasted-in : (i : ℕ) → i < 67 → getD pasted ((base + n) * 67 + i) 0 ≡ getD (slotOf name (lastOf t base (tagOf name))) i 0
+  unfolding pasted
+  pasted-in i h =
+      let s = slotOf name (lastOf t base (tagOf name)) in
+      let long = length-slot name (lastOf t base (tagOf name)) in
+      let all : take 67 s ≡ s = take-all 67 s (omega arith) in
+      sym (getD-drop ((base + n) * 67) (paste t ((base + n) * 67) s 67) i 0)
+      ∙ ap (λ (l : List ℕ). getD l i 0)
+      (ap (drop ((base + n) * 67)) (append-assoc (take ((base + n) * 67) t) (take 67 s) (drop ((base + n) * 67 + 67) t))
+      ∙ drop-at (take ((base + n) * 67) t) (take 67 s ++ drop ((base + n) * 67 + 67) t) ((base + n) * 67) (length-take-le ((base + n) * 67) t (omega arith)))
+      ∙ List·getD-append (take 67 s) (drop ((base + n) * 67 + 67) t) 0 i (rw all (omega arith)) ∙ rw all
 
-  behind : drop (k * 65 + 65) put ≡ drop (k * 65 + 65) t
-  unfolding put
-  behind = drop-paste t (k * 65) (slotOf name) 65 (omega arith) (omega (arith, length-slot name))
+  apart : (i : ℕ) → (i ≡ lastPlace base (tagOf name) → ⊥) → getD (withName t base n name) i 0 ≡ getD pasted i 0
+  unfolding withName pasted
+  apart i h = getD-set-other (paste t ((base + n) * 67) (slotOf name (lastOf t base (tagOf name))) 67) (lastPlace base (tagOf name)) i n 0 h
 
-  from-behind : (m : ℕ) → drop (k * 65 + 65 + m) put ≡ drop (k * 65 + 65 + m) t
-  from-behind m = sym (drop-drop m (k * 65 + 65) put) ∙ ap (drop m) behind ∙ drop-drop m (k * 65 + 65) t
+  last-new : lastOf (withName t base n name) base (tagOf name) ≡ n
+  unfolding withName pasted
+  last-new = getD-set-same (paste t ((base + n) * 67) (slotOf name (lastOf t base (tagOf name))) 67) (lastPlace base (tagOf name)) n 0 (omega (arith, length-pasted, tag-small name))
 
-  name-after : (j : ℕ) → k < j → nameAt put j ≡ nameAt t j
-  name-after j h =
-      let e : k * 65 + 65 + (j * 65 - (k * 65 + 65)) ≡ j * 65 = omega arith in
-      let d : drop (j * 65) put ≡ drop (j * 65) t = rw e at (from-behind (j * 65 - (k * 65 + 65))) in
-      name-by put t j (ap (take 64) d) (sym (getD-drop (j * 65) put 64 0) ∙ ap (λ (l : List ℕ). getD l 64 0) d ∙ getD-drop (j * 65) t 64 0)
+  slot-new : (i : ℕ) → i < 67 → getD (withName t base n name) ((base + n) * 67 + i) 0 ≡ getD (slotOf name (lastOf t base (tagOf name))) i 0
+  slot-new i h = apart ((base + n) * 67 + i) (λ q. omega arith) ∙ pasted-in i h
 
-  -- the names before the slot, and those after it, stay
-  pub names-before : (b n : ℕ) → b + n ≤ k → namesFrom (paste t (k * 65) (slotOf name) 65) b n ≡ namesFrom t b n
-  unfolding put
-  names-before b n h = names-same put t b n (λ j l m. name-before j (omega arith))
+  slot-old : (s : ℕ) → s < 544 → (s ≡ base + n → ⊥) → Agree t (withName t base n name) s
+  slot-old s h q i l = go (leb (base + n) s) refl where
+    go : (b : Bool) → leb (base + n) s ≡ b → getD (withName t base n name) (s * 67 + i) 0 ≡ getD t (s * 67 + i) 0
+    go true p = let z = leb-true (base + n) s p in let y : base + n < s = omega (arith, q) in apart (s * 67 + i) (λ e. omega arith) ∙ pasted-after (s * 67 + i) (omega arith)
+    go false p = let z = leb-false (base + n) s p in apart (s * 67 + i) (λ e. omega arith) ∙ pasted-before (s * 67 + i) (omega arith)
 
-  pub names-after : (b n : ℕ) → k < b → namesFrom (paste t (k * 65) (slotOf name) 65) b n ≡ namesFrom t b n
-  unfolding put
-  names-after b n h = names-same put t b n (λ j l m. name-after j (omega arith))
+  last-old : (b h : ℕ) → (lastPlace b h ≡ lastPlace base (tagOf name) → ⊥) → lastOf (withName t base n name) b h ≡ lastOf t b h
+  last-old b h q = apart (lastPlace b h) q ∙ pasted-after (lastPlace b h) (omega arith)
 
-  -- a put behind the names from b on appends a name
-  pub names-put : (b n : ℕ) → b + n ≡ k → named name ≡ true → length name ≤ 64
-      → namesFrom (paste t (k * 65) (slotOf name) 65) b (n + 1) ≡ namesFrom t b n ++ (name ∷ [])
-  unfolding put
-  names-put b n e g h =
-      let here : nameAt put (b + n) ≡ name = rw e (name-put g h) in
-      ap (namesFrom put b) (add-one n) ∙ names-snoc put b n
-      ∙ rw (here, names-same put t b n (λ j l m. name-before j (omega arith)))
+  -- the names of other tables stay
+  pub names-before : (b m : ℕ) → b + m ≤ base → b + 32 ≤ base → namesFrom (withName t base n name) b m ≡ namesFrom t b m
+  names-before b m h k =
+      table-same t (withName t base n name) length-put b m (λ j l. slot-old (b + j) (omega arith) (λ q. omega arith))
+      (λ h′ l. last-old b h′ (λ q. omega (arith, tag-small name)))
+
+  pub names-after : (b m : ℕ) → b + m ≤ 544 → base + n < b → base + 32 ≤ b → namesFrom (withName t base n name) b m ≡ namesFrom t b m
+  names-after b m h k g =
+      table-same t (withName t base n name) length-put b m (λ j l. slot-old (b + j) (omega arith) (λ q. omega arith))
+      (λ h′ l. last-old b h′ (λ q. omega (arith, tag-small name)))
+
+  -- what the new slot holds
+  cut-new : take (length name) (drop ((base + n) * 67) (withName t base n name)) ≡ name
+  cut-new =
+      let u = withName t base n name in
+      let a = (base + n) * 67 in
+      let z : length (take (length name) (drop a u)) ≡ length name = length-take-le (length name) (drop a u) (omega (arith, length-drop a u, length-put)) in
+      ext-getD 0 (take (length name) (drop a u)) name z
+      (λ i l.
+      let k : i < length name = omega arith in
+      getD-take (length name) (drop a u) i 0 k ∙ getD-drop a u i 0 ∙ slot-new i (omega arith) ∙ slot-padded name (lastOf t base (tagOf name)) i (omega arith))
+
+  length-new : lengthAt (withName t base n name) (base + n) ≡ length name
+  length-new = slot-new 64 (omega arith) ∙ slot-length name (lastOf t base (tagOf name))
+
+  tag-new : tagAt (withName t base n name) (base + n) ≡ tagOf name
+  tag-new = slot-new 65 (omega arith) ∙ slot-tag name (lastOf t base (tagOf name))
+
+  earlier-new : earlierAt (withName t base n name) (base + n) ≡ lastOf t base (tagOf name)
+  earlier-new = slot-new 66 (omega arith) ∙ slot-earlier name (lastOf t base (tagOf name))
+
+  held-new : held (withName t base n name) (base + n) name ≡ true
+  unfolding held
+  held-new = rw (length-new, eq-eqb (length name) (length name) refl, cut-new) (same-self name)
+
+  written-new : written (withName t base n name) (base + n) ≡ name
+  written-new = held-written (withName t base n name) (base + n) name short held-new
+
+  found-new : found (withName t base n name) base (suc n) name ≡ At n
+  unfolding found
+  found-new =
+      ap (λ (e : ℕ). chase (withName t base n name) base (suc n) e name) last-new
+      ∙ chase-at (withName t base n name) base name (suc n) n (omega arith) ∙ rw (tag-new, eq-eqb (tagOf name) (tagOf name) refl, held-new)
+
+  module _ (byte : getD name 0 0 < 256) (new : indexFrom 0 (namesFrom t base n) name ≡ Nothing) where
+    -- another name is found where it was, unless it is the new one
+    found-old : (w : List ℕ) → length w ≤ 64
+        → (found (withName t base n name) base (suc n) w ≡ found t base n w) ⊎ ((found (withName t base n name) base (suc n) w ≡ At n) × (found t base n w ≡ Nothing))
+    unfolding found
+    found-old w h = one (eqb (tagOf w) (tagOf name)) refl where
+      stays : (e : ℕ) → chase (withName t base n name) base n e w ≡ chase t base n e w
+      stays e = chase-same t (withName t base n name) length-put base n e w h (λ j l. slot-old (base + j) (omega arith) (λ q. omega arith))
+
+      two : tagOf w ≡ tagOf name → (b : Bool) → held (withName t base n name) (base + n) w ≡ b
+          → (chase (withName t base n name) base (suc n) n w ≡ found t base n w) ⊎ ((chase (withName t base n name) base (suc n) n w ≡ At n) × (found t base n w ≡ Nothing))
+      two z true p =
+          inr (
+            chase-at (withName t base n name) base w (suc n) n (omega arith) ∙ rw (tag-new ∙ sym z, eq-eqb (tagOf w) (tagOf w) refl, p),
+            ap (found t base n) (sym (held-written (withName t base n name) (base + n) w h p) ∙ written-new) ∙ found-is t base n name short byte ∙ new,
+          )
+      two z false p =
+          inl (chase-at (withName t base n name) base w (suc n) n (omega arith)
+          ∙ rw (tag-new ∙ sym z, eq-eqb (tagOf w) (tagOf w) refl, p, earlier-new, sym z) (stays (lastOf t base (tagOf w))))
+
+      three : (tagOf w ≡ tagOf name → ⊥) → (e : ℕ) (b : Bool) → eqb e n ≡ b → chase (withName t base n name) base (suc n) e w ≡ chase t base n e w
+      three z e true p =
+          let q : e ≡ n = eqb-true e n p in
+          rw (p, ne-eqb (tagAt (withName t base n name) (base + n)) (tagOf w) (λ r. z (sym r ∙ tag-new))) (sym (chase-past t base w n e (omega arith)))
+      three z e false p = rw p (stays e)
+
+      one : (b : Bool) → eqb (tagOf w) (tagOf name) ≡ b
+          → (chase (withName t base n name) base (suc n) (lastOf (withName t base n name) base (tagOf w)) w ≡ found t base n w)
+          ⊎ ((chase (withName t base n name) base (suc n) (lastOf (withName t base n name) base (tagOf w)) w ≡ At n) × (found t base n w ≡ Nothing))
+      one true p =
+          let z = eqb-true (tagOf w) (tagOf name) p in
+          let l : lastOf (withName t base n name) base (tagOf w) ≡ n = ap (lastOf (withName t base n name) base) z ∙ last-new in
+          rw l (two z (held (withName t base n name) (base + n) w) refl)
+      one false p =
+          let z = eqb-false (tagOf w) (tagOf name) p in
+          let l : lastOf (withName t base n name) base (tagOf w) ≡ lastOf t base (tagOf w) = last-old base (tagOf w) (λ q. z (omega arith)) in
+          inl (ap (λ (e : ℕ). chase (withName t base n name) base (suc n) e w) l ∙ three z (lastOf t base (tagOf w)) (eqb (lastOf t base (tagOf w)) n) refl)
+
+    name-old : (j : ℕ) → j < n → nameAt (withName t base n name) base (suc n) j ≡ nameAt t base n j
+    unfolding nameAt
+    name-old j h =
+        let w : written (withName t base n name) (base + j) ≡ written t (base + j) = written-same t (withName t base n name) length-put (base + j) (slot-old (base + j) (omega arith) (λ q. omega arith)) in
+        rw w (go (found-old (written t (base + j)) (written-short t (base + j)))) where
+          go : (found (withName t base n name) base (suc n) (written t (base + j)) ≡ found t base n (written t (base + j)))
+              ⊎ ((found (withName t base n name) base (suc n) (written t (base + j)) ≡ At n) × (found t base n (written t (base + j)) ≡ Nothing))
+              → pick (isNumber (found (withName t base n name) base (suc n) (written t (base + j))) j) (written t (base + j)) (256 ∷ [])
+              ≡ pick (isNumber (found t base n (written t (base + j))) j) (written t (base + j)) (256 ∷ [])
+          go (inl p) = rw p
+          go (inr p) = rw (p .0, p .1, ne-eqb n j (λ q. omega arith))
+
+    name-new : nameAt (withName t base n name) base (suc n) n ≡ name
+    unfolding nameAt
+    name-new = rw (written-new, found-new, eq-eqb n n refl)
+
+    -- a name that is new is put behind the names of its table
+    pub names-put : namesFrom (withName t base n name) base (n + 1) ≡ namesFrom t base n ++ (name ∷ [])
+    names-put =
+        let z : 0 + n ≡ n = omega arith in
+        ap (namesFrom (withName t base n name) base) (add-one n) ∙ names-snoc (withName t base n name) base (suc n) 0 n
+        ∙ rw (z, name-new, names-same t (withName t base n name) base n (suc n) 0 n (λ i l. name-old i (omega arith)))

@@ -1,11 +1,10 @@
-// A lent table of names: 65 bytes for each.
+// A lent list of bytes with tables of names: 67 bytes for each name, and behind the slots the last name of each tag.
 ghost use mathlib.Core.Path.{_≡_};
 ghost use Prim.Native.Nat.{_+_, _*_, _≤_, _<_};
 ghost use lib.ListN.{length, getD};
 ghost use lib.Seq.{paste};
-ghost use Rattle.text_fields.specs.Split.{same};
 ghost use Rattle.text_fields.specs.Words.{indexFrom};
-ghost use Rattle.text_names.specs.Table.{tagOf, nameAt, namesFrom, slotOf};
+ghost use Rattle.text_names.specs.Table.{tagOf, held, lastPlace, namesFrom, slotOf, withName};
 use text_fields::Found;
 
 // The tag of a name.
@@ -22,64 +21,111 @@ fn tag_of(name: &[u8]) -> u8
     h as u8
 }
 
-// Whether name k of a table is `name`: the tags are compared first, and where they agree all bytes.
-fn name_is(table: &[u8], k: usize, tag: u8, name: &[u8]) -> bool
-    requires { ⌜ k * 65 + 65 ≤ length (now table) ⌝ }
-    requires { ⌜ tag ≡ tagOf (now name) ⌝ }
-    ensures { λ r. ⌜ r ≡ same (nameAt (now (table .entry)) k) (now (name .entry)) ⌝ }
+// A byte as an index.
+fn wide(b: u8) -> usize
+    ensures { λ r. ⌜ r ≡ b ⌝ }
 {
-    let from = k * 65;
-    let tagged = from + 64;
-    if table[tagged] != tag {
-        return false;
-    }
-    let to = from + 64;
-    let slot = &table[from..to];
-    let n = text_fields::scan(slot, 0);
-    text_fields::same(&slot[..n], name)
+    b as usize
 }
 
-// Where a name stands among the `count` names of a table from slot `base` on.
+// Whether slot s holds a name.
+fn holds_name(table: &[u8], s: usize, name: &[u8]) -> bool
+    requires { ⌜ s * 67 + 67 ≤ length (now table) ⌝ }
+    requires { ⌜ length (now name) ≤ 64 ⌝ }
+    ensures { λ r. ⌜ r ≡ held (now (table .entry)) s (now (name .entry)) ⌝ }
+{
+    let from = s * 67;
+    if wide(table[from + 64]) != name.len() {
+        return false;
+    }
+    let to = from + name.len();
+    text_fields::same(&table[from..to], name)
+}
+
+// Where the number of the last name of a tag stands.
+fn last_place(base: usize, tag: u8) -> usize
+    requires { ⌜ base ≤ 288 ⌝ }
+    ensures { λ r. ⌜ r ≡ lastPlace base tag ⌝ }
+{
+    36448 + base * 8 + wide(tag)
+}
+
+// Where a name stands among the `count` names of the table that begins at slot `base`: from the last name of its tag to earlier ones.
 pub fn find_name(table: &[u8], base: usize, count: usize, name: &[u8]) -> Found
-    requires { ⌜ (base + count) * 65 ≤ length (now table) ⌝ }
+    requires { ⌜ length (now table) ≡ 39008 ⌝ }
+    requires { ⌜ base ≤ 288 ⌝ }
+    requires { ⌜ base + count ≤ 544 ⌝ }
     ensures { λ r. ⌜ r ≡ indexFrom 0 (namesFrom (now (table .entry)) base count) (now (name .entry)) ⌝ }
 {
+    if name.len() > 64 {
+        return Found::Nothing;
+    }
     let tag = tag_of(name);
-    let mut k = 0;
-    while k < count {
-        if name_is(table, base + k, tag, name) {
-            return Found::At(k);
+    let last = last_place(base, tag);
+    let mut top = count;
+    let mut e = wide(table[last]);
+    while e < top {
+        let s = base + e;
+        if table[s * 67 + 65] != tag {
+            return Found::Nothing;
         }
-        k += 1;
+        if holds_name(table, s, name) {
+            return Found::At(e);
+        }
+        top = e;
+        e = wide(table[s * 67 + 66]);
     }
     Found::Nothing
 }
 
 // Byte i of a name's slot.
-fn slot_byte(name: &[u8], tag: u8, i: usize) -> u8
-    requires { ⌜ i < 65 ⌝ }
+fn slot_byte(name: &[u8], tag: u8, earlier: u8, i: usize) -> u8
+    requires { ⌜ i < 67 ⌝ }
+    requires { ⌜ length (now name) ≤ 64 ⌝ }
     requires { ⌜ tag ≡ tagOf (now name) ⌝ }
-    ensures { λ r. ⌜ r ≡ getD (slotOf (now (name .entry))) i 0 ⌝ }
+    ensures { λ r. ⌜ r ≡ getD (slotOf (now (name .entry)) earlier) i 0 ⌝ }
 {
-    if i >= 64 {
-        return tag;
-    }
     if i < name.len() {
         return name[i];
     }
-    0
+    if i < 64 {
+        return 0;
+    }
+    if i == 64 {
+        return name.len() as u8;
+    }
+    if i == 65 {
+        return tag;
+    }
+    earlier
 }
 
-// Puts a name into slot k of a table.
-pub fn put_name(table: &mut [u8], k: usize, name: &[u8])
-    requires { ⌜ k * 65 + 65 ≤ length (now table) ⌝ }
-    ensures { λ _. ⌜ now (table .exit) ≡ paste (now (table .entry)) (k * 65) (slotOf (now (name .entry))) 65 ⌝ }
+// Writes a name's slot.
+fn put_slot(table: &mut [u8], s: usize, name: &[u8], tag: u8, earlier: u8)
+    requires { ⌜ s * 67 + 67 ≤ length (now table) ⌝ }
+    requires { ⌜ length (now name) ≤ 64 ⌝ }
+    requires { ⌜ tag ≡ tagOf (now name) ⌝ }
+    ensures { λ _. ⌜ now (table .exit) ≡ paste (now (table .entry)) (s * 67) (slotOf (now (name .entry)) earlier) 67 ⌝ }
 {
-    let from = k * 65;
-    let tag = tag_of(name);
+    let from = s * 67;
     let mut i = 0;
-    while i < 65 {
-        table[from + i] = slot_byte(name, tag, i);
+    while i < 67 {
+        table[from + i] = slot_byte(name, tag, earlier, i);
         i += 1;
     }
+}
+
+// Puts name n into the table that begins at slot `base`.
+pub fn put_name(table: &mut [u8], base: usize, n: usize, name: &[u8])
+    requires { ⌜ length (now table) ≡ 39008 ⌝ }
+    requires { ⌜ base ≤ 288 ⌝ }
+    requires { ⌜ n < 256 ⌝ }
+    requires { ⌜ length (now name) ≤ 64 ⌝ }
+    ensures { λ _. ⌜ now (table .exit) ≡ withName (now (table .entry)) base n (now (name .entry)) ⌝ }
+{
+    let tag = tag_of(name);
+    let last = last_place(base, tag);
+    let earlier = table[last];
+    put_slot(table, base + n, name, tag, earlier);
+    table[last] = n as u8;
 }

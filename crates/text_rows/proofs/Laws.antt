@@ -1,5 +1,5 @@
 -- Laws of rows, over plain lists and counts.
-use Prim.Native.Nat.{ℕ, suc, _+_, _*_, _≤_, _<_}
+use Prim.Native.Nat.{ℕ, suc, _+_, _≤_, _<_}
 use mathlib.Core.Path.{_≡_, refl}
 use mathlib.Core.Bool.{Bool, true, false}
 use mathlib.Core.List.{List, [], _∷_, _++_}
@@ -7,16 +7,16 @@ use native.Mathlib.Omega.{arith}
 use native.Mathlib.Numerals.{add-one}
 use borrow.Author.Tests.{lt-ltb, le-ltb}
 use lib.ListN.{length, getD}
-use lib.Seq.{paste}
 use Rattle.text_fields.specs.Split.{pick, same, bytes}
 use Rattle.text_fields.specs.Class.{named}
 use Rattle.text_fields.specs.Words.{indexFrom, refOf}
 use Rattle.text_fields.specs.Shape.{shapeOf}
+use Rattle.text_fields.specs.declared.Found.{Found}
 use Rattle.text_fields.specs.declared.Found.the-variants.{At, Nothing}
 use Rattle.text_fields.specs.declared.Shape.the-variants.{Good, Faulty}
-use Rattle.text_names.specs.Table.{namesFrom, slotOf}
-use Rattle.text_names.proofs.Table.{names-after, names-put}
-use Rattle.text_rows.specs.Rows.{Kept, refused, isTaken, sortRef, sortAdded, sortRow}
+use Rattle.text_names.specs.Table.{namesFrom, withName}
+use Rattle.text_names.proofs.Table.{named-byte, names-after, names-put}
+use Rattle.text_rows.specs.Rows.{Kept, refused, isAt, isTaken, sortRef, sortAdded, sortRow}
 use Rattle.text_rows.specs.View.{keptOf, takenOf, Bounded}
 use Rattle.text_rows.specs.declared.Counts.{Counts}
 use Rattle.text_rows.proofs.Fields.{field-named, field-short}
@@ -76,6 +76,16 @@ module _ (names : List (List ℕ)) (f : List ℕ) where
       unfolding isTaken
       taken-not e = rw (no, other, e)
 
+-- a name that is not taken stands nowhere
+pub untaken : (names : List (List ℕ)) (f : List ℕ) → isTaken names f ≡ false → indexFrom 0 names f ≡ Nothing
+unfolding isTaken
+untaken names f e = go (same f (bytes "-")) (same f (bytes "prop")) (indexFrom 0 names f) refl e where
+  go : (x y : Bool) (r : Found) → indexFrom 0 names f ≡ r → pick x true (pick y true (isAt r)) ≡ false → indexFrom 0 names f ≡ Nothing
+  go true y r p q = absurd (let z : _≡_ {A = ℕ} 0 1 = cc in omega arith)
+  go false true r p q = absurd (let z : _≡_ {A = ℕ} 0 1 = cc in omega arith)
+  go false false (At k) p q = absurd (let z : _≡_ {A = ℕ} 0 1 = cc in omega arith)
+  go false false Nothing p q = p
+
 -- sort rows, test after test
 module _ (k : Kept) (fs : List (List ℕ)) where
   pub sort-faulty : (p : ℕ) → shapeOf 3 0 fs ≡ Faulty p → refused k 31 p ≡ sortRow k fs
@@ -97,21 +107,24 @@ module _ (k : Kept) (fs : List (List ℕ)) where
       sort-new e = rw (good, lt-ltb (length (k .sorts)) 32 room, e)
 
 -- a sort's name put into the table
-module _ (n : Counts) (t name : List ℕ) (size : length t ≡ 35360) (b : Bounded n) (room : n .sorts < 32) where
-  pub sort-put : named name ≡ true → length name ≤ 64 → (t′ : List ℕ) → t′ ≡ paste t (n .sorts * 65) (slotOf name) 65
+module _ (n : Counts) (t name : List ℕ) (size : length t ≡ 39008) (b : Bounded n) (room : n .sorts < 32) where
+  pub sort-put : named name ≡ true → length name ≤ 64 → isTaken (namesFrom t 0 (n .sorts)) name ≡ false → (t′ : List ℕ) → t′ ≡ withName t 0 (n .sorts) name
       → keptOf (record { sorts = n .sorts + 1; terms = n .terms; heads = n .heads; inputs = n .inputs; steps = n .steps }) t′
       ≡ record { sorts = namesFrom t 0 (n .sorts) ++ (name ∷ []); terms = namesFrom t 32 (n .terms); heads = namesFrom t 288 (n .heads); inputs = n .inputs; steps = n .steps }
-  sort-put g h t′ e =
-      let fit : n .sorts * 65 + 65 ≤ length t = omega arith in
-      rw (e, names-put t (n .sorts) name fit 0 (n .sorts) (omega arith) g h, names-after t (n .sorts) name fit 32 (n .terms) (omega arith), names-after t (n .sorts) name fit 288 (n .heads) (omega arith))
+  sort-put g h new t′ e =
+      let low : 0 ≤ 288 = omega arith in
+      let few : n .sorts < 256 = omega arith in
+      rw
+      (e, names-put t 0 (n .sorts) name size low few h (named-byte name g) (untaken (namesFrom t 0 (n .sorts)) name new), names-after t 0 (n .sorts) name size low few h 32 (n .terms) (omega arith) (omega arith) (omega arith), names-after t 0 (n .sorts) name size low few h 288 (n .heads) (omega arith) (omega arith) (omega arith))
 
   -- a sort row stored
   pub sort-stored : (fs : List (List ℕ)) → shapeOf 3 0 fs ≡ Good → (index value : ℕ)
       → index ≡ sortRef (namesFrom t 0 (n .sorts)) (getD fs 1 []) → value ≡ sortRef (namesFrom t 0 (n .sorts)) (getD fs 2 [])
-      → name ≡ getD fs 0 [] → (t′ : List ℕ) → t′ ≡ paste t (n .sorts * 65) (slotOf name) 65
+      → name ≡ getD fs 0 [] → isTaken (namesFrom t 0 (n .sorts)) (getD fs 0 []) ≡ false → (t′ : List ℕ) → t′ ≡ withName t 0 (n .sorts) name
       → takenOf (record { code = 0; place = 0; counts = record { sorts = n .sorts + 1; terms = n .terms; heads = n .heads; inputs = n .inputs; steps = n .steps }; cells = index ∷ value ∷ 0 ∷ 0 ∷ 0 ∷ 0 ∷ 0 ∷ 0 ∷ 0 ∷ []; width = 2 }) t′
       ≡ sortAdded (keptOf n t) fs
-  sort-stored fs good index value p q is t′ e =
+  sort-stored fs good index value p q is new t′ e =
       let g : named name ≡ true = rw is (field-named 3 fs 0 good (omega arith)) in
       let h : length name ≤ 64 = rw is (field-short 3 fs 0 good (omega arith)) in
-      rw (sort-put g h t′ e, p, q, is)
+      let u : isTaken (namesFrom t 0 (n .sorts)) name ≡ false = rw is new in
+      rw (sort-put g h u t′ e, p, q, is)

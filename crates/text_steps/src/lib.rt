@@ -1,10 +1,11 @@
 // Rows of inputs and steps.
 ghost use mathlib.Core.Path.{_≡_};
 ghost use mathlib.Core.List.{[]};
-ghost use Prim.Native.Nat.{_≤_};
+ghost use Prim.Native.Nat.{_≤_, _<_};
 ghost use lib.ListN.{getD};
 ghost use Rattle.text_fields.specs.Split.{pieces};
 ghost use Rattle.text_fields.specs.Number.{value, numberOr};
+ghost use Rattle.text_fields.specs.Marks.{FieldAt, Marked};
 ghost use Rattle.text_rows.specs.Rows.{below, inputAdded, inputRow, stepCells, stepAdded, stepRow};
 ghost use Rattle.text_rows.specs.View.{keptOf, takenOf, Bounded, Within};
 use text_fields::Shape;
@@ -13,18 +14,21 @@ use text_rows::Counts;
 use text_rows::Row;
 
 // Field k of a line as a value; a malformed one is blank.
-fn value_column(line: &[u8], k: usize) -> u16
+fn value_column(line: &[u8], marks: &[usize; 18], k: usize) -> u16
+    requires { ⌜ k < 9 ⌝ }
+    requires { ⌜ FieldAt (now line) (now marks) k ⌝ }
     ensures { λ r. ⌜ r ≡ numberOr (value (getD (pieces 32 (now (line .entry))) k [])) ⌝ }
 {
-    match text_fields::read_value(text_fields::field(line, k)) {
+    match text_fields::read_value(text_fields::field(line, marks, k)) {
         Value::Number(v) => v,
         Value::Malformed => 65535,
     }
 }
 
 // The row of an input line that is well formed, while there is room for one more.
-fn good_input(counts: Counts, line: &[u8], names: &[u8; 35360]) -> Row
+fn good_input(counts: Counts, line: &[u8], marks: &[usize; 18], names: &[u8; 39008]) -> Row
     requires { ⌜ Bounded counts ⌝ }
+    requires { ⌜ Marked (now line) (now marks) 2 ⌝ }
     ensures { λ r. ⌜ takenOf r (now (names .entry))
         ≡ below (keptOf counts (now (names .entry))) (counts .inputs) 256
         (inputAdded (keptOf counts (now (names .entry))) (pieces 32 (now (line .entry)))) ⌝ }
@@ -33,8 +37,8 @@ fn good_input(counts: Counts, line: &[u8], names: &[u8; 35360]) -> Row
     if counts.inputs >= 256 {
         return text_rows::refuse(counts, 30, 0);
     }
-    let term = text_rows::term_column(names, counts.terms, line, 0);
-    let given = value_column(line, 1);
+    let term = text_rows::term_column(names, counts.terms, line, marks, 0);
+    let given = value_column(line, marks, 1);
     Row {
         code: 0,
         place: 0,
@@ -51,39 +55,42 @@ fn good_input(counts: Counts, line: &[u8], names: &[u8; 35360]) -> Row
 }
 
 // A line of the input sheet: a term and a value.
-pub fn input_row(counts: Counts, line: &[u8], names: &[u8; 35360]) -> Row
+pub fn input_row(counts: Counts, line: &[u8], names: &[u8; 39008]) -> Row
     requires { ⌜ Bounded counts ⌝ }
     ensures { λ r. ⌜ takenOf r (now (names .entry)) ≡ inputRow (keptOf counts (now (names .entry))) (pieces 32 (now (line .entry))) ⌝ }
     ensures { λ r. ⌜ Within r ⌝ }
 {
-    match text_fields::check_line(line, 2, 2) {
+    let mut marks = [0usize; 18];
+    match text_fields::check_line(line, 2, 2, &mut marks) {
         Shape::Faulty(place) => text_rows::refuse(counts, 31, place),
-        Shape::Good => good_input(counts, line, names),
+        Shape::Good => good_input(counts, line, &marks, names),
     }
 }
 
 // The nine numbers of a step line: step, rule, term, value, five premises.
-fn step_cells(counts: Counts, line: &[u8], names: &[u8; 35360]) -> [u16; 9]
+fn step_cells(counts: Counts, line: &[u8], marks: &[usize; 18], names: &[u8; 39008]) -> [u16; 9]
     requires { ⌜ counts .terms ≤ 256 ⌝ }
+    requires { ⌜ Marked (now line) (now marks) 9 ⌝ }
     ensures { λ r. ⌜ r ≡ stepCells (keptOf counts (now (names .entry))) (pieces 32 (now (line .entry))) ⌝ }
 {
     let terms = counts.terms;
     [
-        text_fields::step_number(text_fields::field(line, 0)),
-        text_fields::rule_number(text_fields::field(line, 1)),
-        text_rows::term_column(names, terms, line, 2),
-        value_column(line, 3),
-        text_rows::term_column(names, terms, line, 4),
-        text_rows::term_column(names, terms, line, 5),
-        text_rows::term_column(names, terms, line, 6),
-        text_rows::term_column(names, terms, line, 7),
-        text_rows::term_column(names, terms, line, 8),
+        text_fields::step_number(text_fields::field(line, marks, 0)),
+        text_fields::rule_number(text_fields::field(line, marks, 1)),
+        text_rows::term_column(names, terms, line, marks, 2),
+        value_column(line, marks, 3),
+        text_rows::term_column(names, terms, line, marks, 4),
+        text_rows::term_column(names, terms, line, marks, 5),
+        text_rows::term_column(names, terms, line, marks, 6),
+        text_rows::term_column(names, terms, line, marks, 7),
+        text_rows::term_column(names, terms, line, marks, 8),
     ]
 }
 
 // The row of a step line that is well formed, while there is room for one more.
-fn good_step(counts: Counts, line: &[u8], names: &[u8; 35360]) -> Row
+fn good_step(counts: Counts, line: &[u8], marks: &[usize; 18], names: &[u8; 39008]) -> Row
     requires { ⌜ Bounded counts ⌝ }
+    requires { ⌜ Marked (now line) (now marks) 9 ⌝ }
     ensures { λ r. ⌜ takenOf r (now (names .entry))
         ≡ below (keptOf counts (now (names .entry))) (counts .steps) 1024
         (stepAdded (keptOf counts (now (names .entry))) (pieces 32 (now (line .entry)))) ⌝ }
@@ -92,7 +99,7 @@ fn good_step(counts: Counts, line: &[u8], names: &[u8; 35360]) -> Row
     if counts.steps >= 1024 {
         return text_rows::refuse(counts, 30, 0);
     }
-    let cells = step_cells(counts, line, names);
+    let cells = step_cells(counts, line, marks, names);
     Row {
         code: 0,
         place: 0,
@@ -109,13 +116,14 @@ fn good_step(counts: Counts, line: &[u8], names: &[u8; 35360]) -> Row
 }
 
 // A line of the step sheet: a step, a rule, a term, a value, five premises.
-pub fn step_row(counts: Counts, line: &[u8], names: &[u8; 35360]) -> Row
+pub fn step_row(counts: Counts, line: &[u8], names: &[u8; 39008]) -> Row
     requires { ⌜ Bounded counts ⌝ }
     ensures { λ r. ⌜ takenOf r (now (names .entry)) ≡ stepRow (keptOf counts (now (names .entry))) (pieces 32 (now (line .entry))) ⌝ }
     ensures { λ r. ⌜ Within r ⌝ }
 {
-    match text_fields::check_line(line, 9, 4) {
+    let mut marks = [0usize; 18];
+    match text_fields::check_line(line, 9, 4, &mut marks) {
         Shape::Faulty(place) => text_rows::refuse(counts, 31, place),
-        Shape::Good => good_step(counts, line, names),
+        Shape::Good => good_step(counts, line, &marks, names),
     }
 }

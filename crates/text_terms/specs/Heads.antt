@@ -10,5 +10,5 @@ use Rattle.text_terms.specs.declared.HeadNumber.{HeadNumber}
 pub record HeadIs (t : List ℕ) (n : ℕ) (h : Head) (r : HeadNumber) (t′ : List ℕ) : Type 0 where
   pub number-is : r .number ≡ h .number
   pub heads-are : namesFrom t′ 288 (r .heads) ≡ h .heads
-  pub others-stay : (b m : ℕ) → b + m ≤ 288 → namesFrom t′ b m ≡ namesFrom t b m
+  pub others-stay : (b m : ℕ) → b ≤ 32 → b + m ≤ 288 → namesFrom t′ b m ≡ namesFrom t b m
   pub at-most : r .heads ≤ n + 1

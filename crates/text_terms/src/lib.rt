@@ -1,14 +1,16 @@
 // Rows of terms.
 ghost use mathlib.Core.Path.{_≡_};
-ghost use mathlib.Core.Bool.{true};
+ghost use mathlib.Core.Bool.{true, false};
+ghost use mathlib.Core.List.{[]};
 ghost use Prim.Native.Nat.{_≤_, _<_};
-ghost use lib.ListN.{length};
+ghost use lib.ListN.{length, getD};
 ghost use Rattle.text_fields.specs.Split.{pieces};
 ghost use Rattle.text_fields.specs.Class.{named};
 ghost use Rattle.text_fields.specs.Words.{indexFrom};
 ghost use Rattle.text_fields.specs.Shape.{shapeOf};
+ghost use Rattle.text_fields.specs.Marks.{Marked};
 ghost use Rattle.text_names.specs.Table.{namesFrom};
-ghost use Rattle.text_rows.specs.Rows.{freeHead, headOf, termAdded, termRow};
+ghost use Rattle.text_rows.specs.Rows.{isTaken, freeHead, headOf, termAdded, termRow};
 ghost use Rattle.text_rows.specs.View.{keptOf, takenOf, Bounded, Within};
 ghost use Rattle.text_terms.specs.Heads.{HeadIs};
 use text_fields::Found;
@@ -23,7 +25,7 @@ struct HeadNumber {
 }
 
 // A head that is no word of its own: free heads count from 16 by first use.
-fn free_head(names: &mut [u8; 35360], heads: usize, f: &[u8]) -> HeadNumber
+fn free_head(names: &mut [u8; 39008], heads: usize, f: &[u8]) -> HeadNumber
     requires { ⌜ heads < 256 ⌝ }
     requires { ⌜ named (now f) ≡ true ⌝ }
     requires { ⌜ length (now f) ≤ 64 ⌝ }
@@ -37,7 +39,7 @@ fn free_head(names: &mut [u8; 35360], heads: usize, f: &[u8]) -> HeadNumber
             heads,
         },
         Found::Nothing => {
-            text_names::put_name(names, 288 + heads, f);
+            text_names::put_name(names, 288, heads, f);
             HeadNumber {
                 number: (16 + heads) as u16,
                 heads: heads + 1,
@@ -47,7 +49,7 @@ fn free_head(names: &mut [u8; 35360], heads: usize, f: &[u8]) -> HeadNumber
 }
 
 // The number of a head.
-fn head_of(names: &mut [u8; 35360], heads: usize, f: &[u8]) -> HeadNumber
+fn head_of(names: &mut [u8; 39008], heads: usize, f: &[u8]) -> HeadNumber
     requires { ⌜ heads < 256 ⌝ }
     requires { ⌜ named (now f) ≡ true ⌝ }
     requires { ⌜ length (now f) ≤ 64 ⌝ }
@@ -70,21 +72,23 @@ fn head_of(names: &mut [u8; 35360], heads: usize, f: &[u8]) -> HeadNumber
 }
 
 // A term row that is good.
-fn put_term(counts: Counts, line: &[u8], names: &mut [u8; 35360]) -> Row
+fn put_term(counts: Counts, line: &[u8], marks: &[usize; 18], names: &mut [u8; 39008]) -> Row
     requires { ⌜ Bounded counts ⌝ }
     requires { ⌜ counts .terms < 256 ⌝ }
     requires { ⌜ shapeOf 7 0 (pieces 32 (now line)) ≡ Shape.Good ⌝ }
+    requires { ⌜ Marked (now line) (now marks) 7 ⌝ }
+    requires { ⌜ isTaken (namesFrom (now names) 32 (counts .terms)) (getD (pieces 32 (now line)) 0 []) ≡ false ⌝ }
     ensures { λ r. ⌜ takenOf r (now (names .exit)) ≡ termAdded (keptOf counts (now (names .entry))) (pieces 32 (now (line .entry))) ⌝ }
     ensures { λ r. ⌜ Within r ⌝ }
 {
     let n = counts.terms;
-    let sort = text_rows::sort_column(names, counts.sorts, line, 2);
-    let a = text_rows::term_column(names, n, line, 3);
-    let b = text_rows::term_column(names, n, line, 4);
-    let c = text_rows::term_column(names, n, line, 5);
-    let d = text_rows::term_column(names, n, line, 6);
-    let head = head_of(names, counts.heads, text_fields::field(line, 1));
-    text_names::put_name(names, 32 + n, text_fields::field(line, 0));
+    let sort = text_rows::sort_column(names, counts.sorts, line, marks, 2);
+    let a = text_rows::term_column(names, n, line, marks, 3);
+    let b = text_rows::term_column(names, n, line, marks, 4);
+    let c = text_rows::term_column(names, n, line, marks, 5);
+    let d = text_rows::term_column(names, n, line, marks, 6);
+    let head = head_of(names, counts.heads, text_fields::field(line, marks, 1));
+    text_names::put_name(names, 32, n, text_fields::field(line, marks, 0));
     Row {
         code: 0,
         place: 0,
@@ -101,9 +105,10 @@ fn put_term(counts: Counts, line: &[u8], names: &mut [u8; 35360]) -> Row
 }
 
 // A term row that is well formed.
-fn add_term(counts: Counts, line: &[u8], names: &mut [u8; 35360]) -> Row
+fn add_term(counts: Counts, line: &[u8], marks: &[usize; 18], names: &mut [u8; 39008]) -> Row
     requires { ⌜ Bounded counts ⌝ }
     requires { ⌜ shapeOf 7 0 (pieces 32 (now line)) ≡ Shape.Good ⌝ }
+    requires { ⌜ Marked (now line) (now marks) 7 ⌝ }
     ensures { λ r. ⌜ takenOf r (now (names .exit)) ≡ termRow (keptOf counts (now (names .entry))) (pieces 32 (now (line .entry))) ⌝ }
     ensures { λ r. ⌜ Within r ⌝ }
 {
@@ -111,20 +116,21 @@ fn add_term(counts: Counts, line: &[u8], names: &mut [u8; 35360]) -> Row
     if n >= 256 {
         return text_rows::refuse(counts, 30, 0);
     }
-    if text_rows::is_taken(names, 32, n, text_fields::field(line, 0)) {
+    if text_rows::is_taken(names, 32, n, text_fields::field(line, marks, 0)) {
         return text_rows::refuse(counts, 2, 1);
     }
-    put_term(counts, line, names)
+    put_term(counts, line, marks, names)
 }
 
 // A line of the term sheet.
-pub fn term_row(counts: Counts, line: &[u8], names: &mut [u8; 35360]) -> Row
+pub fn term_row(counts: Counts, line: &[u8], names: &mut [u8; 39008]) -> Row
     requires { ⌜ Bounded counts ⌝ }
     ensures { λ r. ⌜ takenOf r (now (names .exit)) ≡ termRow (keptOf counts (now (names .entry))) (pieces 32 (now (line .entry))) ⌝ }
     ensures { λ r. ⌜ Within r ⌝ }
 {
-    match text_fields::check_line(line, 7, 0) {
+    let mut marks = [0usize; 18];
+    match text_fields::check_line(line, 7, 0, &mut marks) {
         Shape::Faulty(place) => text_rows::refuse(counts, 31, place),
-        Shape::Good => add_term(counts, line, names),
+        Shape::Good => add_term(counts, line, &marks, names),
     }
 }

@@ -1,11 +1,12 @@
--- The bytes of a piece: those from i on say the same as all of them.
+-- The bytes of a piece, up to newline after newline: those from i on say the same as all of them.
 use Prim.Native.Nat.{_≤_, _-_, _+_}
-use mathlib.Core.Path.{_≡_, refl, sym, ap, _∙_}
+use mathlib.Core.Path.{_≡_, refl, sym, _∙_}
 use native.Mathlib.Omega.{arith}
-use lib.ListN.{length, drop}
+use lib.ListN.{length, drop, take}
 use Rattle.text_rows.specs.View.{Bounded}
-use Rattle.reader.specs.Stream.{Stream, streamOf, feedAll}
-use Rattle.reader.proofs.Bytes.{feed-more, feed-end}
+use Rattle.reader.specs.Stream.{streamOf, feedAll}
+use Rattle.reader.proofs.Bytes.{feed-end}
+use Rattle.reader.proofs.Runs.{feed-on, place-most, place-less, rest-length}
 use Rattle.reader.proofs.feed.Statement.{statement}
 use Rattle.reader.proofs.feed.Tie as tie
 
@@ -17,47 +18,43 @@ abbrev μ-loop : tie.MeasureT-loop
 μ-loop piece line₀ names₀ sorts₀ terms₀ inputs₀ steps₀ f₀ i₀ line names sorts terms inputs steps f i = length piece - i
 
 loop-holds : tie.Need-loop-holds Inv-loop μ-loop
-loop-holds c =
-    let the-pre = c .before .before .before .before .before .pre in
-    (omega arith, refl, refl, refl, refl, the-pre, refl)
+loop-holds c = (omega arith, refl, refl, refl, refl, c .before .before .before .before .before .pre, refl)
 
-shared-slice-read-feed-byte : tie.Need-shared-slice-read-feed-byte Inv-loop μ-loop
-shared-slice-read-feed-byte c = omega (arith, c .before .loop-test, c .before .before .loop)
+sub-scan : tie.Need-sub-scan Inv-loop μ-loop
+sub-scan c = omega (arith, c .before .loop .inv .0)
 
-feed-byte-requires : tie.Need-feed-byte-requires Inv-loop μ-loop
-feed-byte-requires c κs =
-    let the-loop = c .before .before .before .before .before .before .before .before .loop in
-    the-loop .inv .5
+part-scan-start : tie.Need-part-scan-start Inv-loop μ-loop
+part-scan-start c = omega (arith, c .before .loop .inv .0)
 
-add-i : tie.Need-add-i Inv-loop μ-loop
-add-i c =
-    let the-loop-test = c .before .before .before .before .before .before .before .before .before .before .before .before .before .before .before .before .loop-test in
-    let the-loop = c .before .before .before .before .before .before .before .before .before .before .before .before .before .before .before .before .before .loop in
-    let the-good = c .before .before .before .before .before .before .before .before .before .before .before .before .before .before .before .before .before .before .before .before .before .before .before .good in
-    omega (arith, the-loop-test .taken, the-loop, the-good .1 .0)
+part-scan-end : tie.Need-part-scan-end Inv-loop μ-loop
+part-scan-end c = omega (arith, c .before .loop .inv .0)
+
+scan-requires : tie.Need-scan-requires Inv-loop μ-loop
+scan-requires c κs = tt
+
+sub-feed-part : tie.Need-sub-feed-part Inv-loop μ-loop
+sub-feed-part c = omega (arith, c .before .before .before .loop .inv .0)
+
+part-feed-part-start : tie.Need-part-feed-part-start Inv-loop μ-loop
+part-feed-part-start c = omega (arith, c .before .before .before .loop .inv .0)
+
+part-feed-part-end : tie.Need-part-feed-part-end Inv-loop μ-loop
+part-feed-part-end c = omega (arith, c .before .before .before .loop .inv .0)
+
+feed-part-requires : tie.Need-feed-part-requires Inv-loop μ-loop
+feed-part-requires c κs = (c .before .before .before .before .before .before .before .before .before .before .loop .inv .5, (c .before .before .before .before .before .before .before .scan .ensures .0, c .before .before .before .before .before .before .before .scan .ensures .1))
+
+add-place-after : tie.Need-add-place-after Inv-loop μ-loop
+add-place-after c = let a = c .before .before .before .before .before .before .before .before .before .before .before .before .before .before .before .before .before .before .before .before .before .before .before .before .before .args in let l = c .before .before .before .before .before .before .before .before .before .before .before .before .before .before .before .before .before .before .before .loop in let k : c .before .before .before .before .before .before .before .before .before .before .before .before .before .before .before .before .scan .result ≤ length (take (length (a .piece .now) - l .i) (drop (l .i) (a .piece .now))) = c .before .before .before .before .before .before .before .before .before .before .before .before .before .before .before .before .scan .ensures .1 in omega (arith, l .inv .0, rest-length (a .piece .now) (l .i), c .before .before .before .before .before .before .before .before .before .before .before .before .before .before .before .before .before .before .before .before .before .before .before .before .before .good .1 .0)
+
+place-after-requires : tie.Need-place-after-requires Inv-loop μ-loop
+place-after-requires c κs = tt
 
 loop-less : tie.Need-loop-less Inv-loop μ-loop
-loop-less c =
-    let the-loop-test = c .before .before .before .before .before .before .before .before .before .before .before .before .before .before .before .before .loop-test in
-    let the-loop = c .before .before .before .before .before .before .before .before .before .before .before .before .before .before .before .before .before .loop in
-    omega (arith, the-loop-test, the-loop)
+loop-less c = let a = c .before .before .before .before .before .before .before .before .before .before .before .before .before .before .before .before .before .before .before .before .before .before .before .before .before .before .args in let l = c .before .before .before .before .before .before .before .before .before .before .before .before .before .before .before .before .before .before .before .before .loop in let e = c .place-after .ensures in omega (arith, e, l .inv .0, c .before .before .before .before .before .before .before .before .before .before .before .before .before .before .before .before .before .before .before .loop-test .taken, place-less (l .i) (l .i + c .before .before .before .before .before .before .before .before .before .before .before .before .before .before .before .before .before .scan .result) (length (a .piece .now)) (omega arith) (c .before .before .before .before .before .before .before .before .before .before .before .before .before .before .before .before .before .before .before .loop-test .taken), place-most (l .i + c .before .before .before .before .before .before .before .before .before .before .before .before .before .before .before .before .before .scan .result) (length (a .piece .now)))
 
 loop-again : tie.Need-loop-again Inv-loop μ-loop
-loop-again c =
-    let a = c .before .before .before .before .before .before .before .before .before .before .before .before .before .before .before .before .before .before .before .before .before .before .before .args in
-    let l = c .before .before .before .before .before .before .before .before .before .before .before .before .before .before .before .before .before .loop in
-    let the-loop-test = c .before .before .before .before .before .before .before .before .before .before .before .before .before .before .before .before .loop-test in
-    let the-feed-byte = c .before .before .before .before .before .before .before .before .feed-byte in (
-      omega (arith, the-loop-test),
-      the-feed-byte .kept .1 .1 .1 .1 .0 ∙ l .inv .1,
-      the-feed-byte .kept .1 .1 .1 .1 .1 .0 ∙ l .inv .2,
-      the-feed-byte .kept .1 .1 .1 .1 .1 .1 .0 ∙ l .inv .3,
-      the-feed-byte .kept .1 .1 .1 .1 .1 .1 .1 .0 ∙ l .inv .4,
-      the-feed-byte .ensures .1,
-      ap (λ (s : Stream). feedAll s (drop (l .i + 1) (a .piece .now))) (the-feed-byte .ensures .0) ∙ sym
-          (feed-more (streamOf (l .f) (l .line) (l .names) (l .sorts) (l .terms) (l .inputs) (l .steps)) (a .piece .now) (l .i) (omega (arith, the-loop-test)))
-          ∙ l .inv .6,
-    )
+loop-again c = let a = c .before .before .before .before .before .before .before .before .before .before .before .before .before .before .before .before .before .before .before .before .before .before .before .before .before .before .args in let l = c .before .before .before .before .before .before .before .before .before .before .before .before .before .before .before .before .before .before .before .before .loop in let g = c .before .before .before .before .before .before .before .before .before .feed-part in (omega (arith, c .place-after .ensures, place-most (l .i + c .before .before .before .before .before .before .before .before .before .before .before .before .before .before .before .before .before .scan .result) (length (a .piece .now))), g .kept .1 .1 .1 .1 .1 .0 ∙ l .inv .1, g .kept .1 .1 .1 .1 .1 .1 .0 ∙ l .inv .2, g .kept .1 .1 .1 .1 .1 .1 .1 .0 ∙ l .inv .3, g .kept .1 .1 .1 .1 .1 .1 .1 .1 .0 ∙ l .inv .4, g .ensures .1, feed-on (streamOf (l .f) (l .line) (l .names) (l .sorts) (l .terms) (l .inputs) (l .steps)) _ (a .piece .now) (l .i) (c .before .before .before .before .before .before .before .before .before .before .before .before .before .before .before .before .before .scan .result) (c .place-after .result) (l .inv .0) (c .before .before .before .before .before .before .before .before .before .before .before .before .before .before .before .before .before .scan .ensures .1) (g .ensures .0) (c .place-after .ensures) ∙ l .inv .6)
 
 same-length : tie.Need-same-length Inv-loop μ-loop
 same-length c = c .before .loop .inv .1
@@ -72,14 +69,7 @@ same-length-4 : tie.Need-same-length-4 Inv-loop μ-loop
 same-length-4 c = c .before .loop .inv .4
 
 returns : tie.Need-returns Inv-loop μ-loop
-returns c =
-    let a = c .before .before .before .before .before .before .before .args in
-    let l = c .before .loop in (
-      sym
-          (feed-end (streamOf (l .f) (l .line) (l .names) (l .sorts) (l .terms) (l .inputs) (l .steps)) (a .piece .now) (l .i) (omega arith))
-          ∙ l .inv .6,
-      l .inv .5,
-    )
+returns c = let a = c .before .before .before .before .before .before .before .args in let l = c .before .loop in (sym (feed-end (streamOf (l .f) (l .line) (l .names) (l .sorts) (l .terms) (l .inputs) (l .steps)) (a .piece .now) (l .i) (omega (arith, c .loop-test .left))) ∙ l .inv .6, l .inv .5)
 
 pub feed-spec : {M : Type 1} → statement M
 feed-spec =
@@ -88,9 +78,16 @@ feed-spec =
     Inv-loop
     μ-loop
     loop-holds
-    shared-slice-read-feed-byte
-    feed-byte-requires
-    add-i
+    sub-scan
+    part-scan-start
+    part-scan-end
+    scan-requires
+    sub-feed-part
+    part-feed-part-start
+    part-feed-part-end
+    feed-part-requires
+    add-place-after
+    place-after-requires
     loop-less
     loop-again
     same-length

@@ -28,17 +28,7 @@ same-length-4 : tie.Need-same-length-4
 same-length-4 c = search needs
 
 returns : tie.Need-returns
-returns c =
-    let a = c .before .before .before .before .before .before .before .before .before .before .before .before .before .before .before .before .before .before .before .before .before .before .before .before .args in
-    let the-advanced-by = c .before .before .before .before .before .before .before .before .before .before .before .before .before .before .before .before .before .advanced-by in
-    let the-feed-newline = c .before .before .before .before .before .before .before .before .feed-newline in
-    let the-is-newline = c .before .before .before .before .before .before .before .before .before .before .before .before .before .before .before .before .is-newline in
-    let the-if1 = c .before .before .before .before .before .before .before .before .before .before .before .before .before .before .before .if1 in (
-      step-newline (a .f) (a .line .now) (a .names .now) (a .sorts .now) (a .terms .now) (a .inputs .now)
-          (a .steps .now) (a .b) (the-advanced-by .result) (the-advanced-by .ensures) (the-feed-newline .result) _ _ _
-          _ _ (sym (the-is-newline .ensures) ∙ the-if1 .taken) (the-feed-newline .ensures .0),
-      the-feed-newline .ensures .1,
-    )
+returns c = let a = c .before .before .before .before .before .before .before .before .before .before .before .before .before .before .before .before .before .before .before .before .before .before .before .before .before .args in (step-newline (a .f) (a .line .now) (a .names .now) (a .sorts .now) (a .terms .now) (a .inputs .now) (a .steps .now) (a .b) (c .before .before .before .before .before .before .before .before .before .before .before .before .before .before .before .before .before .before .advanced-by .result) (c .before .before .before .before .before .before .before .before .before .before .before .before .before .before .before .before .before .before .advanced-by .ensures) (c .before .before .before .before .before .before .before .before .feed-newline .result) _ _ _ _ _ (sym (c .before .before .before .before .before .before .before .before .before .before .before .before .before .before .before .before .before .is-newline .ensures) ∙ c .before .before .before .before .before .before .before .before .before .before .before .before .before .before .before .before .if1 .taken) (c .before .before .before .before .before .before .before .before .feed-newline .ensures .0), c .before .before .before .before .before .before .before .before .feed-newline .ensures .1)
 
 put-byte-requires : tie.Need-put-byte-requires
 put-byte-requires c κs = search needs

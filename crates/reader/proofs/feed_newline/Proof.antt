@@ -37,7 +37,7 @@ store-row-requires c κs =
     let e : length (the-end-line .result .cells) ≡ 9 = the-end-line .ensures .1 .2 in
     let w : the-end-line .result .width ≤ 9 = the-end-line .ensures .1 .1 in
     let u : the-end-line .result .width ≤ length (the-end-line .result .cells) = omega arith in
-    (the-pre, rw (length-take-le (the-end-line .result .width) (the-end-line .result .cells) u) w)
+    (the-pre .0, rw (length-take-le (the-end-line .result .width) (the-end-line .result .cells) u) w)
 
 same-length : tie.Need-same-length
 same-length c = search needs
@@ -56,7 +56,7 @@ returns c =
     let a = c .before .before .before .before .before .before .before .before .before .before .before .before .before .before .before .before .before .before .before .before .before .before .before .before .args in
     let the-end-line = c .before .before .before .before .before .before .before .before .before .before .before .before .before .before .before .before .before .end-line in
     let the-store-row = c .before .before .before .before .before .before .before .before .before .store-row in (
-      line-ended (controlOf (a .core) (a .names .now)) (a .pos .line) (take (a .pos .at) (a .line .now))
+      line-ended (controlOf (a .core) (a .names .now)) (a .n) (take (a .at) (a .line .now))
           (record { sorts = a .sorts .now; terms = a .terms .now; inputs = a .inputs .now; steps = a .steps .now }) _
           (effectOf (the-end-line .result) _) (the-end-line .ensures .0) (the-store-row .ensures (a .names .now)),
       the-end-line .ensures .1 .0,

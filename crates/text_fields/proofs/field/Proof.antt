@@ -1,145 +1,54 @@
--- `text_fields::field` meets its contract.
-use Prim.Native.Nat.{ℕ}
-use mathlib.Core.Path.{_≡_, refl, sym, ap, _∙_}
-use mathlib.Core.List.{[]}
-use native.Mathlib.Omega.{arith}
-use native.Mathlib.Nat.{sub-self}
-use Prim.Native.Nat.{_-_, _≤_, _<_}
-use lib.ListN.{length, drop, getD}
-use Rattle.text_fields.specs.Split.{pieces, fieldEnd}
-use Rattle.text_fields.proofs.Cut.{field-gone, field-next, field-here}
+-- The part of the line between the marks of a field.
+use mathlib.Core.Path.{sym}
+use borrow.Author.Needs.{needs}
 use Rattle.text_fields.proofs.field.Statement.{statement}
 use Rattle.text_fields.proofs.field.Tie as tie
 
-abbrev Inv-loop : tie.InvT-loop
-Inv-loop line k from₀ left₀ from left = (from ≤ length line) × (getD (pieces 32 (drop from line)) left [] ≡ getD (pieces 32 line) k [])
+mul-from : tie.Need-mul-from
+mul-from c = search needs
 
-abbrev μ-loop : tie.MeasureT-loop
-μ-loop line k from₀ left₀ from left = left
+mul-from-2 : tie.Need-mul-from-2
+mul-from-2 c = search needs
 
-loop-holds : tie.Need-loop-holds Inv-loop μ-loop
-loop-holds c = (omega arith, refl)
+element-copy-out-from : tie.Need-element-copy-out-from
+element-copy-out-from c = search needs
 
-field-end-requires : tie.Need-field-end-requires Inv-loop μ-loop
-field-end-requires c κs = omega arith
+mul-to : tie.Need-mul-to
+mul-to c = search needs
 
-sub-result : tie.Need-sub-result Inv-loop μ-loop
-sub-result c = omega arith
+add-to : tie.Need-add-to
+add-to c = search needs
 
-part-result-start : tie.Need-part-result-start Inv-loop μ-loop
-part-result-start c = omega arith
+mul-to-2 : tie.Need-mul-to-2
+mul-to-2 c = search needs
 
-part-result-end : tie.Need-part-result-end Inv-loop μ-loop
-part-result-end c =
-    let x = c .before .before .before .loop in
-    let f = c .before .field-end in
-    let the-args = c .before .before .before .before .before .args in
-    let l = the-args .line .now in
-    let e : f .result ≡ fieldEnd l (x .from) = f .ensures .0 in
-    let u : f .result ≤ length l = f .ensures .1 in
-    omega arith
+element-copy-out-to : tie.Need-element-copy-out-to
+element-copy-out-to c = search needs
 
-returns : tie.Need-returns Inv-loop μ-loop
-returns c =
-    let x = c .before .before .before .before .loop in
-    let f = c .before .before .field-end in
-    let the-args = c .before .before .before .before .before .before .args in
-    let l = the-args .line .now in
-    let e : f .result ≡ fieldEnd l (x .from) = f .ensures .0 in
-    let u : f .result ≤ length l = f .ensures .1 in
-    rw sub-self
-    (sym (field-gone l (x .from) (f .result) e (x .inv .0) (c .before .if1 .taken) (x .left) (omega arith)) ∙ x .inv .1)
+sub-result : tie.Need-sub-result
+sub-result c = search needs
 
-add-from : tie.Need-add-from Inv-loop μ-loop
-add-from c =
-    let x = c .before .before .before .loop in
-    let f = c .before .field-end in
-    let the-args = c .before .before .before .before .before .args in
-    let l = the-args .line .now in
-    let e : f .result ≡ fieldEnd l (x .from) = f .ensures .0 in
-    let u : f .result ≤ length l = f .ensures .1 in
-    omega arith
+part-result-start : tie.Need-part-result-start
+part-result-start c = search needs
 
-sub-left : tie.Need-sub-left Inv-loop μ-loop
-sub-left c = omega arith
+part-result-end : tie.Need-part-result-end
+part-result-end c = search needs
 
-loop-less : tie.Need-loop-less Inv-loop μ-loop
-loop-less c = omega arith
-
-loop-again : tie.Need-loop-again Inv-loop μ-loop
-loop-again c =
-    let x = c .before .before .before .loop in
-    let f = c .before .field-end in
-    let the-args = c .before .before .before .before .before .args in
-    let l = the-args .line .now in
-    let e : f .result ≡ fieldEnd l (x .from) = f .ensures .0 in
-    let u : f .result ≤ length l = f .ensures .1 in
-    let w : f .result < length l = omega (arith, c .if1 .left) in
-    (omega arith, sym (field-next l (x .from) (f .result) e (x .inv .0) w (x .left) (omega arith)) ∙ x .inv .1)
-
-field-end-requires-2 : tie.Need-field-end-requires-2 Inv-loop μ-loop
-field-end-requires-2 c κs = omega arith
-
-sub-result-2 : tie.Need-sub-result-2 Inv-loop μ-loop
-sub-result-2 c =
-    let x = c .before .before .loop in
-    let the-args = c .before .before .before .before .args in
-    let l = the-args .line .now in
-    let f = c .field-end2 in
-    let e : f .result ≡ fieldEnd l (x .from) = f .ensures .0 in
-    let u : f .result ≤ length l = f .ensures .1 in
-    omega arith
-
-part-result-start-2 : tie.Need-part-result-start-2 Inv-loop μ-loop
-part-result-start-2 c =
-    let x = c .before .before .loop in
-    let the-args = c .before .before .before .before .args in
-    let l = the-args .line .now in
-    let f = c .field-end2 in
-    let e : f .result ≡ fieldEnd l (x .from) = f .ensures .0 in
-    let u : f .result ≤ length l = f .ensures .1 in
-    omega arith
-
-part-result-end-2 : tie.Need-part-result-end-2 Inv-loop μ-loop
-part-result-end-2 c =
-    let x = c .before .before .loop in
-    let the-args = c .before .before .before .before .args in
-    let l = the-args .line .now in
-    let f = c .field-end2 in
-    let e : f .result ≡ fieldEnd l (x .from) = f .ensures .0 in
-    let u : f .result ≤ length l = f .ensures .1 in
-    omega arith
-
-returns-2 : tie.Need-returns-2 Inv-loop μ-loop
-returns-2 c =
-    let x = c .before .before .before .loop in
-    let f = c .before .field-end2 in
-    let the-args = c .before .before .before .before .before .args in
-    let l = the-args .line .now in
-    let e : f .result ≡ fieldEnd l (x .from) = f .ensures .0 in
-    let u : f .result ≤ length l = f .ensures .1 in
-    let z : x .left ≡ 0 = omega arith in
-    sym (field-here l (x .from) (f .result) e (x .inv .0) u) ∙ ap
-    (λ (m : ℕ). getD (pieces 32 (drop (x .from) l)) m []) (sym z) ∙ x .inv .1
+returns : tie.Need-returns
+returns c = sym (c .before .before .before .pre .1 .holds)
 
 pub field-spec : {M : Type 1} → statement M
 field-spec =
     tie.close
     (tie.spec
-    Inv-loop
-    μ-loop
-    loop-holds
-    field-end-requires
+    mul-from
+    mul-from-2
+    element-copy-out-from
+    mul-to
+    add-to
+    mul-to-2
+    element-copy-out-to
     sub-result
     part-result-start
     part-result-end
-    returns
-    add-from
-    sub-left
-    loop-less
-    loop-again
-    field-end-requires-2
-    sub-result-2
-    part-result-start-2
-    part-result-end-2
-    returns-2)
+    returns)

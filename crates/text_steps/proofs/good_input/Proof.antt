@@ -1,4 +1,5 @@
 -- A well formed input line: the ceiling, then the row.
+use native.Mathlib.Omega.{arith}
 use mathlib.Core.Path.{_∙_}
 use Rattle.text_fields.specs.Split.{pieces}
 use Rattle.text_rows.specs.Rows.{inputAdded}
@@ -22,13 +23,13 @@ returns c =
     )
 
 term-column-requires : tie.Need-term-column-requires
-term-column-requires c κs = search needs
+term-column-requires c κs = (omega (arith, c .before .before .before .pre .0), (omega arith, c .before .before .before .pre .1 0 (omega arith)))
 
 value-column-requires : tie.Need-value-column-requires
-value-column-requires c κs = search needs
+value-column-requires c κs = (omega arith, c .before .before .before .before .pre .1 1 (omega arith))
 
-add-t7 : tie.Need-add-t7
-add-t7 c = search needs
+add-t8 : tie.Need-add-t8
+add-t8 c = search needs
 
 returns-2 : tie.Need-returns-2
 returns-2 c =
@@ -45,4 +46,4 @@ returns-2 c =
 pub good-input-spec : {M : Type 1} → statement M
 good-input-spec =
     tie.close
-    (tie.spec refuse-requires returns term-column-requires value-column-requires add-t7 returns-2)
+    (tie.spec refuse-requires returns term-column-requires value-column-requires add-t8 returns-2)

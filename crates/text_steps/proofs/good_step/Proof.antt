@@ -24,8 +24,8 @@ returns c =
 step-cells-requires : tie.Need-step-cells-requires
 step-cells-requires c κs = search needs
 
-add-t6 : tie.Need-add-t6
-add-t6 c = search needs
+add-t7 : tie.Need-add-t7
+add-t7 c = search needs
 
 returns-2 : tie.Need-returns-2
 returns-2 c =
@@ -39,4 +39,4 @@ returns-2 c =
     )
 
 pub good-step-spec : {M : Type 1} → statement M
-good-step-spec = tie.close (tie.spec refuse-requires returns step-cells-requires add-t6 returns-2)
+good-step-spec = tie.close (tie.spec refuse-requires returns step-cells-requires add-t7 returns-2)

@@ -20,26 +20,26 @@ enum-told : tie.Need-enum-told
 enum-told c = search needs
 
 good-step-requires : tie.Need-good-step-requires
-good-step-requires c κs = search needs
+good-step-requires c κs = (c .before .before .before .before .before .before .pre, c .before .before .before .check-line .ensures .1 (c .before .enum-told .given .1))
 
 returns : tie.Need-returns
 returns c =
-    let a = c .before .before .before .before .before .before .args in
+    let a = c .before .before .before .before .before .before .before .args in
     let the-check-line = c .before .before .before .before .check-line in
     let the-place = c .before .before .place in
     let k = keptOf (a .counts) (a .names .now) in
     let fs = pieces 32 (a .line .now) in (
-      c .refuse .ensures .0 (a .names .now) ∙ step-faulty k fs _ (sym (the-check-line .ensures) ∙ the-place .given .1),
+      c .refuse .ensures .0 (a .names .now) ∙ step-faulty k fs _ (sym (the-check-line .ensures .0) ∙ the-place .given .1),
       c .refuse .ensures .1,
     )
 
 returns-2 : tie.Need-returns-2
 returns-2 c =
-    let a = c .before .before .before .before .before .args in
-    let the-check-line = c .before .before .before .check-line in
+    let a = c .before .before .before .before .before .before .before .args in
+    let the-check-line = c .before .before .before .before .check-line in
     let k = keptOf (a .counts) (a .names .now) in
     let fs = pieces 32 (a .line .now) in (
-      c .good-step .ensures .0 ∙ step-good k fs (sym (the-check-line .ensures) ∙ c .before .enum-told .given .1),
+      c .good-step .ensures .0 ∙ step-good k fs (sym (the-check-line .ensures .0) ∙ c .before .before .enum-told .given .1),
       c .good-step .ensures .1,
     )
 

@@ -19,12 +19,12 @@ returns c =
     let a = c .before .before .before .args in
     let the-pre = c .before .before .before .pre in (
       c .refuse .ensures .0 (a .names .now) ∙ term-full (keptOf (a .counts) (a .names .now))
-          (pieces 32 (a .line .now)) (the-pre .1) (omega (arith, length-names (a .names .now) 32 (a .counts .terms))),
+          (pieces 32 (a .line .now)) (the-pre .1 .0) (omega (arith, length-names (a .names .now) 32 (a .counts .terms))),
       c .refuse .ensures .1,
     )
 
 field-requires : tie.Need-field-requires
-field-requires c κs = search needs
+field-requires c κs = (omega arith, c .before .before .before .pre .1 .1 0 (omega arith))
 
 is-taken-requires : tie.Need-is-taken-requires
 is-taken-requires c κs = search needs
@@ -39,13 +39,13 @@ returns-2 c =
     let the-is-taken = c .before .before .is-taken in
     let the-field = c .before .before .before .field in (
       c .refuse2 .ensures .0 (a .names .now) ∙ term-twice (keptOf (a .counts) (a .names .now))
-          (pieces 32 (a .line .now)) (the-pre .1) (omega (arith, length-names (a .names .now) 32 (a .counts .terms)))
+          (pieces 32 (a .line .now)) (the-pre .1 .0) (omega (arith, length-names (a .names .now) 32 (a .counts .terms)))
           (sym (the-is-taken .ensures ∙ ap (isTaken (namesFrom (a .names .now) 32 (a .counts .terms))) (the-field .ensures)) ∙ c .before .if2 .taken),
       c .refuse2 .ensures .1,
     )
 
 put-term-requires : tie.Need-put-term-requires
-put-term-requires c κs = search needs
+put-term-requires c κs = let a = c .before .before .before .before .before .before .before .args in (c .before .before .before .before .before .before .before .pre .0, (omega arith, (c .before .before .before .before .before .before .before .pre .1 .0, (c .before .before .before .before .before .before .before .pre .1 .1, sym (c .before .before .is-taken .ensures ∙ ap (isTaken (namesFrom (a .names .now) 32 (a .counts .terms))) (c .before .before .before .field .ensures)) ∙ c .before .if2 .left))))
 
 returns-3 : tie.Need-returns-3
 returns-3 c =
@@ -54,7 +54,7 @@ returns-3 c =
     let the-is-taken = c .before .before .before .is-taken in
     let the-field = c .before .before .before .before .field in
     let the-if2 = c .before .before .if2 in (
-      c .put-term .ensures .0 ∙ term-new (keptOf (a .counts) (a .names .now)) (pieces 32 (a .line .now)) (the-pre .1)
+      c .put-term .ensures .0 ∙ term-new (keptOf (a .counts) (a .names .now)) (pieces 32 (a .line .now)) (the-pre .1 .0)
           (omega (arith, length-names (a .names .now) 32 (a .counts .terms)))
           (sym (the-is-taken .ensures ∙ ap (isTaken (namesFrom (a .names .now) 32 (a .counts .terms))) (the-field .ensures)) ∙ the-if2 .left),
       c .put-term .ensures .1,

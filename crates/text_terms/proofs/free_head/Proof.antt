@@ -38,9 +38,6 @@ cast-t10 c =
 enum-told : tie.Need-enum-told
 enum-told c = search needs
 
-add-put-name : tie.Need-add-put-name
-add-put-name c = search needs
-
 put-name-requires : tie.Need-put-name-requires
 put-name-requires c κs = search needs
 
@@ -77,7 +74,6 @@ free-head-spec =
     add-t9
     cast-t10
     enum-told
-    add-put-name
     put-name-requires
     add-t14
     cast-t15

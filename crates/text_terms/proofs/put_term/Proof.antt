@@ -3,27 +3,26 @@ use native.Mathlib.Omega.{arith}
 use Rattle.text_fields.specs.Split.{pieces}
 use Rattle.text_rows.proofs.Fields.{field-named, field-short}
 use Rattle.text_terms.proofs.Laws.{term-stored}
-use borrow.Author.Needs.{needs}
 use Rattle.text_terms.proofs.put_term.Statement.{statement}
 use Rattle.text_terms.proofs.put_term.Tie as tie
 
 sort-column-requires : tie.Need-sort-column-requires
-sort-column-requires c κs = search needs
+sort-column-requires c κs = (omega (arith, c .before .before .pre .0, c .before .before .pre .1 .0), (omega arith, c .before .before .pre .1 .1 .1 .0 2 (omega arith)))
 
 term-column-requires : tie.Need-term-column-requires
-term-column-requires c κs = search needs
+term-column-requires c κs = (omega (arith, c .before .before .before .before .pre .0, c .before .before .before .before .pre .1 .0), (omega arith, c .before .before .before .before .pre .1 .1 .1 .0 3 (omega arith)))
 
 term-column-requires-2 : tie.Need-term-column-requires-2
-term-column-requires-2 c κs = search needs
+term-column-requires-2 c κs = (omega (arith, c .before .before .before .before .before .before .pre .0, c .before .before .before .before .before .before .pre .1 .0), (omega arith, c .before .before .before .before .before .before .pre .1 .1 .1 .0 4 (omega arith)))
 
 term-column-requires-3 : tie.Need-term-column-requires-3
-term-column-requires-3 c κs = search needs
+term-column-requires-3 c κs = (omega (arith, c .before .before .before .before .before .before .before .before .pre .0, c .before .before .before .before .before .before .before .before .pre .1 .0), (omega arith, c .before .before .before .before .before .before .before .before .pre .1 .1 .1 .0 5 (omega arith)))
 
 term-column-requires-4 : tie.Need-term-column-requires-4
-term-column-requires-4 c κs = search needs
+term-column-requires-4 c κs = (omega (arith, c .before .before .before .before .before .before .before .before .before .before .pre .0, c .before .before .before .before .before .before .before .before .before .before .pre .1 .0), (omega arith, c .before .before .before .before .before .before .before .before .before .before .pre .1 .1 .1 .0 6 (omega arith)))
 
 field-requires : tie.Need-field-requires
-field-requires c κs = search needs
+field-requires c κs = (omega arith, c .before .before .before .before .before .before .before .before .before .before .before .before .pre .1 .1 .1 .0 1 (omega arith))
 
 head-of-requires : tie.Need-head-of-requires
 head-of-requires c κs =
@@ -31,24 +30,19 @@ head-of-requires c κs =
     let the-pre = c .before .before .before .before .before .before .before .before .before .before .before .before .before .pre in (
       omega (arith, the-pre .0, the-pre .1 .0),
       (
-        rw (c .field .ensures) (field-named 7 (pieces 32 (a .line .now)) 1 (the-pre .1 .1) (omega arith)),
-        rw (c .field .ensures) (field-short 7 (pieces 32 (a .line .now)) 1 (the-pre .1 .1) (omega arith)),
+        rw (c .field .ensures) (field-named 7 (pieces 32 (a .line .now)) 1 (the-pre .1 .1 .0) (omega arith)),
+        rw (c .field .ensures) (field-short 7 (pieces 32 (a .line .now)) 1 (the-pre .1 .1 .0) (omega arith)),
       ),
     )
 
-add-put-name : tie.Need-add-put-name
-add-put-name c = search needs
-
 field-requires-2 : tie.Need-field-requires-2
-field-requires-2 c κs = search needs
+field-requires-2 c κs = (omega arith, c .before .before .before .before .before .before .before .before .before .before .before .before .before .before .before .pre .1 .1 .1 .0 0 (omega arith))
 
 put-name-requires : tie.Need-put-name-requires
-put-name-requires c κs =
-    let the-pre = c .before .before .before .before .before .before .before .before .before .before .before .before .before .before .before .before .pre in
-    omega (arith, the-pre .1 .0)
+put-name-requires c κs = (omega arith, (omega arith, (c .before .before .before .before .before .before .before .before .before .before .before .before .before .before .before .before .pre .1 .0, rw (c .field2 .ensures) (field-short 7 (pieces 32 (c .before .before .before .before .before .before .before .before .before .before .before .before .before .before .before .before .args .line .now)) 0 (c .before .before .before .before .before .before .before .before .before .before .before .before .before .before .before .before .pre .1 .1 .0) (omega arith)))))
 
-add-t21 : tie.Need-add-t21
-add-t21 c =
+add-t23 : tie.Need-add-t23
+add-t23 c =
     let the-pre = c .before .before .before .before .before .before .before .before .before .before .before .before .before .before .before .before .before .pre in
     omega (arith, the-pre .1 .0)
 
@@ -65,7 +59,7 @@ returns c =
     let the-term-column4 = c .before .before .before .before .before .before .term-column4 in
     let h = the-head-of .ensures in (
       term-stored (a .counts) (a .names .now) _ (the-pre .0) (the-pre .1 .0) (pieces 32 (a .line .now))
-          (the-pre .1 .1) (c .before .field2 .ensures) (the-head-of .result) _ (omega arith)
+          (the-pre .1 .1 .0) (c .before .field2 .ensures) (the-pre .1 .1 .1 .1) (the-head-of .result) _ (omega (arith, c .before .before .put-name-arg .given))
           (rw (the-field .ensures) at h) _ (c .put-name .ensures) (the-sort-column .result) (the-term-column .result)
           (the-term-column2 .result) (the-term-column3 .result) (the-term-column4 .result) (the-sort-column .ensures)
           (the-term-column .ensures) (the-term-column2 .ensures) (the-term-column3 .ensures)
@@ -84,8 +78,7 @@ put-term-spec =
     term-column-requires-4
     field-requires
     head-of-requires
-    add-put-name
     field-requires-2
     put-name-requires
-    add-t21
+    add-t23
     returns)

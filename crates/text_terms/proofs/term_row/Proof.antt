@@ -20,18 +20,15 @@ enum-told : tie.Need-enum-told
 enum-told c = search needs
 
 add-term-requires : tie.Need-add-term-requires
-add-term-requires c κs =
-    let the-pre = c .before .before .before .before .before .pre in
-    let the-check-line = c .before .before .before .check-line in
-    (the-pre, sym (the-check-line .ensures) ∙ c .before .enum-told .given .1)
+add-term-requires c κs = (c .before .before .before .before .before .before .before .pre, (sym (c .before .before .before .before .check-line .ensures .0) ∙ c .before .before .enum-told .given .1, c .before .before .before .before .check-line .ensures .1 (c .before .before .enum-told .given .1)))
 
 returns : tie.Need-returns
 returns c =
-    let a = c .before .before .before .before .before .before .args in
+    let a = c .before .before .before .before .before .before .before .args in
     let the-check-line = c .before .before .before .before .check-line in
     let the-place = c .before .before .place in (
       c .refuse .ensures .0 (a .names .now) ∙ term-faulty (keptOf (a .counts) (a .names .now))
-          (pieces 32 (a .line .now)) _ (sym (the-check-line .ensures) ∙ the-place .given .1),
+          (pieces 32 (a .line .now)) _ (sym (the-check-line .ensures .0) ∙ the-place .given .1),
       c .refuse .ensures .1,
     )
 
