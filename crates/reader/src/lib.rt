@@ -452,8 +452,8 @@ fn feed_part(
     if n == rest.len() {
         return feed_bytes(f, rest, line, names, sorts, terms, inputs, steps);
     }
-    let at = f.pos.at;
-    if at != 0 {
+    let held = f.pos.at;
+    if held != 0 {
         let end = n + 1;
         return feed_bytes(f, &rest[..end], line, names, sorts, terms, inputs, steps);
     }

@@ -39,19 +39,19 @@ pub enum Shape {
 fn byte_class(b: u8) -> ByteClass
     ensures { λ r. ⌜ r ≡ classOf b ⌝ }
 {
+    if b > 32 {
+        if b < 127 {
+            return ByteClass::Name;
+        }
+        return ByteClass::Other;
+    }
     if b == 32 {
         return ByteClass::Space;
     }
     if b == 10 {
         return ByteClass::Newline;
     }
-    if b < 33 {
-        return ByteClass::Other;
-    }
-    if b > 126 {
-        return ByteClass::Other;
-    }
-    ByteClass::Name
+    ByteClass::Other
 }
 
 // How many bytes stand before the first `c`.

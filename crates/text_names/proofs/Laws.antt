@@ -15,7 +15,7 @@ use Rattle.text_names.specs.Table.{tagFrom, tagOf, lengthAt, held, lastP
 
 -- the tag, byte after byte
 module _ (h : ℕ) (l : List ℕ) (i : ℕ) where
-  pub tag-more : i < length l → tagFrom h (drop i l) ≡ tagFrom ((h * 31 + getD l i 0) % 256) (drop (i + 1) l)
+  pub tag-more : i < length l → tagFrom h (drop i l) ≡ tagFrom ((h * 9 + getD l i 0) % 256) (drop (i + 1) l)
   tag-more k = rw (drop-cons l i 0, add-one)
 
   pub tag-end : length l ≤ i → tagFrom h (drop i l) ≡ h
@@ -53,7 +53,7 @@ unfolding tagOf
 tag-small name = go 0 name (omega arith) where
   go : (h : ℕ) (l : List ℕ) → h < 256 → tagFrom h l < 256
   go h [] k = k
-  go h (b ∷ bs) k = go ((h * 31 + b) % 256) bs (omega arith)
+  go h (b ∷ bs) k = go ((h * 9 + b) % 256) bs (omega arith)
 
 pub length-padTo : (n : ℕ) (l : List ℕ) → length (padTo n l) ≡ n
 length-padTo zero l = refl

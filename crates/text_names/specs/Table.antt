@@ -13,7 +13,7 @@ use Rattle.text_fields.specs.declared.Found.the-variants.{At, Nothing}
 -- the tag of a name whose first bytes have the tag h
 abbrev pub tagFrom : ℕ → List ℕ → ℕ
 tagFrom h [] = h
-tagFrom h (b ∷ bs) = tagFrom ((h * 31 + b) % 256) bs
+tagFrom h (b ∷ bs) = tagFrom ((h * 9 + b) % 256) bs
 
 unfoldable pub tagOf : List ℕ → ℕ
 tagOf name = tagFrom 0 name

@@ -15,7 +15,7 @@ fn tag_of(name: &[u8]) -> u8
     let mut i = 0;
     while i < name.len() {
         let b = name[i] as u32;
-        h = (h * 31 + b) % 256;
+        h = (h * 9 + b) % 256;
         i += 1;
     }
     h as u8

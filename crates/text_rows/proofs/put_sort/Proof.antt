@@ -8,13 +8,13 @@ use Rattle.text_rows.proofs.put_sort.Statement.{statement}
 use Rattle.text_rows.proofs.put_sort.Tie as tie
 
 sort-column-requires : tie.Need-sort-column-requires
-sort-column-requires c κs = (omega arith, (omega arith, c .before .before .pre .1 .1 .1 .0 1 (omega arith)))
+sort-column-requires c κs = (omega arith, (omega arith, c .before .before .pre .1 .1 .1 .0 _ (omega arith)))
 
 sort-column-requires-2 : tie.Need-sort-column-requires-2
-sort-column-requires-2 c κs = (omega arith, (omega arith, c .before .before .before .before .pre .1 .1 .1 .0 2 (omega arith)))
+sort-column-requires-2 c κs = (omega arith, (omega arith, c .before .before .before .before .pre .1 .1 .1 .0 _ (omega arith)))
 
 field-requires : tie.Need-field-requires
-field-requires c κs = (omega arith, c .before .before .before .before .before .before .pre .1 .1 .1 .0 0 (omega arith))
+field-requires c κs = (omega arith, c .before .before .before .before .before .before .pre .1 .1 .1 .0 _ (omega arith))
 
 put-name-requires : tie.Need-put-name-requires
 put-name-requires c κs = (omega arith, (omega arith, (omega (arith, c .before .before .before .before .before .before .before .pre .1 .0), rw (c .field .ensures) (field-short 3 (pieces 32 (c .before .before .before .before .before .before .before .args .line .now)) 0 (c .before .before .before .before .before .before .before .pre .1 .1 .0) (omega arith)))))

@@ -23,10 +23,10 @@ returns c =
     )
 
 term-column-requires : tie.Need-term-column-requires
-term-column-requires c κs = (omega (arith, c .before .before .before .pre .0), (omega arith, c .before .before .before .pre .1 0 (omega arith)))
+term-column-requires c κs = (omega (arith, c .before .before .before .pre .0), (omega arith, c .before .before .before .pre .1 _ (omega arith)))
 
 value-column-requires : tie.Need-value-column-requires
-value-column-requires c κs = (omega arith, c .before .before .before .before .pre .1 1 (omega arith))
+value-column-requires c κs = (omega arith, c .before .before .before .before .pre .1 _ (omega arith))
 
 add-t8 : tie.Need-add-t8
 add-t8 c = search needs

@@ -10,37 +10,37 @@ use Rattle.text_steps.proofs.step_cells.Statement.{statement}
 use Rattle.text_steps.proofs.step_cells.Tie as tie
 
 field-requires : tie.Need-field-requires
-field-requires c κs = (omega arith, c .before .pre .1 0 (omega arith))
+field-requires c κs = (omega arith, c .before .pre .1 _ (omega arith))
 
 step-number-requires : tie.Need-step-number-requires
 step-number-requires c κs = search needs
 
 field-requires-2 : tie.Need-field-requires-2
-field-requires-2 c κs = (omega arith, c .before .before .before .pre .1 1 (omega arith))
+field-requires-2 c κs = (omega arith, c .before .before .before .pre .1 _ (omega arith))
 
 rule-number-requires : tie.Need-rule-number-requires
 rule-number-requires c κs = search needs
 
 term-column-requires : tie.Need-term-column-requires
-term-column-requires c κs = (c .before .before .before .before .before .pre .0, (omega arith, c .before .before .before .before .before .pre .1 2 (omega arith)))
+term-column-requires c κs = (c .before .before .before .before .before .pre .0, (omega arith, c .before .before .before .before .before .pre .1 _ (omega arith)))
 
 value-column-requires : tie.Need-value-column-requires
-value-column-requires c κs = (omega arith, c .before .before .before .before .before .before .pre .1 3 (omega arith))
+value-column-requires c κs = (omega arith, c .before .before .before .before .before .before .pre .1 _ (omega arith))
 
 term-column-requires-2 : tie.Need-term-column-requires-2
-term-column-requires-2 c κs = (c .before .before .before .before .before .before .before .pre .0, (omega arith, c .before .before .before .before .before .before .before .pre .1 4 (omega arith)))
+term-column-requires-2 c κs = (c .before .before .before .before .before .before .before .pre .0, (omega arith, c .before .before .before .before .before .before .before .pre .1 _ (omega arith)))
 
 term-column-requires-3 : tie.Need-term-column-requires-3
-term-column-requires-3 c κs = (c .before .before .before .before .before .before .before .before .pre .0, (omega arith, c .before .before .before .before .before .before .before .before .pre .1 5 (omega arith)))
+term-column-requires-3 c κs = (c .before .before .before .before .before .before .before .before .pre .0, (omega arith, c .before .before .before .before .before .before .before .before .pre .1 _ (omega arith)))
 
 term-column-requires-4 : tie.Need-term-column-requires-4
-term-column-requires-4 c κs = (c .before .before .before .before .before .before .before .before .before .pre .0, (omega arith, c .before .before .before .before .before .before .before .before .before .pre .1 6 (omega arith)))
+term-column-requires-4 c κs = (c .before .before .before .before .before .before .before .before .before .pre .0, (omega arith, c .before .before .before .before .before .before .before .before .before .pre .1 _ (omega arith)))
 
 term-column-requires-5 : tie.Need-term-column-requires-5
-term-column-requires-5 c κs = (c .before .before .before .before .before .before .before .before .before .before .pre .0, (omega arith, c .before .before .before .before .before .before .before .before .before .before .pre .1 7 (omega arith)))
+term-column-requires-5 c κs = (c .before .before .before .before .before .before .before .before .before .before .pre .0, (omega arith, c .before .before .before .before .before .before .before .before .before .before .pre .1 _ (omega arith)))
 
 term-column-requires-6 : tie.Need-term-column-requires-6
-term-column-requires-6 c κs = (c .before .before .before .before .before .before .before .before .before .before .before .pre .0, (omega arith, c .before .before .before .before .before .before .before .before .before .before .before .pre .1 8 (omega arith)))
+term-column-requires-6 c κs = (c .before .before .before .before .before .before .before .before .before .before .before .pre .0, (omega arith, c .before .before .before .before .before .before .before .before .before .before .before .pre .1 _ (omega arith)))
 
 returns : tie.Need-returns
 returns c =

@@ -24,7 +24,7 @@ returns c =
     )
 
 field-requires : tie.Need-field-requires
-field-requires c κs = (omega arith, c .before .before .before .pre .1 .1 0 (omega arith))
+field-requires c κs = (omega arith, c .before .before .before .pre .1 .1 _ (omega arith))
 
 is-taken-requires : tie.Need-is-taken-requires
 is-taken-requires c κs = search needs

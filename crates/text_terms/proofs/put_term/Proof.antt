@@ -7,22 +7,22 @@ use Rattle.text_terms.proofs.put_term.Statement.{statement}
 use Rattle.text_terms.proofs.put_term.Tie as tie
 
 sort-column-requires : tie.Need-sort-column-requires
-sort-column-requires c κs = (omega (arith, c .before .before .pre .0, c .before .before .pre .1 .0), (omega arith, c .before .before .pre .1 .1 .1 .0 2 (omega arith)))
+sort-column-requires c κs = (omega (arith, c .before .before .pre .0, c .before .before .pre .1 .0), (omega arith, c .before .before .pre .1 .1 .1 .0 _ (omega arith)))
 
 term-column-requires : tie.Need-term-column-requires
-term-column-requires c κs = (omega (arith, c .before .before .before .before .pre .0, c .before .before .before .before .pre .1 .0), (omega arith, c .before .before .before .before .pre .1 .1 .1 .0 3 (omega arith)))
+term-column-requires c κs = (omega (arith, c .before .before .before .before .pre .0, c .before .before .before .before .pre .1 .0), (omega arith, c .before .before .before .before .pre .1 .1 .1 .0 _ (omega arith)))
 
 term-column-requires-2 : tie.Need-term-column-requires-2
-term-column-requires-2 c κs = (omega (arith, c .before .before .before .before .before .before .pre .0, c .before .before .before .before .before .before .pre .1 .0), (omega arith, c .before .before .before .before .before .before .pre .1 .1 .1 .0 4 (omega arith)))
+term-column-requires-2 c κs = (omega (arith, c .before .before .before .before .before .before .pre .0, c .before .before .before .before .before .before .pre .1 .0), (omega arith, c .before .before .before .before .before .before .pre .1 .1 .1 .0 _ (omega arith)))
 
 term-column-requires-3 : tie.Need-term-column-requires-3
-term-column-requires-3 c κs = (omega (arith, c .before .before .before .before .before .before .before .before .pre .0, c .before .before .before .before .before .before .before .before .pre .1 .0), (omega arith, c .before .before .before .before .before .before .before .before .pre .1 .1 .1 .0 5 (omega arith)))
+term-column-requires-3 c κs = (omega (arith, c .before .before .before .before .before .before .before .before .pre .0, c .before .before .before .before .before .before .before .before .pre .1 .0), (omega arith, c .before .before .before .before .before .before .before .before .pre .1 .1 .1 .0 _ (omega arith)))
 
 term-column-requires-4 : tie.Need-term-column-requires-4
-term-column-requires-4 c κs = (omega (arith, c .before .before .before .before .before .before .before .before .before .before .pre .0, c .before .before .before .before .before .before .before .before .before .before .pre .1 .0), (omega arith, c .before .before .before .before .before .before .before .before .before .before .pre .1 .1 .1 .0 6 (omega arith)))
+term-column-requires-4 c κs = (omega (arith, c .before .before .before .before .before .before .before .before .before .before .pre .0, c .before .before .before .before .before .before .before .before .before .before .pre .1 .0), (omega arith, c .before .before .before .before .before .before .before .before .before .before .pre .1 .1 .1 .0 _ (omega arith)))
 
 field-requires : tie.Need-field-requires
-field-requires c κs = (omega arith, c .before .before .before .before .before .before .before .before .before .before .before .before .pre .1 .1 .1 .0 1 (omega arith))
+field-requires c κs = (omega arith, c .before .before .before .before .before .before .before .before .before .before .before .before .pre .1 .1 .1 .0 _ (omega arith))
 
 head-of-requires : tie.Need-head-of-requires
 head-of-requires c κs =
@@ -36,7 +36,7 @@ head-of-requires c κs =
     )
 
 field-requires-2 : tie.Need-field-requires-2
-field-requires-2 c κs = (omega arith, c .before .before .before .before .before .before .before .before .before .before .before .before .before .before .before .pre .1 .1 .1 .0 0 (omega arith))
+field-requires-2 c κs = (omega arith, c .before .before .before .before .before .before .before .before .before .before .before .before .before .before .before .pre .1 .1 .1 .0 _ (omega arith))
 
 put-name-requires : tie.Need-put-name-requires
 put-name-requires c κs = (omega arith, (omega arith, (c .before .before .before .before .before .before .before .before .before .before .before .before .before .before .before .before .pre .1 .0, rw (c .field2 .ensures) (field-short 7 (pieces 32 (c .before .before .before .before .before .before .before .before .before .before .before .before .before .before .before .before .args .line .now)) 0 (c .before .before .before .before .before .before .before .before .before .before .before .before .before .before .before .before .pre .1 .1 .0) (omega arith)))))
