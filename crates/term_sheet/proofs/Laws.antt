@@ -306,13 +306,13 @@ pub like : (ts : List ℕ) (t u k : ℕ) → k ≡ 5 → below k (agree ts t u) 
 unfolding twins
 like ts t u k h e = ap not (turned (agree ts t u 0) (agree ts t u 1) (agree ts t u 2) (agree ts t u 3) (agree ts t u 4) (rw h at e))
   where
-    turned : (d c b a h : Bool) → (((((true && d) && c) && b) && a) && h) ≡ true → ((((((true && (false || h)) && true) && a) && b) && c) && d) ≡ true
+    turned : (a b c d h : Bool) → (((((true && a) && b) && c) && d) && h) ≡ true → ((((((true && (false || h)) && true) && a) && b) && c) && d) ≡ true
     turned true true true true true e = refl
     turned true true true true false e = absurd (true≢false (sym e))
     turned true true true false h e = absurd (true≢false (sym e))
-    turned true true false a h e = absurd (true≢false (sym e))
-    turned true false b a h e = absurd (true≢false (sym e))
-    turned false c b a h e = absurd (true≢false (sym e))
+    turned true true false d h e = absurd (true≢false (sym e))
+    turned true false c d h e = absurd (true≢false (sym e))
+    turned false b c d h e = absurd (true≢false (sym e))
 
 -- rows of another mix are unlike row t
 other-mix : (ts : List ℕ) (t u : ℕ) → (mix ts u ≡ mix ts t → ⊥) → unlike ts t u ≡ true

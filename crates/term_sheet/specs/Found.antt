@@ -21,9 +21,9 @@ pub record FirstRepeat (ts : List ℕ) (n r : ℕ) : Type 0 where
   pub before : below r (fresh ts) ≡ true
   pub found : r < n → fresh ts r ≡ false
 
--- the columns that two rows are compared by, in the order of the search: the arguments from the last, then the head
+-- the columns that two rows are compared by, in the order of the search: the arguments, then the head
 abbrev pub column : ℕ → ℕ
-column k = cond (eqb k 4) 0 (5 - k)
+column k = cond (eqb k 4) 0 (k + 2)
 
 -- rows t and u agree in the k-th of these
 abbrev pub agree : List ℕ → ℕ → ℕ → ℕ → Bool

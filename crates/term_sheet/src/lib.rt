@@ -254,12 +254,12 @@ fn in_place(e: Term, t: Row) -> bool
 
 // ---- the first row that repeats an earlier one
 
-// The k-th column that rows are compared by: the arguments from the last, then the head.
+// The k-th column that rows are compared by: the arguments, then the head.
 fn column_of(k: usize) -> usize
     requires { ⌜ k < 5 ⌝ }
     ensures { λ r. ⌜ r ≡ column k ⌝ }
 {
-    if k == 4 { 0 } else { 5 - k }
+    if k == 4 { 0 } else { k + 2 }
 }
 
 // Whether rows t and u differ in the k-th of these columns.

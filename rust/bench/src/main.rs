@@ -216,6 +216,7 @@ fn all(bench: &Bench) -> Result<(), String> {
     bench.run("cut-heavy log", &work::cut_heavy(), true)?;
     bench.run("terms, distinct heads", &work::distinct_heads(), false)?;
     bench.run("terms, one head", &work::one_head(), false)?;
+    bench.run("terms, mixed heads", &work::mixed_heads(), false)?;
     bench.read("text reader")
 }
 

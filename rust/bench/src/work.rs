@@ -240,6 +240,14 @@ pub fn cut_heavy() -> Sheets {
     s
 }
 
+/// The sheets of the deduce-heavy log, without its steps.
+pub fn mixed_heads() -> Sheets {
+    let mut sheets = deduce_heavy();
+    sheets.about = "the term and input sheets of the deduce-heavy log".into();
+    sheets.steps.clear();
+    sheets
+}
+
 /// 256 constants, each of a head of its own.
 pub fn distinct_heads() -> Sheets {
     let mut s = Sheets::new();

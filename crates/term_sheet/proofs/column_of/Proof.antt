@@ -4,8 +4,8 @@ use borrow.Author.Needs.{needs}
 use Rattle.term_sheet.proofs.column_of.Statement.{statement}
 use Rattle.term_sheet.proofs.column_of.Tie as tie
 
-sub-result : tie.Need-sub-result
-sub-result c = search needs
+add-result : tie.Need-add-result
+add-result c = search needs
 
 returns : tie.Need-returns
 returns c = rw (eq-eqb _ _ (c .if1 .taken))
@@ -14,4 +14,4 @@ returns-2 : tie.Need-returns-2
 returns-2 c = rw (ne-eqb _ _ (c .if1 .left))
 
 pub column-of-spec : {M : Type 1} → statement M
-column-of-spec = tie.close (tie.spec sub-result returns returns-2)
+column-of-spec = tie.close (tie.spec add-result returns returns-2)
