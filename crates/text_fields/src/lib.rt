@@ -1,13 +1,12 @@
-// Fields of a line: what the bytes of a line, a field, a value and a word say. Every function answers for any bytes.
+// Fields of a line: what the bytes of a line, a field and a value say. Every function answers for any bytes.
 ghost use mathlib.Core.Path.{_≡_};
 ghost use mathlib.Core.Bool.{true};
 ghost use mathlib.Core.List.{[]};
 ghost use Prim.Native.Nat.{_≤_, _<_};
-ghost use lib.ListN.{length, drop, getD};
+ghost use lib.ListN.{length, getD};
 ghost use Rattle.text_fields.specs.Split.{before, pieces, same as sameBytes};
 ghost use Rattle.text_fields.specs.Class.{classOf, isSpace, isName, isNewline, nameEnd};
 ghost use Rattle.text_fields.specs.Number.{digits, decimal, number as numberOf, value as valueOf, isNumber};
-ghost use Rattle.text_fields.specs.Words.{stepWords, ruleWords, headWords, indexFrom, indexOr, refOf};
 ghost use Rattle.text_fields.specs.Shape.{wellFormed, firstMalformed, fieldsAre, shapeOf};
 ghost use Rattle.text_fields.specs.Marks.{FieldAt, Marked};
 
@@ -292,116 +291,4 @@ pub fn check_line(line: &[u8], columns: usize, column: usize, marks: &mut [usize
         return Shape::Good;
     }
     Shape::Faulty(place)
-}
-
-// Where a head's word stands among the heads that are not free.
-pub fn find_head(f: &[u8]) -> Found
-    ensures { λ r. ⌜ r ≡ indexFrom 0 headWords (now (f .entry)) ⌝ }
-{
-    if same(b"eq", f) {
-        return Found::At(0);
-    }
-    if same(b"not", f) {
-        return Found::At(1);
-    }
-    if same(b"and", f) {
-        return Found::At(2);
-    }
-    if same(b"or", f) {
-        return Found::At(3);
-    }
-    if same(b"select", f) {
-        return Found::At(4);
-    }
-    if same(b"store", f) {
-        return Found::At(5);
-    }
-    Found::Nothing
-}
-
-// The number of a step's word.
-pub fn step_number(f: &[u8]) -> u16
-    ensures { λ r. ⌜ r ≡ refOf stepWords (now (f .entry)) ⌝ }
-{
-    if same(f, b"-") {
-        return 65535;
-    }
-    if same(b"decide", f) {
-        return 0;
-    }
-    if same(b"deduce", f) {
-        return 1;
-    }
-    if same(b"clash", f) {
-        return 2;
-    }
-    if same(b"resolve", f) {
-        return 3;
-    }
-    if same(b"clear", f) {
-        return 4;
-    }
-    if same(b"jump", f) {
-        return 5;
-    }
-    if same(b"flip", f) {
-        return 6;
-    }
-    65534
-}
-
-// The number of a rule's word, of the words from `unit` on.
-fn late_rule(f: &[u8]) -> u16
-    ensures { λ r. ⌜ r ≡ indexOr (indexFrom 7 (drop 7 ruleWords) (now (f .entry))) ⌝ }
-{
-    if same(b"unit", f) {
-        return 7;
-    }
-    if same(b"eval", f) {
-        return 8;
-    }
-    if same(b"cong", f) {
-        return 9;
-    }
-    if same(b"pred", f) {
-        return 10;
-    }
-    if same(b"read", f) {
-        return 11;
-    }
-    if same(b"skip", f) {
-        return 12;
-    }
-    65534
-}
-
-// The number of a rule's word.
-pub fn rule_number(f: &[u8]) -> u16
-    ensures { λ r. ⌜ r ≡ refOf ruleWords (now (f .entry)) ⌝ }
-{
-    if same(f, b"-") {
-        return 65535;
-    }
-    if same(b"same", f) {
-        return 0;
-    }
-    if same(b"differ", f) {
-        return 1;
-    }
-    if same(b"refl", f) {
-        return 2;
-    }
-    if same(b"sym", f) {
-        return 3;
-    }
-    if same(b"trans", f) {
-        return 4;
-    }
-    if same(b"neg", f) {
-        return 5;
-    }
-    if same(b"part", f) {
-        return 6;
-    }
-    late_rule(f)
 }

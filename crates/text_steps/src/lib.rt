@@ -75,8 +75,8 @@ fn step_cells(counts: Counts, line: &[u8], marks: &[usize; 18], names: &[u8; 390
 {
     let terms = counts.terms;
     [
-        text_fields::step_number(text_fields::field(line, marks, 0)),
-        text_fields::rule_number(text_fields::field(line, marks, 1)),
+        text_words::step_number(text_fields::field(line, marks, 0)),
+        text_words::rule_number(text_fields::field(line, marks, 1)),
         text_rows::term_column(names, terms, line, marks, 2),
         value_column(line, marks, 3),
         text_rows::term_column(names, terms, line, marks, 4),

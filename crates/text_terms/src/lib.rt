@@ -62,7 +62,7 @@ fn head_of(names: &mut [u8; 39008], heads: usize, f: &[u8]) -> HeadNumber
             heads,
         };
     }
-    match text_fields::find_head(f) {
+    match text_words::find_head(f) {
         Found::At(k) => HeadNumber {
             number: k as u16,
             heads,

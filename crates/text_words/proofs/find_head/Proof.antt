@@ -1,11 +1,11 @@
 -- The first head word that is the field's.
 use mathlib.Core.Path.{sym, _∙_}
 use Rattle.text_fields.proofs.Lines.{index-hit, index-missed}
 use native.Mathlib.Omega.{arith}
 use Rattle.text_fields.specs.Words.{headWords}
 use borrow.Author.Needs.{needs}
-use Rattle.text_fields.proofs.find_head.Statement.{statement}
-use Rattle.text_fields.proofs.find_head.Tie as tie
+use Rattle.text_words.proofs.find_head.Statement.{statement}
+use Rattle.text_words.proofs.find_head.Tie as tie
 
 slice-aggregate-same : tie.Need-slice-aggregate-same
 slice-aggregate-same c = search needs

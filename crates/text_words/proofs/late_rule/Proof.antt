@@ -1,12 +1,12 @@
 -- The first of the later rule words that is the field's.
 use mathlib.Core.Path.{sym, ap, _∙_}
 use Rattle.text_fields.specs.Words.{ruleWords, indexOr}
 use Rattle.text_fields.proofs.Lines.{index-hit, index-missed}
 use native.Mathlib.Omega.{arith}
 use lib.ListN.{drop}
 use borrow.Author.Needs.{needs}
-use Rattle.text_fields.proofs.late_rule.Statement.{statement}
-use Rattle.text_fields.proofs.late_rule.Tie as tie
+use Rattle.text_words.proofs.late_rule.Statement.{statement}
+use Rattle.text_words.proofs.late_rule.Tie as tie
 
 slice-aggregate-same : tie.Need-slice-aggregate-same
 slice-aggregate-same c = search needs

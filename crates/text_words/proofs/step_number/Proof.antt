@@ -1,11 +1,11 @@
 -- The first step word that is the field's.
 use mathlib.Core.Path.{sym, _∙_}
 use Rattle.text_fields.specs.Words.{stepWords}
 use native.Mathlib.Omega.{arith}
 use Rattle.text_fields.proofs.Lines.{index-hit, index-missed, ref-blank, ref-none, ref-at}
 use borrow.Author.Needs.{needs}
-use Rattle.text_fields.proofs.step_number.Statement.{statement}
-use Rattle.text_fields.proofs.step_number.Tie as tie
+use Rattle.text_words.proofs.step_number.Statement.{statement}
+use Rattle.text_words.proofs.step_number.Tie as tie
 
 slice-aggregate-same : tie.Need-slice-aggregate-same
 slice-aggregate-same c = search needs

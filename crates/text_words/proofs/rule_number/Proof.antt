@@ -1,11 +1,11 @@
 -- The first rule word that is the field's.
 use mathlib.Core.Path.{sym, ap, _∙_}
 use Rattle.text_fields.specs.Words.{ruleWords, indexOr}
 use native.Mathlib.Omega.{arith}
 use Rattle.text_fields.proofs.Lines.{index-hit, index-after, ref-blank, ref-found, ref-at}
 use borrow.Author.Needs.{needs}
-use Rattle.text_fields.proofs.rule_number.Statement.{statement}
-use Rattle.text_fields.proofs.rule_number.Tie as tie
+use Rattle.text_words.proofs.rule_number.Statement.{statement}
+use Rattle.text_words.proofs.rule_number.Tie as tie
 
 slice-aggregate-same : tie.Need-slice-aggregate-same
 slice-aggregate-same c = search needs

@@ -1,0 +1,117 @@
+// The words of the text form: heads, steps, rules. A field is compared with one word after the other.
+ghost use mathlib.Core.Path.{_≡_};
+ghost use lib.ListN.{drop};
+ghost use Rattle.text_fields.specs.Words.{stepWords, ruleWords, headWords, indexFrom, indexOr, refOf};
+use text_fields::Found;
+
+// Where a head's word stands among the heads that are not free.
+pub fn find_head(f: &[u8]) -> Found
+    ensures { λ r. ⌜ r ≡ indexFrom 0 headWords (now (f .entry)) ⌝ }
+{
+    if text_fields::same(b"eq", f) {
+        return Found::At(0);
+    }
+    if text_fields::same(b"not", f) {
+        return Found::At(1);
+    }
+    if text_fields::same(b"and", f) {
+        return Found::At(2);
+    }
+    if text_fields::same(b"or", f) {
+        return Found::At(3);
+    }
+    if text_fields::same(b"select", f) {
+        return Found::At(4);
+    }
+    if text_fields::same(b"store", f) {
+        return Found::At(5);
+    }
+    Found::Nothing
+}
+
+// The number of a step's word.
+pub fn step_number(f: &[u8]) -> u16
+    ensures { λ r. ⌜ r ≡ refOf stepWords (now (f .entry)) ⌝ }
+{
+    if text_fields::same(f, b"-") {
+        return 65535;
+    }
+    if text_fields::same(b"decide", f) {
+        return 0;
+    }
+    if text_fields::same(b"deduce", f) {
+        return 1;
+    }
+    if text_fields::same(b"clash", f) {
+        return 2;
+    }
+    if text_fields::same(b"resolve", f) {
+        return 3;
+    }
+    if text_fields::same(b"clear", f) {
+        return 4;
+    }
+    if text_fields::same(b"jump", f) {
+        return 5;
+    }
+    if text_fields::same(b"flip", f) {
+        return 6;
+    }
+    65534
+}
+
+// The number of a rule's word, of the words from `unit` on.
+fn late_rule(f: &[u8]) -> u16
+    ensures { λ r. ⌜ r ≡ indexOr (indexFrom 7 (drop 7 ruleWords) (now (f .entry))) ⌝ }
+{
+    if text_fields::same(b"unit", f) {
+        return 7;
+    }
+    if text_fields::same(b"eval", f) {
+        return 8;
+    }
+    if text_fields::same(b"cong", f) {
+        return 9;
+    }
+    if text_fields::same(b"pred", f) {
+        return 10;
+    }
+    if text_fields::same(b"read", f) {
+        return 11;
+    }
+    if text_fields::same(b"skip", f) {
+        return 12;
+    }
+    65534
+}
+
+// The number of a rule's word.
+pub fn rule_number(f: &[u8]) -> u16
+    ensures { λ r. ⌜ r ≡ refOf ruleWords (now (f .entry)) ⌝ }
+{
+    if text_fields::same(f, b"-") {
+        return 65535;
+    }
+    if text_fields::same(b"same", f) {
+        return 0;
+    }
+    if text_fields::same(b"differ", f) {
+        return 1;
+    }
+    if text_fields::same(b"refl", f) {
+        return 2;
+    }
+    if text_fields::same(b"sym", f) {
+        return 3;
+    }
+    if text_fields::same(b"trans", f) {
+        return 4;
+    }
+    if text_fields::same(b"neg", f) {
+        return 5;
+    }
+    if text_fields::same(b"part", f) {
+        return 6;
+    }
+    late_rule(f)
+}
