@@ -30,7 +30,7 @@ use Rattle.trail.proofs.Laws.{trail-length}
 use Rattle.state.specs.declared.Status.{Status}
 use Rattle.state.specs.States.{Standing}
 use Rattle.state.proofs.States.{trail-reached}
-use Rattle.search_steps.specs.Claims.{Claims, LevelOf}
+use Rattle.search_steps.specs.Claims.{Claims, PremisesLevel}
 
 -- ---- premises
 
@@ -40,11 +40,11 @@ all-blank tr p xs e = rw e
 pub all-more : (tr : Trail) (p : ℕ) (xs : List ℕ) → eqb p blank ≡ false → all (on tr) (filled (p ∷ xs)) ≡ (on tr p && all (on tr) (filled xs))
 all-more tr p xs e = rw e
 
-pub level-blank : (tr : Trail) (p : ℕ) (xs : List ℕ) → eqb p blank ≡ true → LevelOf tr (p ∷ xs) 0
+pub level-blank : (tr : Trail) (p : ℕ) (xs : List ℕ) → eqb p blank ≡ true → PremisesLevel tr (p ∷ xs) 0
 level-blank tr p xs e = λ h. rw e (sym (level-empty tr))
 
 pub level-filled : (tr : Trail) (p l m : ℕ) (xs : List ℕ) → Distinct tr → eqb p blank ≡ false → (on tr p ≡ true → l ≡ levelAt tr p)
-    → LevelOf tr xs m → LevelOf tr (p ∷ xs) (max l m)
+    → PremisesLevel tr xs m → PremisesLevel tr (p ∷ xs) (max l m)
 level-filled tr p l m xs d e a b = λ h.
     let k = both-true _ _ (sym (all-more tr p xs e) ∙ h) in
     rw (e, a (k .0), b (k .1)) (sym (level-more tr (has (filled xs)) p d))

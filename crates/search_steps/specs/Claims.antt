@@ -18,5 +18,5 @@ pub record Claims (tr : Trail) (x : Step) (y : Claim) : Type 0 where
   pub premises : premisesOf y ≡ premisesAt tr (premises x)
 
 -- m is the level of the premises in the columns xs, where all of them stand on the trail
-abbrev pub LevelOf : Trail → List ℕ → ℕ → Type 0
-LevelOf tr xs m = all (on tr) (filled xs) ≡ true → m ≡ levelOf tr (has (filled xs))
+abbrev pub PremisesLevel : Trail → List ℕ → ℕ → Type 0
+PremisesLevel tr xs m = all (on tr) (filled xs) ≡ true → m ≡ levelOf tr (has (filled xs))

@@ -11,7 +11,7 @@ ghost use Rattle.calculus.specs.Steps.{premises, decideNumber, inferenceNumber,
 ghost use Rattle.rules.specs.Claims.{Looked};
 ghost use Rattle.trail.specs.Words.{trailIn, Laid};
 ghost use Rattle.state.specs.States.{Standing, Answers};
-ghost use Rattle.search_steps.specs.Claims.{Claims, LevelOf};
+ghost use Rattle.search_steps.specs.Claims.{Claims, PremisesLevel};
 use calculus::Fit;
 use calculus::Level;
 use calculus::Premise;
@@ -70,7 +70,7 @@ fn all_on(work: &[u64], w: usize, n: usize, count: usize, x: Step) -> bool
 
 fn more_level(work: &[u64], w: usize, n: usize, count: usize, p: u16, rest: u64) -> u64
     requires { ⌜ Laid w n (now work) count ⌝ }
-    ensures { λ r. ⌜ ((xs : List ℕ) → LevelOf (trailIn w n (now (work .entry)) count) xs rest → LevelOf (trailIn w n (now (work .entry)) count) (p ∷ xs) r) ⌝ }
+    ensures { λ r. ⌜ ((xs : List ℕ) → PremisesLevel (trailIn w n (now (work .entry)) count) xs rest → PremisesLevel (trailIn w n (now (work .entry)) count) (p ∷ xs) r) ⌝ }
 {
     if p == BLANK {
         return 0;
@@ -82,7 +82,7 @@ fn more_level(work: &[u64], w: usize, n: usize, count: usize, p: u16, rest: u64)
 // The level of the premises from column r on.
 fn late_level(work: &[u64], w: usize, n: usize, count: usize, x: Step) -> u64
     requires { ⌜ Laid w n (now work) count ⌝ }
-    ensures { λ r. ⌜ LevelOf (trailIn w n (now (work .entry)) count) (x .r ∷ x .s ∷ x .t ∷ []) r ⌝ }
+    ensures { λ r. ⌜ PremisesLevel (trailIn w n (now (work .entry)) count) (x .r ∷ x .s ∷ x .t ∷ []) r ⌝ }
 {
     if x.r == BLANK {
         return 0;
