@@ -34,7 +34,7 @@ same-length-2 : tie.Need-same-length-2
 same-length-2 c = search needs
 
 returns : tie.Need-returns
-returns c = let h = refused-is _ _ (sym (c .before .before .before .before .check-lengths .ensures) ∙ c .before .before .c .given .1) in let q = lengths-number (callOf (c .before .before .before .before .before .before .before .before .before .before .before .before .before .args .sorts .now) (c .before .before .before .before .before .before .before .before .before .before .before .before .before .args .terms .now) (c .before .before .before .before .before .before .before .before .before .before .before .before .before .args .inputs .now) (c .before .before .before .before .before .before .before .before .before .before .before .before .before .args .steps .now) (c .before .before .before .before .before .before .before .before .before .before .before .before .before .args .work .now) (c .before .before .before .before .before .before .before .before .before .before .before .before .before .args .trail .now)) _ (h .0) (h .1) in record { result = c .turned-away .ensures ∙ away-outcome (callOf (c .before .before .before .before .before .before .before .before .before .before .before .before .before .args .sorts .now) (c .before .before .before .before .before .before .before .before .before .before .before .before .before .args .terms .now) (c .before .before .before .before .before .before .before .before .before .before .before .before .before .args .inputs .now) (c .before .before .before .before .before .before .before .before .before .before .before .before .before .args .steps .now) (c .before .before .before .before .before .before .before .before .before .before .before .before .before .args .work .now) (c .before .before .before .before .before .before .before .before .before .before .before .before .before .args .trail .now)) _ q (h .1); work = work-kept (callOf (c .before .before .before .before .before .before .before .before .before .before .before .before .before .args .sorts .now) (c .before .before .before .before .before .before .before .before .before .before .before .before .before .args .terms .now) (c .before .before .before .before .before .before .before .before .before .before .before .before .before .args .inputs .now) (c .before .before .before .before .before .before .before .before .before .before .before .before .before .args .steps .now) (c .before .before .before .before .before .before .before .before .before .before .before .before .before .args .work .now) (c .before .before .before .before .before .before .before .before .before .before .before .before .before .args .trail .now)) _ (h .0) (h .1); trail = away-trail (callOf (c .before .before .before .before .before .before .before .before .before .before .before .before .before .args .sorts .now) (c .before .before .before .before .before .before .before .before .before .before .before .before .before .args .terms .now) (c .before .before .before .before .before .before .before .before .before .before .before .before .before .args .inputs .now) (c .before .before .before .before .before .before .before .before .before .before .before .before .before .args .steps .now) (c .before .before .before .before .before .before .before .before .before .before .before .before .before .args .work .now) (c .before .before .before .before .before .before .before .before .before .before .before .before .before .args .trail .now)) _ q (h .1) }
+returns c = let h = refused-is _ _ (sym (c .before .before .before .before .check-lengths .ensures) ∙ c .before .before .c .given .1) in let q = lengths-number _ _ (h .0) (h .1) in record { result = c .turned-away .ensures ∙ away-outcome _ _ q (h .1); work = work-kept _ _ (h .0) (h .1); trail = away-trail _ _ q (h .1) }
 
 same-length-3 : tie.Need-same-length-3
 same-length-3 c = search needs
@@ -43,7 +43,7 @@ same-length-4 : tie.Need-same-length-4
 same-length-4 c = search needs
 
 returns-2 : tie.Need-returns-2
-returns-2 c = let z = passed-zero _ (sym (c .before .before .before .before .before .before .before .before .before .before .before .before .before .check-lengths .ensures) ∙ c .before .before .before .before .before .before .before .before .before .before .before .enum-told .given .1) in record { result = c .before .before .before .before .before .before .before .before .run-sheets .ensures .0; work = work-cleared (callOf (c .before .before .before .before .before .before .before .before .before .before .before .before .before .before .before .before .before .before .before .before .before .before .args .sorts .now) (c .before .before .before .before .before .before .before .before .before .before .before .before .before .before .before .before .before .before .before .before .before .before .args .terms .now) (c .before .before .before .before .before .before .before .before .before .before .before .before .before .before .before .before .before .before .before .before .before .before .args .inputs .now) (c .before .before .before .before .before .before .before .before .before .before .before .before .before .before .before .before .before .before .before .before .before .before .args .steps .now) (c .before .before .before .before .before .before .before .before .before .before .before .before .before .before .before .before .before .before .before .before .before .before .args .work .now) (c .before .before .before .before .before .before .before .before .before .before .before .before .before .before .before .before .before .before .before .before .before .before .args .trail .now)) (length (c .before .before .before .before .before .before .before .before .run-sheets .last .1 .1 .1 .1 .0)) z (c .before .before .wipe .ensures) (omega arith); trail = c .before .before .before .before .before .before .before .before .run-sheets .ensures .1 }
+returns-2 c = let z = passed-zero _ (sym (c .before .before .before .before .before .before .before .before .before .before .before .before .before .check-lengths .ensures) ∙ c .before .before .before .before .before .before .before .before .before .before .before .enum-told .given .1) in record { result = c .before .before .before .before .before .before .before .before .run-sheets .ensures .0; work = work-cleared _ (length (c .before .before .before .before .before .before .before .before .run-sheets .last .1 .1 .1 .1 .0)) z (c .before .before .wipe .ensures) (omega arith); trail = c .before .before .before .before .before .before .before .before .run-sheets .ensures .1 }
 
 pub cdsat-run-spec : {M : Type 1} → statement M
 cdsat-run-spec =
