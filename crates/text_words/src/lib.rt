@@ -60,13 +60,10 @@ pub fn step_number(f: &[u8]) -> u16
     65534
 }
 
-// The number of a rule's word, of the words from `unit` on.
+// The number of a rule's word, of the words from `eval` on.
 fn late_rule(f: &[u8]) -> u16
-    ensures { λ r. ⌜ r ≡ indexOr (indexFrom 7 (drop 7 ruleWords) (now (f .entry))) ⌝ }
+    ensures { λ r. ⌜ r ≡ indexOr (indexFrom 8 (drop 8 ruleWords) (now (f .entry))) ⌝ }
 {
-    if text_fields::same(b"unit", f) {
-        return 7;
-    }
     if text_fields::same(b"eval", f) {
         return 8;
     }
@@ -83,6 +80,25 @@ fn late_rule(f: &[u8]) -> u16
         return 12;
     }
     65534
+}
+
+// The number of a rule's word, of the words from `trans` on.
+fn middle_rule(f: &[u8]) -> u16
+    ensures { λ r. ⌜ r ≡ indexOr (indexFrom 4 (drop 4 ruleWords) (now (f .entry))) ⌝ }
+{
+    if text_fields::same(b"trans", f) {
+        return 4;
+    }
+    if text_fields::same(b"neg", f) {
+        return 5;
+    }
+    if text_fields::same(b"part", f) {
+        return 6;
+    }
+    if text_fields::same(b"unit", f) {
+        return 7;
+    }
+    late_rule(f)
 }
 
 // The number of a rule's word.
@@ -104,14 +120,5 @@ pub fn rule_number(f: &[u8]) -> u16
     if text_fields::same(b"sym", f) {
         return 3;
     }
-    if text_fields::same(b"trans", f) {
-        return 4;
-    }
-    if text_fields::same(b"neg", f) {
-        return 5;
-    }
-    if text_fields::same(b"part", f) {
-        return 6;
-    }
-    late_rule(f)
+    middle_rule(f)
 }

@@ -1,8 +1,7 @@
 -- The first rule word that is the field's.
-use mathlib.Core.Path.{sym, ap, _∙_}
-use Rattle.text_fields.specs.Words.{ruleWords, indexOr}
-use native.Mathlib.Omega.{arith}
-use Rattle.text_fields.proofs.Lines.{index-hit, index-after, ref-blank, ref-found, ref-at}
+use lib.ListN.{drop}
+use Rattle.text_fields.specs.Words.{ruleWords}
+use Rattle.text_words.proofs.Laws.{blank, word, number-at, number-rest, miss, hit}
 use borrow.Author.Needs.{needs}
 use Rattle.text_words.proofs.rule_number.Statement.{statement}
 use Rattle.text_words.proofs.rule_number.Tie as tie
@@ -14,7 +13,7 @@ same-requires : tie.Need-same-requires
 same-requires c κs = search needs
 
 returns : tie.Need-returns
-returns c = ref-blank ruleWords (c .before .before .before .before .args .f .now) (sym (c .before .same .ensures) ∙ c .if1 .taken)
+returns c = search blank
 
 slice-aggregate-same-2 : tie.Need-slice-aggregate-same-2
 slice-aggregate-same-2 c = search needs
@@ -23,7 +22,7 @@ same-requires-2 : tie.Need-same-requires-2
 same-requires-2 c κs = search needs
 
 returns-2 : tie.Need-returns-2
-returns-2 c = ref-at ruleWords (c .before .before .before .before .before .before .before .args .f .now) (sym (c .before .before .before .before .same .ensures) ∙ c .before .before .before .if1 .left) 0 (index-hit 0 ruleWords (c .before .before .before .before .before .before .before .args .f .now) 0 tt (omega arith) (sym (c .before .same2 .ensures) ∙ c .if2 .taken))
+returns-2 c = search (word, number-at, hit)
 
 slice-aggregate-same-3 : tie.Need-slice-aggregate-same-3
 slice-aggregate-same-3 c = search needs
@@ -32,7 +31,7 @@ same-requires-3 : tie.Need-same-requires-3
 same-requires-3 c κs = search needs
 
 returns-3 : tie.Need-returns-3
-returns-3 c = ref-at ruleWords (c .before .before .before .before .before .before .before .before .before .before .args .f .now) (sym (c .before .before .before .before .before .before .before .same .ensures) ∙ c .before .before .before .before .before .before .if1 .left) 1 (index-hit 0 ruleWords (c .before .before .before .before .before .before .before .before .before .before .args .f .now) 1 ((sym (c .before .before .before .before .same2 .ensures) ∙ c .before .before .before .if2 .left), tt) (omega arith) (sym (c .before .same3 .ensures) ∙ c .if3 .taken))
+returns-3 c = search (word, number-at, miss, hit) depth 12
 
 slice-aggregate-same-4 : tie.Need-slice-aggregate-same-4
 slice-aggregate-same-4 c = search needs
@@ -41,7 +40,7 @@ same-requires-4 : tie.Need-same-requires-4
 same-requires-4 c κs = search needs
 
 returns-4 : tie.Need-returns-4
-returns-4 c = ref-at ruleWords (c .before .before .before .before .before .before .before .before .before .before .before .before .before .args .f .now) (sym (c .before .before .before .before .before .before .before .before .before .before .same .ensures) ∙ c .before .before .before .before .before .before .before .before .before .if1 .left) 2 (index-hit 0 ruleWords (c .before .before .before .before .before .before .before .before .before .before .before .before .before .args .f .now) 2 ((sym (c .before .before .before .before .before .before .before .same2 .ensures) ∙ c .before .before .before .before .before .before .if2 .left), ((sym (c .before .before .before .before .same3 .ensures) ∙ c .before .before .before .if3 .left), tt)) (omega arith) (sym (c .before .same4 .ensures) ∙ c .if4 .taken))
+returns-4 c = search (word, number-at, miss, hit) depth 12
 
 slice-aggregate-same-5 : tie.Need-slice-aggregate-same-5
 slice-aggregate-same-5 c = search needs
@@ -50,40 +49,16 @@ same-requires-5 : tie.Need-same-requires-5
 same-requires-5 c κs = search needs
 
 returns-5 : tie.Need-returns-5
-returns-5 c = ref-at ruleWords (c .before .before .before .before .before .before .before .before .before .before .before .before .before .before .before .before .args .f .now) (sym (c .before .before .before .before .before .before .before .before .before .before .before .before .before .same .ensures) ∙ c .before .before .before .before .before .before .before .before .before .before .before .before .if1 .left) 3 (index-hit 0 ruleWords (c .before .before .before .before .before .before .before .before .before .before .before .before .before .before .before .before .args .f .now) 3 ((sym (c .before .before .before .before .before .before .before .before .before .before .same2 .ensures) ∙ c .before .before .before .before .before .before .before .before .before .if2 .left), ((sym (c .before .before .before .before .before .before .before .same3 .ensures) ∙ c .before .before .before .before .before .before .if3 .left), ((sym (c .before .before .before .before .same4 .ensures) ∙ c .before .before .before .if4 .left), tt))) (omega arith) (sym (c .before .same5 .ensures) ∙ c .if5 .taken))
+returns-5 c = search (word, number-at, miss, hit) depth 12
 
-slice-aggregate-same-6 : tie.Need-slice-aggregate-same-6
-slice-aggregate-same-6 c = search needs
-
-same-requires-6 : tie.Need-same-requires-6
-same-requires-6 c κs = search needs
+middle-rule-requires : tie.Need-middle-rule-requires
+middle-rule-requires c κs = search needs
 
 returns-6 : tie.Need-returns-6
-returns-6 c = ref-at ruleWords (c .before .before .before .before .before .before .before .before .before .before .before .before .before .before .before .before .before .before .before .args .f .now) (sym (c .before .before .before .before .before .before .before .before .before .before .before .before .before .before .before .before .same .ensures) ∙ c .before .before .before .before .before .before .before .before .before .before .before .before .before .before .before .if1 .left) 4 (index-hit 0 ruleWords (c .before .before .before .before .before .before .before .before .before .before .before .before .before .before .before .before .before .before .before .args .f .now) 4 ((sym (c .before .before .before .before .before .before .before .before .before .before .before .before .before .same2 .ensures) ∙ c .before .before .before .before .before .before .before .before .before .before .before .before .if2 .left), ((sym (c .before .before .before .before .before .before .before .before .before .before .same3 .ensures) ∙ c .before .before .before .before .before .before .before .before .before .if3 .left), ((sym (c .before .before .before .before .before .before .before .same4 .ensures) ∙ c .before .before .before .before .before .before .if4 .left), ((sym (c .before .before .before .before .same5 .ensures) ∙ c .before .before .before .if5 .left), tt)))) (omega arith) (sym (c .before .same6 .ensures) ∙ c .if6 .taken))
-
-slice-aggregate-same-7 : tie.Need-slice-aggregate-same-7
-slice-aggregate-same-7 c = search needs
-
-same-requires-7 : tie.Need-same-requires-7
-same-requires-7 c κs = search needs
-
-returns-7 : tie.Need-returns-7
-returns-7 c = ref-at ruleWords (c .before .before .before .before .before .before .before .before .before .before .before .before .before .before .before .before .before .before .before .before .before .before .args .f .now) (sym (c .before .before .before .before .before .before .before .before .before .before .before .before .before .before .before .before .before .before .before .same .ensures) ∙ c .before .before .before .before .before .before .before .before .before .before .before .before .before .before .before .before .before .before .if1 .left) 5 (index-hit 0 ruleWords (c .before .before .before .before .before .before .before .before .before .before .before .before .before .before .before .before .before .before .before .before .before .before .args .f .now) 5 ((sym (c .before .before .before .before .before .before .before .before .before .before .before .before .before .before .before .before .same2 .ensures) ∙ c .before .before .before .before .before .before .before .before .before .before .before .before .before .before .before .if2 .left), ((sym (c .before .before .before .before .before .before .before .before .before .before .before .before .before .same3 .ensures) ∙ c .before .before .before .before .before .before .before .before .before .before .before .before .if3 .left), ((sym (c .before .before .before .before .before .before .before .before .before .before .same4 .ensures) ∙ c .before .before .before .before .before .before .before .before .before .if4 .left), ((sym (c .before .before .before .before .before .before .before .same5 .ensures) ∙ c .before .before .before .before .before .before .if5 .left), ((sym (c .before .before .before .before .same6 .ensures) ∙ c .before .before .before .if6 .left), tt))))) (omega arith) (sym (c .before .same7 .ensures) ∙ c .if7 .taken))
-
-slice-aggregate-same-8 : tie.Need-slice-aggregate-same-8
-slice-aggregate-same-8 c = search needs
-
-same-requires-8 : tie.Need-same-requires-8
-same-requires-8 c κs = search needs
-
-returns-8 : tie.Need-returns-8
-returns-8 c = ref-at ruleWords (c .before .before .before .before .before .before .before .before .before .before .before .before .before .before .before .before .before .before .before .before .before .before .before .before .before .args .f .now) (sym (c .before .before .before .before .before .before .before .before .before .before .before .before .before .before .before .before .before .before .before .before .before .before .same .ensures) ∙ c .before .before .before .before .before .before .before .before .before .before .before .before .before .before .before .before .before .before .before .before .before .if1 .left) 6 (index-hit 0 ruleWords (c .before .before .before .before .before .before .before .before .before .before .before .before .before .before .before .before .before .before .before .before .before .before .before .before .before .args .f .now) 6 ((sym (c .before .before .before .before .before .before .before .before .before .before .before .before .before .before .before .before .before .before .before .same2 .ensures) ∙ c .before .before .before .before .before .before .before .before .before .before .before .before .before .before .before .before .before .before .if2 .left), ((sym (c .before .before .before .before .before .before .before .before .before .before .before .before .before .before .before .before .same3 .ensures) ∙ c .before .before .before .before .before .before .before .before .before .before .before .before .before .before .before .if3 .left), ((sym (c .before .before .before .before .before .before .before .before .before .before .before .before .before .same4 .ensures) ∙ c .before .before .before .before .before .before .before .before .before .before .before .before .if4 .left), ((sym (c .before .before .before .before .before .before .before .before .before .before .same5 .ensures) ∙ c .before .before .before .before .before .before .before .before .before .if5 .left), ((sym (c .before .before .before .before .before .before .before .same6 .ensures) ∙ c .before .before .before .before .before .before .if6 .left), ((sym (c .before .before .before .before .same7 .ensures) ∙ c .before .before .before .if7 .left), tt)))))) (omega arith) (sym (c .before .same8 .ensures) ∙ c .if8 .taken))
-
-late-rule-requires : tie.Need-late-rule-requires
-late-rule-requires c κs = search needs
-
-returns-9 : tie.Need-returns-9
-returns-9 c = c .late-rule .ensures ∙ sym (ap indexOr (index-after 0 ruleWords (c .before .before .before .before .before .before .before .before .before .before .before .before .before .before .before .before .before .before .before .before .before .before .before .before .before .before .args .f .now) 7 ((sym (c .before .before .before .before .before .before .before .before .before .before .before .before .before .before .before .before .before .before .before .before .same2 .ensures) ∙ c .before .before .before .before .before .before .before .before .before .before .before .before .before .before .before .before .before .before .before .if2 .left), ((sym (c .before .before .before .before .before .before .before .before .before .before .before .before .before .before .before .before .before .same3 .ensures) ∙ c .before .before .before .before .before .before .before .before .before .before .before .before .before .before .before .before .if3 .left), ((sym (c .before .before .before .before .before .before .before .before .before .before .before .before .before .before .same4 .ensures) ∙ c .before .before .before .before .before .before .before .before .before .before .before .before .before .if4 .left), ((sym (c .before .before .before .before .before .before .before .before .before .before .before .same5 .ensures) ∙ c .before .before .before .before .before .before .before .before .before .before .if5 .left), ((sym (c .before .before .before .before .before .before .before .before .same6 .ensures) ∙ c .before .before .before .before .before .before .before .if6 .left), ((sym (c .before .before .before .before .before .same7 .ensures) ∙ c .before .before .before .before .if7 .left), ((sym (c .before .before .same8 .ensures) ∙ c .before .if8 .left), tt))))))))) ∙ ref-found ruleWords (c .before .before .before .before .before .before .before .before .before .before .before .before .before .before .before .before .before .before .before .before .before .before .before .before .before .before .args .f .now) (sym (c .before .before .before .before .before .before .before .before .before .before .before .before .before .before .before .before .before .before .before .before .before .before .before .same .ensures) ∙ c .before .before .before .before .before .before .before .before .before .before .before .before .before .before .before .before .before .before .before .before .before .before .if1 .left)
+returns-6 c =
+    let f = c .before .before .before .before .before .before .before .before .before .before .before .before .before .before .before .before .before .args .f .now in
+    let later = number-rest 0 ruleWords f 4 (drop 4 ruleWords) (c .middle-rule .ensures) (λ v rest. search miss depth 12) in
+    search word
 
 pub rule-number-spec : {M : Type 1} → statement M
 rule-number-spec =
@@ -104,14 +79,5 @@ rule-number-spec =
     slice-aggregate-same-5
     same-requires-5
     returns-5
-    slice-aggregate-same-6
-    same-requires-6
-    returns-6
-    slice-aggregate-same-7
-    same-requires-7
-    returns-7
-    slice-aggregate-same-8
-    same-requires-8
-    returns-8
-    late-rule-requires
-    returns-9)
+    middle-rule-requires
+    returns-6)
