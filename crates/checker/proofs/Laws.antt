@@ -153,6 +153,10 @@ module _ (w n : ℕ) (ts ws : List ℕ) (e : Ending) (r : Ended) (h : Ends w n t
   pub left : trailIn w n ws (r .status .count) ≡ trailOf (e .state)
   left = sym (trail-there w n ws (r .status)) ∙ ap trailOf (h .state)
 
+  pub left-written : {buffer : List ℕ} (trail : List ℕ) → buffer ≡ written (trailNumbersOf (trailIn w n ws (r .status .count))) trail
+      → buffer ≡ written (trailNumbersOf (trailOf (e .state))) trail
+  left-written trail q = rw (← left) q
+
   pub seen : (v : ℕ) → v ≡ verdictNumber (r .verdict) → _≡_ {A = Outcome} (record { verdict = v; steps = r .steps; number = r .number; entries = r .status .count }) (outcomeOf e)
   seen v q i =
       record {

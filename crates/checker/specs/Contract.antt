@@ -11,6 +11,11 @@ abbrev pub callOf : List ℕ → List ℕ → List ℕ → List ℕ → List ℕ
 callOf sorts terms inputs steps work trail =
     record { sorts = sorts; terms = terms; inputs = inputs; steps = steps; work = work; trail = trail }
 
+-- past the lengths, the call x answers r and leaves the trail buffer so
+pub record Ran (x : Call) (r : Outcome) (buffer : List ℕ) : Type 0 where
+  pub result : r ≡ outcome x
+  pub trail : buffer ≡ trailAfter x
+
 -- the call x answers r, and leaves the workspace and the trail buffer so
 pub record Answered (x : Call) (r : Outcome) (workspace buffer : List ℕ) : Type 0 where
   pub result : r ≡ outcome x

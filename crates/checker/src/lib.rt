@@ -8,10 +8,10 @@ ghost use Rattle.calculus.specs.Sorts.{sortsNumber};
 ghost use Rattle.calculus.specs.Terms.{termsNumber};
 ghost use Rattle.calculus.specs.Trail.{trailNumbersOf};
 ghost use Rattle.calculus.specs.Steps.{trailOf};
-ghost use Rattle.calculus.specs.Run.{run, turnedAway, verdictNumber, outcomeOf, outcome, written, trailAfter};
+ghost use Rattle.calculus.specs.Run.{run, turnedAway, verdictNumber, outcomeOf, written};
 ghost use Rattle.term_sheet.specs.Found.{mostNumbers};
 ghost use Rattle.state.specs.States.{stateIn, Standing};
-ghost use Rattle.checker.specs.Contract.{callOf, Answered};
+ghost use Rattle.checker.specs.Contract.{callOf, Ran, Answered};
 use calculus::Check;
 use calculus::Level;
 use calculus::Outcome;
@@ -96,8 +96,7 @@ fn run_sheets(
     trail: &mut [u16],
 ) -> Outcome
     requires { ⌜ lengthNumber (callOf (now sorts) (now terms) (now inputs) (now steps) (now work) (now trail)) ≡ 0 ⌝ }
-    ensures { λ r. ⌜ r ≡ outcome (callOf (now (sorts .entry)) (now (terms .entry)) (now (inputs .entry)) (now (steps .entry)) (now (work .entry)) (now (trail .entry))) ⌝ }
-    ensures { λ r. ⌜ now (trail .exit) ≡ trailAfter (callOf (now (sorts .entry)) (now (terms .entry)) (now (inputs .entry)) (now (steps .entry)) (now (work .entry)) (now (trail .entry))) ⌝ }
+    ensures { λ r. ⌜ Ran (callOf (now (sorts .entry)) (now (terms .entry)) (now (inputs .entry)) (now (steps .entry)) (now (work .entry)) (now (trail .entry))) r (now (trail .exit)) ⌝ }
 {
     let c = check_sheets(sorts, terms);
     match c {

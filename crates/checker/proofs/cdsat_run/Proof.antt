@@ -1,10 +1,5 @@
 -- `checker::cdsat_run` meets its contract.
-use lib.ListN.{length}
-use Rattle.checker.proofs.Laws.{refused-is, lengths-number, away-outcome, away-trail, work-kept, work-cleared}
-use Rattle.checker.specs.Contract.{callOf}
-use Rattle.sheets.proofs.Laws.{passed-zero}
-use native.Mathlib.Omega.{arith}
-use mathlib.Core.Path.{sym, _∙_}
+use Rattle.checker.proofs.Answers.{lengths-passed, lengths-away, cleared}
 use borrow.Author.Needs.{needs}
 use Rattle.checker.proofs.cdsat_run.Statement.{statement}
 use Rattle.checker.proofs.cdsat_run.Tie as tie
@@ -22,7 +17,7 @@ enum-told : tie.Need-enum-told
 enum-told c = search needs
 
 run-sheets-requires : tie.Need-run-sheets-requires
-run-sheets-requires c κs = passed-zero _ (sym (c .before .before .before .before .check-lengths .ensures) ∙ c .before .before .enum-told .given .1)
+run-sheets-requires c κs = lengths-passed _ _ _ _ _ _ (c .before .before .before .before .check-lengths .ensures) (c .before .before .enum-told .given .1)
 
 wipe-requires : tie.Need-wipe-requires
 wipe-requires c κs = search needs
@@ -34,7 +29,7 @@ same-length-2 : tie.Need-same-length-2
 same-length-2 c = search needs
 
 returns : tie.Need-returns
-returns c = let h = refused-is _ _ (sym (c .before .before .before .before .check-lengths .ensures) ∙ c .before .before .c .given .1) in let q = lengths-number _ _ (h .0) (h .1) in record { result = c .turned-away .ensures ∙ away-outcome _ _ q (h .1); work = work-kept _ _ (h .0) (h .1); trail = away-trail _ _ q (h .1) }
+returns c = search lengths-away
 
 same-length-3 : tie.Need-same-length-3
 same-length-3 c = search needs
@@ -43,7 +38,7 @@ same-length-4 : tie.Need-same-length-4
 same-length-4 c = search needs
 
 returns-2 : tie.Need-returns-2
-returns-2 c = let z = passed-zero _ (sym (c .before .before .before .before .before .before .before .before .before .before .before .before .before .check-lengths .ensures) ∙ c .before .before .before .before .before .before .before .before .before .before .before .enum-told .given .1) in record { result = c .before .before .before .before .before .before .before .before .run-sheets .ensures .0; work = work-cleared _ (length (c .before .before .before .before .before .before .before .before .run-sheets .last .1 .1 .1 .1 .0)) z (c .before .before .wipe .ensures) (omega arith); trail = c .before .before .before .before .before .before .before .before .run-sheets .ensures .1 }
+returns-2 c = search cleared
 
 pub cdsat-run-spec : {M : Type 1} → statement M
 cdsat-run-spec =
