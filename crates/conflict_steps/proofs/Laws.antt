@@ -6,6 +6,7 @@ use Prim.Native.Nat.{ℕ, suc, _+_, _-_, _*_, _≤_, _<_, max}
 use native.Mathlib.Omega.{arith}
 use lib.ListN.{length}
 use lib.Dec.{eqb, ltb→lt}
+use borrow.Author.Tests.{not-false}
 use Rattle.calculus.specs.declared.Level.{Level}
 use Rattle.calculus.specs.Sheets.{termRows}
 use Rattle.calculus.specs.Trail.{Set, Trail, on, entry, decidedAt, whyAt, levelOf, topLevel, holds, firstOrder}
@@ -72,6 +73,9 @@ module _ (w n : ℕ) (ts ws : List ℕ) (count : ℕ) (f : Found w n ts ws count
   -- a member of the conflict stands on the trail
   pub member-on : {b : Bool} (t : ℕ) → b ≡ conflictIn w n ws t → b ≡ true → on (trailIn w n ws count) t ≡ true
   member-on t e h = f .within t (sym e ∙ h)
+
+  pub member-in : {b : Bool} (t : ℕ) → b ≡ conflictIn w n ws t → not b ≡ false → on (trailIn w n ws count) t ≡ true
+  member-in t e h = member-on t e (not-false _ h)
 
   -- the words of a row lie before the tables
   pub why-fits : (t : ℕ) → t < n → t * w + w ≤ length ws
