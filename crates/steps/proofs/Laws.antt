@@ -3,6 +3,7 @@ use mathlib.Core.Path.{_≡_, refl, sym, ap, subst, _∙_}
 use mathlib.Core.Bool.{Bool, true, false, not, cond}
 use mathlib.Core.List.{List, [], _∷_}
 use Prim.Native.Nat.{ℕ, suc, _<_}
+use borrow.Author.Tests.{not-true, not-false}
 use lib.Dec.{T, eqb, ltb, ltb→lt}
 use Rattle.calculus.specs.declared.Step.{Step}
 use Rattle.calculus.specs.declared.Kind.{Kind}
@@ -17,7 +18,8 @@ use Rattle.trail.specs.Words.{trailIn}
 use Rattle.moves.specs.Post.{conflictIn}
 use Rattle.state.specs.declared.Status.{Status}
 use Rattle.state.specs.declared.Answer.{Answer}
-use Rattle.state.specs.States.{stateIn, Answers}
+use Rattle.state.specs.declared.Answer.the-variants.{Refused}
+use Rattle.state.specs.States.{stateIn, Standing, Answers}
 use Rattle.state.proofs.States.{in-conflict, trail-there, conflict-there, passed-by}
 
 -- the answer to one step is the answer to an equal one
@@ -122,3 +124,41 @@ module _ (ts : List ℕ) (s : calculus.State) (x : Step) {k : Kind} (e : k ≡ k
     where
       go : rowNumber ts s x ≡ 0 → step ts s x ≡ stepBy ts k s x
       go z = passed-by (stepBy ts (kindOf (x .step)) s x) (sym z) refl ∙ ap (λ j. stepBy ts j s x) (sym e)
+
+-- ---- the answers, test by test as the code has them
+
+module _ (w n : ℕ) (ts ws : List ℕ) (st : Status) (x : Step) {k : Kind} (e : k ≡ kindOf (x .step)) where
+  abbrev the-step : calculus.Answer
+  the-step = step ts (stateIn w n ws st) x
+
+  module _ {a : Bool} (a-is : a ≡ shaped x k) where
+    pub answer-9 : not a ≡ true → Answers w n ts ws ws the-step (Refused 9)
+    unfolding Answers
+    answer-9 h = (step-9 ts _ x e (sym a-is ∙ not-true _ h), refl)
+
+    module _ (a-in : not a ≡ false) {b : Bool} (b-is : b ≡ cond (needsConflict k) (st .conflict) (not (st .conflict))) where
+      is-shaped : shaped x k ≡ true
+      is-shaped = sym a-is ∙ not-false _ a-in
+
+      pub answer-10 : not b ≡ true → Answers w n ts ws ws the-step (Refused 10)
+      unfolding Answers
+      answer-10 h = (step-10 ts _ x e is-shaped (ready-there w n ts ws st x k ∙ sym b-is ∙ not-true _ h), refl)
+
+      module _ (b-in : not b ≡ false) {c : Bool} (c-is : c ≡ known ts x) where
+        is-ready : ready (stateIn w n ws st) k ≡ true
+        is-ready = ready-there w n ts ws st x k ∙ sym b-is ∙ not-false _ b-in
+
+        pub answer-11 : not c ≡ true → Answers w n ts ws ws the-step (Refused 11)
+        unfolding Answers
+        answer-11 h = (step-11 ts _ x e is-shaped is-ready (sym c-is ∙ not-true _ h), refl)
+
+        module _ (c-in : not c ≡ false) where
+          is-known : known ts x ≡ true
+          is-known = sym c-is ∙ not-false _ c-in
+
+          pub asked-by : Standing w n ts ws st
+              → Standing w n ts ws st × (shaped x k ≡ true) × (ready (stateIn w n ws st) k ≡ true) × (known ts x ≡ true)
+          asked-by s = (s, is-shaped, is-ready, is-known)
+
+          pub answer-by : (vs : List ℕ) (r : Answer) → Answers w n ts ws vs (stepBy ts k (stateIn w n ws st) x) r → Answers w n ts ws vs the-step r
+          answer-by vs r h = by w n ts ws vs r (step-on ts _ x e is-shaped is-ready is-known) h

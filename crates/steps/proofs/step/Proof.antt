@@ -1,8 +1,5 @@
 -- `steps::step` meets its contract.
-use Rattle.steps.proofs.Laws.{by, ready-there, step-9, step-10, step-11, step-on}
-use Rattle.state.specs.States.{Answers}
-use borrow.Author.Tests.{not-true, not-false}
-use mathlib.Core.Path.{refl, sym, _∙_}
+use Rattle.steps.proofs.Laws.{answer-9, answer-10, answer-11, asked-by, answer-by}
 use borrow.Author.Needs.{needs}
 use Rattle.steps.proofs.step.Statement.{statement}
 use Rattle.steps.proofs.step.Tie as tie
@@ -14,31 +11,32 @@ shaped-requires : tie.Need-shaped-requires
 shaped-requires c κs = search needs
 
 returns : tie.Need-returns
-unfolding Answers
-returns c = (step-9 _ _ (c .before .before .before .before .before .args .x) (c .before .before .kind-of .ensures) (sym (c .before .shaped .ensures) ∙ not-true _ (c .if1 .taken)), refl)
+returns c = search answer-9
 
 is-ready-requires : tie.Need-is-ready-requires
 is-ready-requires c κs = search needs
 
 returns-2 : tie.Need-returns-2
-unfolding Answers
-returns-2 c = (step-10 _ _ (c .before .before .before .before .before .before .before .args .x) (c .before .before .before .before .kind-of .ensures) (sym (c .before .before .before .shaped .ensures) ∙ not-false _ (c .before .before .if1 .left)) (ready-there (c .before .before .before .before .before .before .before .args .w) (c .before .before .before .before .before .before .before .args .n) (c .before .before .before .before .before .before .before .args .terms .now) (c .before .before .before .before .before .before .before .args .work .now) (c .before .before .before .before .before .before .before .args .st) (c .before .before .before .before .before .before .before .args .x) _ ∙ sym (c .before .is-ready .ensures) ∙ not-true _ (c .if2 .taken)), refl)
+returns-2 c = search answer-10
 
 known-requires : tie.Need-known-requires
 known-requires c κs = search needs
 
 returns-3 : tie.Need-returns-3
-unfolding Answers
-returns-3 c = (step-11 _ _ (c .before .before .before .before .before .before .before .before .before .args .x) (c .before .before .before .before .before .before .kind-of .ensures) (sym (c .before .before .before .before .before .shaped .ensures) ∙ not-false _ (c .before .before .before .before .if1 .left)) (ready-there (c .before .before .before .before .before .before .before .before .before .args .w) (c .before .before .before .before .before .before .before .before .before .args .n) (c .before .before .before .before .before .before .before .before .before .args .terms .now) (c .before .before .before .before .before .before .before .before .before .args .work .now) (c .before .before .before .before .before .before .before .before .before .args .st) (c .before .before .before .before .before .before .before .before .before .args .x) _ ∙ sym (c .before .before .before .is-ready .ensures) ∙ not-false _ (c .before .before .if2 .left)) (sym (c .before .known .ensures) ∙ not-true _ (c .if3 .taken)), refl)
+returns-3 c = search answer-11
 
 step-by-requires : tie.Need-step-by-requires
-step-by-requires c κs = (c .before .before .before .before .before .before .before .before .before .before .pre, sym (c .before .before .before .before .before .before .shaped .ensures) ∙ not-false _ (c .before .before .before .before .before .if1 .left), ready-there (c .before .before .before .before .before .before .before .before .before .before .args .w) (c .before .before .before .before .before .before .before .before .before .before .args .n) (c .before .before .before .before .before .before .before .before .before .before .args .terms .now) (c .before .before .before .before .before .before .before .before .before .before .args .work .now) (c .before .before .before .before .before .before .before .before .before .before .args .st) (c .before .before .before .before .before .before .before .before .before .before .args .x) _ ∙ sym (c .before .before .before .before .is-ready .ensures) ∙ not-false _ (c .before .before .before .if2 .left), sym (c .before .before .known .ensures) ∙ not-false _ (c .before .if3 .left))
+step-by-requires c κs =
+    let shape = c .before .before .before .before .before in
+    let start = shape .before .before .before .before .before in
+    asked-by _ _ _ _ _ _ (shape .before .before .kind-of .ensures) (shape .before .shaped .ensures) (shape .if1 .left)
+    (c .before .before .before .before .is-ready .ensures) (c .before .before .before .if2 .left) (c .before .before .known .ensures) (c .before .if3 .left) (start .pre)
 
 same-length : tie.Need-same-length
 same-length c = search needs
 
 returns-4 : tie.Need-returns-4
-returns-4 c = by _ _ _ _ _ _ (step-on _ _ (c .before .before .before .before .before .before .before .before .before .before .before .before .before .args .x) (c .before .before .before .before .before .before .before .before .before .before .kind-of .ensures) (sym (c .before .before .before .before .before .before .before .before .before .shaped .ensures) ∙ not-false _ (c .before .before .before .before .before .before .before .before .if1 .left)) (ready-there (c .before .before .before .before .before .before .before .before .before .before .before .before .before .args .w) (c .before .before .before .before .before .before .before .before .before .before .before .before .before .args .n) (c .before .before .before .before .before .before .before .before .before .before .before .before .before .args .terms .now) (c .before .before .before .before .before .before .before .before .before .before .before .before .before .args .work .now) (c .before .before .before .before .before .before .before .before .before .before .before .before .before .args .st) (c .before .before .before .before .before .before .before .before .before .before .before .before .before .args .x) _ ∙ sym (c .before .before .before .before .before .before .before .is-ready .ensures) ∙ not-false _ (c .before .before .before .before .before .before .if2 .left)) (sym (c .before .before .before .before .before .known .ensures) ∙ not-false _ (c .before .before .before .before .if3 .left))) (c .before .before .step-by .ensures)
+returns-4 c = search answer-by
 
 pub step-spec : {M : Type 1} → statement M
 step-spec =
