@@ -11,11 +11,30 @@ use Rattle.reader.proofs.feed.Statement.{statement}
 use Rattle.reader.proofs.feed.Tie as tie
 
 abbrev Inv-loop : tie.InvT-loop
-Inv-loop piece line₀ names₀ sorts₀ terms₀ inputs₀ steps₀ f₀ i₀ line names sorts terms inputs steps f i = (i ≤ length piece) × (length sorts ≡ length sorts₀) × (length terms ≡ length terms₀) × (length inputs ≡ length inputs₀) × (length steps ≡ length steps₀) × Bounded (f .core .counts)
+Inv-loop piece line₀ names₀ sorts₀ terms₀ inputs₀ steps₀ f₀ i₀ line names sorts terms inputs steps f i =
+    (i ≤ length piece)
+    × (length sorts ≡ length sorts₀)
+    × (length terms ≡ length terms₀)
+    × (length inputs ≡ length inputs₀)
+    × (length steps ≡ length steps₀)
+    × Bounded (f .core .counts)
     × (feedAll (streamOf f line names sorts terms inputs steps) (drop i piece) ≡ feedAll (streamOf f₀ line₀ names₀ sorts₀ terms₀ inputs₀ steps₀) piece)
 
 abbrev μ-loop : tie.MeasureT-loop
 μ-loop piece line₀ names₀ sorts₀ terms₀ inputs₀ steps₀ f₀ i₀ line names sorts terms inputs steps f i = length piece - i
+
+-- the places that the answers look back to: the entry, the loop's head, the newline found, the part fed
+abbrev entry : tie.At-loop Inv-loop μ-loop → tie.Start Inv-loop μ-loop
+entry c = c .before .before .before .before .before .before
+
+abbrev head : tie.After-scan Inv-loop μ-loop → tie.At-loop Inv-loop μ-loop
+head c = c .before .before .before
+
+abbrev scanned : tie.After-feed-part Inv-loop μ-loop → tie.After-scan Inv-loop μ-loop
+scanned c = c .before .before .before .before .before .before .before .before
+
+abbrev fed : tie.After-slice-known8 Inv-loop μ-loop → tie.After-feed-part Inv-loop μ-loop
+fed c = c .before .before .before .before .before .before .before .before
 
 loop-holds : tie.Need-loop-holds Inv-loop μ-loop
 loop-holds c = (omega arith, refl, refl, refl, refl, c .before .before .before .before .before .pre, refl)
@@ -42,19 +61,51 @@ part-feed-part-end : tie.Need-part-feed-part-end Inv-loop μ-loop
 part-feed-part-end c = omega (arith, c .before .before .before .loop .inv .0)
 
 feed-part-requires : tie.Need-feed-part-requires Inv-loop μ-loop
-feed-part-requires c κs = (c .before .before .before .before .before .before .before .before .before .before .loop .inv .5, (c .before .before .before .before .before .before .before .scan .ensures .0, c .before .before .before .before .before .before .before .scan .ensures .1))
+feed-part-requires c κs =
+    let s = c .before .before .before .before .before .before .before in
+    (head s .loop .inv .5, (s .scan .ensures .0, s .scan .ensures .1))
 
 add-place-after : tie.Need-add-place-after Inv-loop μ-loop
-add-place-after c = let a = c .before .before .before .before .before .before .before .before .before .before .before .before .before .before .before .before .before .before .before .before .before .before .before .before .before .args in let l = c .before .before .before .before .before .before .before .before .before .before .before .before .before .before .before .before .before .before .before .loop in let k : c .before .before .before .before .before .before .before .before .before .before .before .before .before .before .before .before .scan .result ≤ length (take (length (a .piece .now) - l .i) (drop (l .i) (a .piece .now))) = c .before .before .before .before .before .before .before .before .before .before .before .before .before .before .before .before .scan .ensures .1 in omega (arith, l .inv .0, rest-length (a .piece .now) (l .i), c .before .before .before .before .before .before .before .before .before .before .before .before .before .before .before .before .before .before .before .before .before .before .before .before .before .good .1 .0)
+add-place-after c =
+    let s = scanned (fed c) in
+    let h = head s in
+    let piece = entry h .args .piece .now in
+    let i = h .loop .i in
+    let k : s .scan .result ≤ length (take (length piece - i) (drop i piece)) = s .scan .ensures .1 in
+    omega (arith, h .loop .inv .0, rest-length piece i, entry h .good .1 .0)
 
 place-after-requires : tie.Need-place-after-requires Inv-loop μ-loop
 place-after-requires c κs = tt
 
 loop-less : tie.Need-loop-less Inv-loop μ-loop
-loop-less c = let a = c .before .before .before .before .before .before .before .before .before .before .before .before .before .before .before .before .before .before .before .before .before .before .before .before .before .before .args in let l = c .before .before .before .before .before .before .before .before .before .before .before .before .before .before .before .before .before .before .before .before .loop in let e = c .place-after .ensures in omega (arith, e, l .inv .0, c .before .before .before .before .before .before .before .before .before .before .before .before .before .before .before .before .before .before .before .loop-test .taken, place-less (l .i) (l .i + c .before .before .before .before .before .before .before .before .before .before .before .before .before .before .before .before .before .scan .result) (length (a .piece .now)) (omega arith) (c .before .before .before .before .before .before .before .before .before .before .before .before .before .before .before .before .before .before .before .loop-test .taken), place-most (l .i + c .before .before .before .before .before .before .before .before .before .before .before .before .before .before .before .before .before .scan .result) (length (a .piece .now)))
+loop-less c =
+    let s = scanned (fed (c .before)) in
+    let h = head s in
+    let end = length (entry h .args .piece .now) in
+    let i = h .loop .i in
+    let n = s .scan .result in
+    let in-loop = s .before .before .loop-test .taken in
+    omega (arith, c .place-after .ensures, h .loop .inv .0, in-loop, place-less i (i + n) end (omega arith) in-loop, place-most (i + n) end)
 
 loop-again : tie.Need-loop-again Inv-loop μ-loop
-loop-again c = let a = c .before .before .before .before .before .before .before .before .before .before .before .before .before .before .before .before .before .before .before .before .before .before .before .before .before .before .args in let l = c .before .before .before .before .before .before .before .before .before .before .before .before .before .before .before .before .before .before .before .before .loop in let g = c .before .before .before .before .before .before .before .before .before .feed-part in (omega (arith, c .place-after .ensures, place-most (l .i + c .before .before .before .before .before .before .before .before .before .before .before .before .before .before .before .before .before .scan .result) (length (a .piece .now))), g .kept .1 .1 .1 .1 .1 .0 ∙ l .inv .1, g .kept .1 .1 .1 .1 .1 .1 .0 ∙ l .inv .2, g .kept .1 .1 .1 .1 .1 .1 .1 .0 ∙ l .inv .3, g .kept .1 .1 .1 .1 .1 .1 .1 .1 .0 ∙ l .inv .4, g .ensures .1, feed-on (streamOf (l .f) (l .line) (l .names) (l .sorts) (l .terms) (l .inputs) (l .steps)) _ (a .piece .now) (l .i) (c .before .before .before .before .before .before .before .before .before .before .before .before .before .before .before .before .before .scan .result) (c .place-after .result) (l .inv .0) (c .before .before .before .before .before .before .before .before .before .before .before .before .before .before .before .before .before .scan .ensures .1) (g .ensures .0) (c .place-after .ensures) ∙ l .inv .6)
+loop-again c =
+    let g = fed (c .before) .feed-part in
+    let s = scanned (fed (c .before)) in
+    let h = head s in
+    let l = h .loop in
+    let piece = entry h .args .piece .now in
+    let n = s .scan .result in
+    let e = c .place-after .ensures in
+    let same = g .kept .1 .1 .1 .1 .1 in
+    let on = feed-on _ _ piece (l .i) n _ (l .inv .0) (s .scan .ensures .1) (g .ensures .0) e in (
+      omega (arith, e, place-most (l .i + n) (length piece)),
+      same .0 ∙ l .inv .1,
+      same .1 .0 ∙ l .inv .2,
+      same .1 .1 .0 ∙ l .inv .3,
+      same .1 .1 .1 .0 ∙ l .inv .4,
+      g .ensures .1,
+      on ∙ l .inv .6,
+    )
 
 same-length : tie.Need-same-length Inv-loop μ-loop
 same-length c = c .before .loop .inv .1
@@ -69,7 +120,10 @@ same-length-4 : tie.Need-same-length-4 Inv-loop μ-loop
 same-length-4 c = c .before .loop .inv .4
 
 returns : tie.Need-returns Inv-loop μ-loop
-returns c = let a = c .before .before .before .before .before .before .before .args in let l = c .before .loop in (sym (feed-end (streamOf (l .f) (l .line) (l .names) (l .sorts) (l .terms) (l .inputs) (l .steps)) (a .piece .now) (l .i) (omega (arith, c .loop-test .left))) ∙ l .inv .6, l .inv .5)
+returns c =
+    let h = c .before in
+    let l = h .loop in
+    (sym (feed-end _ (entry h .args .piece .now) (l .i) (omega (arith, c .loop-test .left))) ∙ l .inv .6, l .inv .5)
 
 pub feed-spec : {M : Type 1} → statement M
 feed-spec =

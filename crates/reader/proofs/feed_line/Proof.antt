@@ -27,7 +27,17 @@ same-length-4 : tie.Need-same-length-4
 same-length-4 c = search needs
 
 returns : tie.Need-returns
-returns c = let a = c .before .before .before .before .before .before .before .before .before .before .before .before .before .before .before .before .before .before .before .before .before .before .args in let h = c .before .before .before .before .before .before .before .before .feed-newline .ensures .0 in let whole : take (length (a .l .now)) (a .l .now) ≡ a .l .now = take-all (length (a .l .now)) (a .l .now) (omega arith) in (λ line. line-fed (a .f) (c .before .before .before .before .before .before .before .before .feed-newline .result) (c .before .before .before .before .before .before .before .before .before .before .before .before .before .before .advanced-by .result) (a .l .now) line (a .names .now) (a .sorts .now) (a .terms .now) (a .inputs .now) (a .steps .now) _ _ _ _ _ (c .before .before .before .before .before .before .before .before .before .before .before .before .before .before .before .before .before .before .before .before .before .before .pre .1 .0) (c .before .before .before .before .before .before .before .before .before .before .before .before .before .before .before .before .before .before .before .before .before .before .pre .1 .1) (c .before .before .before .before .before .before .before .before .before .before .before .before .before .before .advanced-by .ensures) (rw whole at h), c .before .before .before .before .before .before .before .before .feed-newline .ensures .1)
+returns c =
+    let fed = c .before .before .before .before .before .before .before .before .feed-newline in
+    let moved = c .before .before .before .before .before .before .before .before .before .before .before .before .before .before in
+    let start = moved .before .before .before .before .before .before .before .before in
+    let a = start .args in
+    let whole : take (length (a .l .now)) (a .l .now) ≡ a .l .now = take-all (length (a .l .now)) (a .l .now) (omega arith) in
+    let ended = rw whole at (fed .ensures .0) in (
+      λ line. line-fed (a .f) (fed .result) _ (a .l .now) line (a .names .now) _ _ _ _ _ _ _ _ _
+          (start .pre .1 .0) (start .pre .1 .1) (moved .advanced-by .ensures) ended,
+      fed .ensures .1,
+    )
 
 pub feed-line-spec : {M : Type 1} → statement M
 feed-line-spec =
