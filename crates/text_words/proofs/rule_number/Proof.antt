@@ -56,7 +56,8 @@ middle-rule-requires c κs = search needs
 
 returns-6 : tie.Need-returns-6
 returns-6 c =
-    let f = c .before .before .before .before .before .before .before .before .before .before .before .before .before .before .before .before .before .args .f .now in
+    let start = c .before .before .before .before .before .before .before .before .before .before .before .before .before .before .before .before .before in
+    let f = start .args .f .now in
     let later = number-rest 0 ruleWords f 4 (drop 4 ruleWords) (c .middle-rule .ensures) (λ v rest. search miss depth 12) in
     search word
 
