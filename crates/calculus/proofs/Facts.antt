@@ -9,7 +9,7 @@ use native.Mathlib.Nat.{not-suc-le-zero, suc-ne-zero}
 use native.Mathlib.Decide.{decLt}
 use lib.Dec.{T, eqb, leb, ltb, eqb→eq, leb→le, ltb→lt, eqb-refl, T-not}
 use Rattle.calculus.specs.Lists.{all, any, has, below}
-use Rattle.calculus.specs.Numbers.{unless, orElse, firstNumber}
+use Rattle.calculus.specs.Numbers.{unless, orElse, firstRefusal}
 use Rattle.calculus.specs.Steps.{Answer, refused, answer}
 
 -- ---- tests as facts
@@ -143,10 +143,10 @@ unfolding orElse
 orElse-ok zero r e = (refl, e)
 orElse-ok (suc c) r e = absurd (suc-ne-zero c e)
 
-pub first-ok : (n : ℕ) (f : ℕ → ℕ) (k : ℕ) → firstNumber n f ≡ 0 → k < n → f k ≡ 0
-unfolding firstNumber
+pub first-ok : (n : ℕ) (f : ℕ → ℕ) (k : ℕ) → firstRefusal n f ≡ 0 → k < n → f k ≡ 0
+unfolding firstRefusal
 first-ok zero f k e l = absurd (not-suc-le-zero l)
-first-ok (suc n) f k e l = let r = orElse-ok (firstNumber n f) (f n) e in go (λ h. first-ok n f k (r .0) h) (r .1) (decLt k n)
+first-ok (suc n) f k e l = let r = orElse-ok (firstRefusal n f) (f n) e in go (λ h. first-ok n f k (r .0) h) (r .1) (decLt k n)
   where
     go : (k < n → f k ≡ 0) → f n ≡ 0 → Dec (k < n) → f k ≡ 0
     go r q (yes h) = r h

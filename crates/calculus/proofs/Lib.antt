@@ -2,7 +2,7 @@
 pub mod Facts
 pub mod Entries
 pub mod WellSorted
-pub mod Reached
+pub mod WellFormed
 pub mod Running
 pub mod Runs
 pub mod Slips

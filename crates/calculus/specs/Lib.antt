@@ -9,4 +9,4 @@ pub mod Inputs
 pub mod Rules
 pub mod Steps
 pub mod Run
-pub mod Reached
+pub mod WellFormed

@@ -150,87 +150,87 @@ module _ (ts : List ℕ) where
   -- ---- steps of the search
 
   -- decide: the term with its value as a decision
-  unfoldable pub decideNumber : Trail → ℕ → ℕ → ℕ
-  decideNumber tr t v =
+  unfoldable pub decideRefusal : Trail → ℕ → ℕ → ℕ
+  decideRefusal tr t v =
       unless (valueSuits ts t v) 22 (
       unless (not (on tr t)) 14 0)
 
   unfoldable pub decide : Trail → ℕ → ℕ → Answer
-  decide tr t v = answer (decideNumber tr t v) (allowed (searching (decision tr t v ∷ tr)))
+  decide tr t v = answer (decideRefusal tr t v) (allowed (searching (decision tr t v ∷ tr)))
 
   -- rule r gives the prop l the value v from the rows ps; the rest is the step's own
-  unfoldable pub inferenceNumber : Trail → ℕ → ℕ → ℕ → List ℕ → ℕ → ℕ
-  inferenceNumber tr r l v ps rest =
+  unfoldable pub inferenceRefusal : Trail → ℕ → ℕ → ℕ → List ℕ → ℕ → ℕ
+  inferenceRefusal tr r l v ps rest =
       unless (prop ts l) 22 (
       unless (all (on tr) ps) 12 (
       unless (fits ts (ruleOf r) l v (premisesAt tr ps)) 13 rest))
 
   -- deduce: the premises justify l; neither value is there
-  unfoldable pub deduceNumber : Trail → ℕ → ℕ → ℕ → List ℕ → ℕ
-  deduceNumber tr r l v ps =
-      inferenceNumber tr r l v ps (
+  unfoldable pub deduceRefusal : Trail → ℕ → ℕ → ℕ → List ℕ → ℕ
+  deduceRefusal tr r l v ps =
+      inferenceRefusal tr r l v ps (
       unless (not (assigned tr l v)) 14 (
       unless (not (on tr l)) 15 0))
 
   unfoldable pub deduce : Trail → ℕ → ℕ → ℕ → List ℕ → Answer
-  deduce tr r l v ps = answer (deduceNumber tr r l v ps) (allowed (searching (justified tr l v (has ps) ∷ tr)))
+  deduce tr r l v ps = answer (deduceRefusal tr r l v ps) (allowed (searching (justified tr l v (has ps) ∷ tr)))
 
   -- clash: the opposite is there
-  unfoldable pub clashNumber : Trail → ℕ → ℕ → ℕ → List ℕ → ℕ
-  clashNumber tr r l v ps =
-      inferenceNumber tr r l v ps (
+  unfoldable pub clashRefusal : Trail → ℕ → ℕ → ℕ → List ℕ → ℕ
+  clashRefusal tr r l v ps =
+      inferenceRefusal tr r l v ps (
       unless (assigned tr l (opposite v)) 16 0)
 
   unfoldable pub clash : Trail → ℕ → ℕ → ℕ → List ℕ → Answer
-  clash tr r l v ps = answer (clashNumber tr r l v ps) (clashed tr (clashSet l ps))
+  clash tr r l v ps = answer (clashRefusal tr r l v ps) (clashed tr (clashSet l ps))
 
   -- ---- steps of a conflict E
 
   -- resolve: a's justification, which holds no first-order decision at E's level, takes a's place in E
-  unfoldable pub resolveNumber : Trail → Set → ℕ → ℕ
-  resolveNumber tr E a =
+  unfoldable pub resolveRefusal : Trail → Set → ℕ → ℕ
+  resolveRefusal tr E a =
       unless (E a) 17 (
       unless (not (decidedAt tr a)) 18 (
       unless (not (holds tr (whyAt tr a) (firstOrder ts (levelOf tr E)))) 19 0))
 
   unfoldable pub resolve : Trail → Set → ℕ → Answer
-  resolve tr E a = answer (resolveNumber tr E a) (allowed (conflict tr (union (remove E a) (whyAt tr a))))
+  resolve tr E a = answer (resolveRefusal tr E a) (allowed (conflict tr (union (remove E a) (whyAt tr a))))
 
   -- clear: a first-order decision above the rest of E is undone, with all of its level and above
-  unfoldable pub clearNumber : Trail → Set → ℕ → ℕ
-  clearNumber tr E a =
+  unfoldable pub clearRefusal : Trail → Set → ℕ → ℕ
+  clearRefusal tr E a =
       unless (E a) 17 (
       unless (decidedAt tr a && not (prop ts a)) 20 (
       unless (ltb (levelOf tr (remove E a)) (levelAt tr a)) 21 0))
 
   unfoldable pub clear : Trail → Set → ℕ → Answer
-  clear tr E a = answer (clearNumber tr E a) (allowed (searching (keptTo (levelAt tr a - 1) tr)))
+  clear tr E a = answer (clearRefusal tr E a) (allowed (searching (keptTo (levelAt tr a - 1) tr)))
 
   -- jump: back to the level of the rest of E, which justifies the opposite of l
-  unfoldable pub jumpNumber : Trail → Set → ℕ → ℕ
-  jumpNumber tr E l =
+  unfoldable pub jumpRefusal : Trail → Set → ℕ → ℕ
+  jumpRefusal tr E l =
       unless (E l) 17 (
       unless (prop ts l) 22 (
       unless (ltb (levelOf tr (remove E l)) (levelAt tr l)) 21 0))
 
   unfoldable pub jump : Trail → Set → ℕ → Answer
-  jump tr E l = answer (jumpNumber tr E l) (allowed (searching (jumped tr (remove E l) l (levelOf tr (remove E l)))))
+  jump tr E l = answer (jumpRefusal tr E l) (allowed (searching (jumped tr (remove E l) l (levelOf tr (remove E l)))))
 
   -- flip: l and k share a first-order decision at E's level; below that level the opposite of l is decided
-  unfoldable pub flipNumber : Trail → Set → ℕ → ℕ → ℕ
-  flipNumber tr E l k =
+  unfoldable pub flipRefusal : Trail → Set → ℕ → ℕ → ℕ
+  flipRefusal tr E l k =
       unless (E l && E k) 17 (
       unless (prop ts l) 22 (
       unless (not (decidedAt tr l) && not (decidedAt tr k)) 18 (
       unless (not (eqb l k) && holds tr (intersection (whyAt tr l) (whyAt tr k)) (firstOrder ts (levelOf tr E))) 23 0)))
 
   unfoldable pub flip : Trail → Set → ℕ → ℕ → Answer
-  flip tr E l k = answer (flipNumber tr E l k) (allowed (searching (flipped tr l (levelOf tr E - 1))))
+  flip tr E l k = answer (flipRefusal tr E l k) (allowed (searching (flipped tr l (levelOf tr E - 1))))
 
   -- ---- a step
 
-  unfoldable pub rowNumber : State → Step → ℕ
-  rowNumber s x =
+  unfoldable pub rowRefusal : State → Step → ℕ
+  rowRefusal s x =
       unless (shaped x (kindOf (x .step))) 9 (
       unless (ready s (kindOf (x .step))) 10 (
       unless (known x) 11 0))
@@ -246,4 +246,4 @@ module _ (ts : List ℕ) where
   stepBy Unlisted s x = refused 9
 
   unfoldable pub step : State → Step → Answer
-  step s x = answer (rowNumber s x) (stepBy (kindOf (x .step)) s x)
+  step s x = answer (rowRefusal s x) (stepBy (kindOf (x .step)) s x)

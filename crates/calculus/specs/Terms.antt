@@ -8,7 +8,7 @@ use Rattle.calculus.specs.declared.Term.{Term}
 use Rattle.calculus.specs.declared.Head.{Head}
 use Rattle.calculus.specs.declared.Head.the-variants.{Equality, Negation, Conjunction, Disjunction, Select, Store, Free, Unlisted}
 use Rattle.calculus.specs.Lists.{all, below, eqList, firstWhere}
-use Rattle.calculus.specs.Numbers.{unless, firstNumber}
+use Rattle.calculus.specs.Numbers.{unless, firstRefusal}
 use Rattle.calculus.specs.Sheets.{blank, sortRows, termRows}
 use Rattle.calculus.specs.Sorts.{indexSort, valueSort, isArray}
 
@@ -155,11 +155,11 @@ fresh ts t = below t (λ u. not (twins ts t u))
 
 -- ---- the number of a row, and of the sheet
 
-unfoldable pub termNumber : List ℕ → List ℕ → ℕ → ℕ
-termNumber ss ts t =
+unfoldable pub termRefusal : List ℕ → List ℕ → ℕ → ℕ
+termRefusal ss ts t =
     unless (earlier ts t) 3 (
     unless (leftFilled (cells ts t) && suits ss ts t (headOf (head ts t))) 4 (
     unless (fresh ts t) 5 0))
 
-unfoldable pub termsNumber : List ℕ → List ℕ → ℕ
-termsNumber ss ts = firstNumber (termRows ts) (termNumber ss ts)
+unfoldable pub termsRefusal : List ℕ → List ℕ → ℕ
+termsRefusal ss ts = firstRefusal (termRows ts) (termRefusal ss ts)

@@ -6,7 +6,8 @@ pub struct Row(pub u16);
 // A sort: 0 is prop, and the rows of the sort sheet follow, counted from 1.
 pub struct Sort(pub u16);
 
-// A level of the trail: how many decisions it rests on.
+// A level of the trail (Definition 5 of the CADE 2017 paper): 0 for the input, 1 plus the greatest level before it for a decision, the greatest
+// in its justification for any other entry.
 pub struct Level(pub u64);
 
 // A row of the term sheet as it stands there: an argument is a row number or blank.

@@ -10,16 +10,16 @@ use Rattle.calculus.specs.declared.Check.{Check}
 use Rattle.calculus.specs.declared.Check.the-variants.{Passed, Refused}
 use Rattle.calculus.specs.declared.Outcome.{Outcome}
 use Rattle.calculus.specs.Numbers.{orElse, checkOf}
-use Rattle.calculus.specs.Sheets.{Call, termRows, inputRows, stepRows, lengthNumber}
-use Rattle.calculus.specs.Sorts.{sortsNumber}
-use Rattle.calculus.specs.Terms.{termsNumber}
+use Rattle.calculus.specs.Sheets.{Call, termRows, inputRows, stepRows, lengthRefusal}
+use Rattle.calculus.specs.Sorts.{sortsRefusal}
+use Rattle.calculus.specs.Terms.{termsRefusal}
 use Rattle.calculus.specs.Trail.{topLevel, trailNumbersOf}
-use Rattle.calculus.specs.Inputs.{inputTrail, inputNumber, inputsNumber}
+use Rattle.calculus.specs.Inputs.{inputTrail, inputRefusal, inputsRefusal}
 use Rattle.calculus.specs.Steps.{State, searching, trailOf}
-use Rattle.calculus.specs.Run.{Ending, run, sheetsNumber, callNumber, start, turnedAway, endingOf, ending, verdictNumber, outcomeOf, outcome, written, trailAfter, workAfter}
-use Rattle.calculus.specs.Reached.{Reached, ReachedState}
+use Rattle.calculus.specs.Run.{Ending, run, sheetsRefusal, callRefusal, start, turnedAway, endingOf, ending, verdictNumber, outcomeOf, outcome, written, trailAfter, workAfter}
+use Rattle.calculus.specs.WellFormed.{WellFormed, WellFormedState}
 use Rattle.calculus.proofs.Facts.{first-ok}
-use Rattle.calculus.proofs.Reached.{input-reached, top-length}
+use Rattle.calculus.proofs.WellFormed.{input-well-formed, top-length}
 use Rattle.sheets.proofs.Laws.{passed-zero}
 use Rattle.trail.specs.Words.{trailIn}
 use Rattle.trail.proofs.Abstract.{room}
@@ -27,7 +27,7 @@ use Rattle.trail.proofs.Laws.{trail-length}
 use Rattle.moves.specs.Post.{Stands}
 use Rattle.state.specs.declared.Status.{Status}
 use Rattle.state.specs.States.{stateIn, Standing}
-use Rattle.state.proofs.States.{in-search, trail-there, trail-reached}
+use Rattle.state.proofs.States.{in-search, trail-there, trail-well-formed}
 use Rattle.run.specs.declared.Ended.{Ended}
 use Rattle.run.specs.Ends.{Ends}
 
@@ -61,58 +61,58 @@ check-second a b e q h = h ∙ ap checkOf (sym (or-second a b (passed-zero a (sy
 
 module _ (x : Call) where
   abbrev sheets : ℕ
-  sheets = orElse (sortsNumber (x .sorts)) (termsNumber (x .sorts) (x .terms))
+  sheets = orElse (sortsRefusal (x .sorts)) (termsRefusal (x .sorts) (x .terms))
 
   abbrev input : ℕ
-  input = inputsNumber (x .terms) (x .inputs)
+  input = inputsRefusal (x .terms) (x .inputs)
 
-  pub lengths-number : (c : ℕ) → lengthNumber x ≡ c → (c ≡ 0 → ⊥) → callNumber x ≡ c
-  unfolding callNumber
-  lengths-number c e h = or-first (lengthNumber x) _ c e h
+  pub lengths-refusal : (c : ℕ) → lengthRefusal x ≡ c → (c ≡ 0 → ⊥) → callRefusal x ≡ c
+  unfolding callRefusal
+  lengths-refusal c e h = or-first (lengthRefusal x) _ c e h
 
   -- where the lengths are no trouble: sort and term rows, then the input
-  past-lengths : lengthNumber x ≡ 0 → callNumber x ≡ orElse sheets input
-  unfolding callNumber sheetsNumber
-  past-lengths z = or-second (lengthNumber x) _ z ∙ sym (first-two (sortsNumber (x .sorts)) (termsNumber (x .sorts) (x .terms)) input)
+  past-lengths : lengthRefusal x ≡ 0 → callRefusal x ≡ orElse sheets input
+  unfolding callRefusal sheetsRefusal
+  past-lengths z = or-second (lengthRefusal x) _ z ∙ sym (first-two (sortsRefusal (x .sorts)) (termsRefusal (x .sorts) (x .terms)) input)
 
-  pub sheets-number : (c : ℕ) → lengthNumber x ≡ 0 → sheets ≡ c → (c ≡ 0 → ⊥) → callNumber x ≡ c
-  sheets-number c z e h = past-lengths z ∙ or-first sheets input c e h
+  pub sheets-refusal : (c : ℕ) → lengthRefusal x ≡ 0 → sheets ≡ c → (c ≡ 0 → ⊥) → callRefusal x ≡ c
+  sheets-refusal c z e h = past-lengths z ∙ or-first sheets input c e h
 
-  pub input-number : (c : ℕ) → lengthNumber x ≡ 0 → sheets ≡ 0 → input ≡ c → callNumber x ≡ c
-  input-number c z s e = past-lengths z ∙ or-second sheets input s ∙ e
+  pub input-refusal : (c : ℕ) → lengthRefusal x ≡ 0 → sheets ≡ 0 → input ≡ c → callRefusal x ≡ c
+  input-refusal c z s e = past-lengths z ∙ or-second sheets input s ∙ e
 
   -- ---- the ending
 
-  pub away-outcome : (c : ℕ) → callNumber x ≡ c → (c ≡ 0 → ⊥) → outcomeOf (turnedAway c) ≡ outcome x
+  pub away-outcome : (c : ℕ) → callRefusal x ≡ c → (c ≡ 0 → ⊥) → outcomeOf (turnedAway c) ≡ outcome x
   unfolding outcome ending endingOf
   away-outcome zero e h = absurd (h refl)
   away-outcome (suc c) e h = sym (ap (λ m. outcomeOf (endingOf m x)) e)
 
-  pub away-trail : (c : ℕ) → callNumber x ≡ c → (c ≡ 0 → ⊥) → x .trail ≡ trailAfter x
+  pub away-trail : (c : ℕ) → callRefusal x ≡ c → (c ≡ 0 → ⊥) → x .trail ≡ trailAfter x
   unfolding trailAfter ending endingOf trailNumbersOf
   away-trail zero e h = absurd (h refl)
   away-trail (suc c) e h = sym (ap (λ m. written (trailNumbersOf (trailOf (endingOf m x .state))) (x .trail)) e)
 
-  pub run-ending : callNumber x ≡ 0 → ending x ≡ run (x .terms) (x .steps) (start x) 0 (stepRows (x .steps))
+  pub run-ending : callRefusal x ≡ 0 → ending x ≡ run (x .terms) (x .steps) (start x) 0 (stepRows (x .steps))
   unfolding ending endingOf
   run-ending e = ap (λ m. endingOf m x) e
 
-  pub work-kept : (c : ℕ) → lengthNumber x ≡ c → (c ≡ 0 → ⊥) → x .work ≡ workAfter x
+  pub work-kept : (c : ℕ) → lengthRefusal x ≡ c → (c ≡ 0 → ⊥) → x .work ≡ workAfter x
   unfolding workAfter
   work-kept zero e h = absurd (h refl)
   work-kept (suc c) e h = rw (e, eqb·suc-zero)
 
-  pub work-cleared : {ws : List ℕ} (k : ℕ) → lengthNumber x ≡ 0 → ws ≡ replicate k 0 → k ≡ length (x .work) → ws ≡ workAfter x
+  pub work-cleared : {ws : List ℕ} (k : ℕ) → lengthRefusal x ≡ 0 → ws ≡ replicate k 0 → k ≡ length (x .work) → ws ≡ workAfter x
   unfolding workAfter
   work-cleared k z e q = e ∙ ap (λ j. replicate j 0) q ∙ rw z
 
 -- ---- a run from the input's trail is the call's
 
-pub ran-outcome : (x : Call) (s : State) → callNumber x ≡ 0 → s ≡ start x → outcomeOf (run (x .terms) (x .steps) s 0 (stepRows (x .steps))) ≡ outcome x
+pub ran-outcome : (x : Call) (s : State) → callRefusal x ≡ 0 → s ≡ start x → outcomeOf (run (x .terms) (x .steps) s 0 (stepRows (x .steps))) ≡ outcome x
 unfolding outcome
 ran-outcome x s z e = ap (λ t. outcomeOf (run (x .terms) (x .steps) t 0 (stepRows (x .steps)))) e ∙ sym (ap outcomeOf (run-ending x z))
 
-pub ran-trail : (x : Call) (s : State) → callNumber x ≡ 0 → s ≡ start x
+pub ran-trail : (x : Call) (s : State) → callRefusal x ≡ 0 → s ≡ start x
     → written (trailNumbersOf (trailOf (run (x .terms) (x .steps) s 0 (stepRows (x .steps)) .state))) (x .trail) ≡ trailAfter x
 unfolding trailAfter
 ran-trail x s z e =
@@ -121,16 +121,16 @@ ran-trail x s z e =
 
 -- ---- where the run starts
 
-pub input-standing : (w n : ℕ) (ts is ws : List ℕ) → n ≡ termRows ts → inputsNumber ts is ≡ 0 → Stands w n ws (inputRows is) 0 (inputTrail is (inputRows is))
+pub input-standing : (w n : ℕ) (ts is ws : List ℕ) → n ≡ termRows ts → inputsRefusal ts is ≡ 0 → Stands w n ws (inputRows is) 0 (inputTrail is (inputRows is))
     → Standing w n ts ws (record { count = inputRows is; top = record { 0 = 0 }; conflict = false })
-unfolding ReachedState inputsNumber
+unfolding WellFormedState inputsRefusal
 input-standing w n ts is ws e z s =
-    let r : Reached (termRows ts) (inputTrail is (inputRows is)) = input-reached ts is (inputRows is) (λ k l. first-ok (inputRows is) (inputNumber ts is) k z l) in
+    let r : WellFormed (termRows ts) (inputTrail is (inputRows is)) = input-well-formed ts is (inputRows is) (λ k l. first-ok (inputRows is) (inputRefusal ts is) k z l) in
     record {
       held = record { rows = e; laid = s .laid; top = s .greatest ∙ ap topLevel (sym (s .trail)) };
-      reached =
-          subst (ReachedState n) (sym (in-search w n ws (record { count = inputRows is; top = record { 0 = 0 }; conflict = false }) refl))
-          (subst (Reached n) (sym (s .trail)) (subst (λ m. Reached m (inputTrail is (inputRows is))) (sym e) r));
+      wellFormed =
+          subst (WellFormedState n) (sym (in-search w n ws (record { count = inputRows is; top = record { 0 = 0 }; conflict = false }) refl))
+          (subst (WellFormed n) (sym (s .trail)) (subst (λ m. WellFormed m (inputTrail is (inputRows is))) (sym e) r));
     }
 
 -- the input's trail in the words is the state that the definition starts in
@@ -143,7 +143,7 @@ input-start w n is ws e = in-search w n ws _ refl ∙ ap searching e
 pub standing-small : (w n : ℕ) (ts ws : List ℕ) (st : Status) → Standing w n ts ws st → (st .count ≤ n) × (topLevel (trailIn w n ws (st .count)) ≤ n)
 standing-small w n ts ws st s =
     let d = s .held .laid in
-    let a = top-length (trailIn w n ws (st .count)) (trail-reached w n ws st (s .reached)) in
+    let a = top-length (trailIn w n ws (st .count)) (trail-well-formed w n ws st (s .wellFormed)) in
     let b = room n (trailIn w n ws (st .count)) (d .distinct) (d .below) in
     let c = trail-length w n ws (st .count) in
     (omega arith, omega arith)

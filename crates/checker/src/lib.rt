@@ -3,9 +3,9 @@ ghost use mathlib.Core.Path.{_≡_};
 ghost use Prim.Native.Nat.{_*_, _≤_};
 ghost use lib.ListN.{length};
 ghost use Rattle.calculus.specs.Numbers.{orElse, checkOf};
-ghost use Rattle.calculus.specs.Sheets.{setWords, stepRows, lengthNumber};
-ghost use Rattle.calculus.specs.Sorts.{sortsNumber};
-ghost use Rattle.calculus.specs.Terms.{termsNumber};
+ghost use Rattle.calculus.specs.Sheets.{setWords, stepRows, lengthRefusal};
+ghost use Rattle.calculus.specs.Sorts.{sortsRefusal};
+ghost use Rattle.calculus.specs.Terms.{termsRefusal};
 ghost use Rattle.calculus.specs.Trail.{trailNumbersOf};
 ghost use Rattle.calculus.specs.Steps.{trailOf};
 ghost use Rattle.calculus.specs.Run.{run, turnedAway, verdictNumber, outcomeOf, written};
@@ -51,7 +51,7 @@ fn turned_away(number: u16) -> Outcome
 // The sort rows, then the term rows.
 fn check_sheets(sorts: &[u16], terms: &[u16]) -> Check
     requires { ⌜ (length (now sorts) ≤ 64) × (length (now terms) ≤ mostNumbers) ⌝ }
-    ensures { λ r. ⌜ r ≡ checkOf (orElse (sortsNumber (now (sorts .entry))) (termsNumber (now (sorts .entry)) (now (terms .entry)))) ⌝ }
+    ensures { λ r. ⌜ r ≡ checkOf (orElse (sortsRefusal (now (sorts .entry))) (termsRefusal (now (sorts .entry)) (now (terms .entry)))) ⌝ }
 {
     let c = sheets::check_sorts(sorts);
     let Check::Passed = c else {
@@ -95,7 +95,7 @@ fn run_sheets(
     work: &mut [u64],
     trail: &mut [u16],
 ) -> Outcome
-    requires { ⌜ lengthNumber (callOf (now sorts) (now terms) (now inputs) (now steps) (now work) (now trail)) ≡ 0 ⌝ }
+    requires { ⌜ lengthRefusal (callOf (now sorts) (now terms) (now inputs) (now steps) (now work) (now trail)) ≡ 0 ⌝ }
     ensures { λ r. ⌜ Ran (callOf (now (sorts .entry)) (now (terms .entry)) (now (inputs .entry)) (now (steps .entry)) (now (work .entry)) (now (trail .entry))) r (now (trail .exit)) ⌝ }
 {
     let c = check_sheets(sorts, terms);

@@ -10,12 +10,12 @@ use borrow.Author.Tests.{not-false}
 use Rattle.calculus.specs.declared.Level.{Level}
 use Rattle.calculus.specs.Sheets.{termRows}
 use Rattle.calculus.specs.Trail.{Set, Trail, on, entry, decidedAt, whyAt, levelOf, topLevel, holds, firstOrder}
-use Rattle.calculus.specs.Reached.{Within, Reached}
+use Rattle.calculus.specs.WellFormed.{Within, WellFormed}
 use Rattle.calculus.specs.Steps as calculus
-use Rattle.calculus.specs.Steps.{answer, resolveNumber, clearNumber, jumpNumber, flipNumber}
+use Rattle.calculus.specs.Steps.{answer, resolveRefusal, clearRefusal, jumpRefusal, flipRefusal}
 use Rattle.calculus.proofs.Facts.{and-l, and-r, T-true, T-false, true-or-false, unless-ok}
 use Rattle.calculus.proofs.Entries.{level-ge, level-le}
-use Rattle.calculus.proofs.Reached.{newest, why-reached, shared-high, top-length}
+use Rattle.calculus.proofs.WellFormed.{newest, why-well-formed, shared-high, top-length}
 use Rattle.bitset.specs.Windows.{setAt}
 use Rattle.trail.specs.Words.{trailIn}
 use Rattle.trail.proofs.Laws.{why-in, trail-length, room-all}
@@ -27,7 +27,7 @@ use Rattle.state.specs.declared.Status.{Status}
 use Rattle.state.specs.declared.Answer.{Answer}
 use Rattle.state.specs.declared.Answer.the-variants.{Allowed, Refused}
 use Rattle.state.specs.States.{Held, Standing, Answers}
-use Rattle.state.proofs.States.{trail-reached, conflict-within, refused-by, passed-by}
+use Rattle.state.proofs.States.{trail-well-formed, conflict-within, refused-by, passed-by}
 use Rattle.state.proofs.Landed.{landed, opened}
 use Rattle.conflict_steps.specs.Conflicts.{Found, inSearch}
 
@@ -37,14 +37,14 @@ found w n ts ws st s e =
     record {
       rows = s .held .rows;
       laid = s .held .laid;
-      reached = trail-reached w n ws st (s .reached);
-      within = conflict-within w n ws st e (s .reached);
+      wellFormed = trail-well-formed w n ws st (s .wellFormed);
+      within = conflict-within w n ws st e (s .wellFormed);
     }
 
 -- ---- levels are small
 
 -- where an entry is justified the greatest level is below the trail's length
-pub top-less : {n : ℕ} (tr : Trail) (t : ℕ) → Reached n tr → on tr t ≡ true → decidedAt tr t ≡ false → topLevel tr < length tr
+pub top-less : {n : ℕ} (tr : Trail) (t : ℕ) → WellFormed n tr → on tr t ≡ true → decidedAt tr t ≡ false → topLevel tr < length tr
 unfolding levelOf on entry
 top-less [] t r o d = absurd (true-or-false o refl)
 top-less (x ∷ older) t r o d =
@@ -88,7 +88,7 @@ module _ (w n : ℕ) (ts ws : List ℕ) (count : ℕ) (f : Found w n ts ws count
 
     -- whose members stand on the trail
     pub why-within : Within (setAt ws (t * w) w) (trailIn w n ws count)
-    why-within u h = why-reached (trailIn w n ws count) t u (f .reached) (ap (λ (s : Set). s u) why-there ∙ h) .0
+    why-within u h = why-well-formed (trailIn w n ws count) t u (f .wellFormed) (ap (λ (s : Set). s u) why-there ∙ h) .0
 
     -- no first-order decision of any level in it: none of the conflict's
     pub unbarred : {b : Bool} → b ≡ holds (trailIn w n ws count) (setAt ws (t * w) w) (firstOrderAny ts) → b ≡ false
@@ -98,35 +98,35 @@ module _ (w n : ℕ) (ts ws : List ℕ) (count : ℕ) (f : Found w n ts ws count
     -- levels fit sixteen bits
     pub top-fits : topLevel (trailIn w n ws count) < 65536
     top-fits =
-        let h = top-less (trailIn w n ws count) t (f .reached) o d in
+        let h = top-less (trailIn w n ws count) t (f .wellFormed) o d in
         omega (arith, h, trail-length w n ws count, room-all w n ws count (f .laid), f .laid .wide, f .laid .narrow)
 
   -- ---- what a number 0 says
 
-  pub resolve-free : (a : ℕ) {k : ℕ} → k ≡ resolveNumber ts (trailIn w n ws count) (conflictIn w n ws) a → k ≡ 0
+  pub resolve-free : (a : ℕ) {k : ℕ} → k ≡ resolveRefusal ts (trailIn w n ws count) (conflictIn w n ws) a → k ≡ 0
       → (on (trailIn w n ws count) a ≡ true) × (decidedAt (trailIn w n ws count) a ≡ false)
-  unfolding resolveNumber
+  unfolding resolveRefusal
   resolve-free a e z =
       let p = unless-ok _ 17 _ (omega arith) (sym e ∙ z) in
       let q = unless-ok _ 18 _ (omega arith) (p .1) in
       (f .within a (T-true _ (p .0)), T-false _ (q .0))
 
-  pub clear-free : (a : ℕ) {k : ℕ} → k ≡ clearNumber ts (trailIn w n ws count) (conflictIn w n ws) a → k ≡ 0 → on (trailIn w n ws count) a ≡ true
-  unfolding clearNumber
+  pub clear-free : (a : ℕ) {k : ℕ} → k ≡ clearRefusal ts (trailIn w n ws count) (conflictIn w n ws) a → k ≡ 0 → on (trailIn w n ws count) a ≡ true
+  unfolding clearRefusal
   clear-free a e z = f .within a (T-true _ (unless-ok _ 17 _ (omega arith) (sym e ∙ z) .0))
 
-  pub jump-free : (l : ℕ) {k : ℕ} → l < n → k ≡ jumpNumber ts (trailIn w n ws count) (conflictIn w n ws) l → k ≡ 0
+  pub jump-free : (l : ℕ) {k : ℕ} → l < n → k ≡ jumpRefusal ts (trailIn w n ws count) (conflictIn w n ws) l → k ≡ 0
       → Above w n ws count l (restLevel w n ws count l)
-  unfolding jumpNumber
+  unfolding jumpRefusal
   jump-free l h e z =
       let p = unless-ok _ 17 _ (omega arith) (sym e ∙ z) in
       let q = unless-ok _ 22 _ (omega arith) (p .1) in
       let r = unless-ok _ 21 _ (omega arith) (q .1) in
-      record { laid = f .laid; reached = f .reached; row = h; within = f .within; member = T-true _ (p .0); above = ltb→lt _ _ (r .0) }
+      record { laid = f .laid; wellFormed = f .wellFormed; row = h; within = f .within; member = T-true _ (p .0); above = ltb→lt _ _ (r .0) }
 
-  pub flip-free : (l j : ℕ) {k : ℕ} → l < n → k ≡ flipNumber ts (trailIn w n ws count) (conflictIn w n ws) l j → k ≡ 0
+  pub flip-free : (l j : ℕ) {k : ℕ} → l < n → k ≡ flipRefusal ts (trailIn w n ws count) (conflictIn w n ws) l j → k ≡ 0
       → Above w n ws count l (lowerLevel w n ws count) × (topLevel (trailIn w n ws count) < 65536)
-  unfolding flipNumber
+  unfolding flipRefusal
   flip-free l j h e z =
       let p = unless-ok _ 17 _ (omega arith) (sym e ∙ z) in
       let q = unless-ok _ 22 _ (omega arith) (p .1) in
@@ -134,9 +134,9 @@ module _ (w n : ℕ) (ts ws : List ℕ) (count : ℕ) (f : Found w n ts ws count
       let s = unless-ok _ 23 _ (omega arith) (r .1) in
       let m : conflictIn w n ws l ≡ true = T-true _ (and-l (conflictIn w n ws l) _ (p .0)) in
       let d : decidedAt (trailIn w n ws count) l ≡ false = T-false _ (and-l (not (decidedAt (trailIn w n ws count) l)) _ (r .0)) in
-      let i : Reached (termRows ts) (trailIn w n ws count) = subst (λ (x : ℕ). Reached x (trailIn w n ws count)) (f .rows) (f .reached) in
+      let i : WellFormed (termRows ts) (trailIn w n ws count) = subst (λ (x : ℕ). WellFormed x (trailIn w n ws count)) (f .rows) (f .wellFormed) in
       let y = shared-high ts (trailIn w n ws count) (conflictIn w n ws) i (f .within) l j _ (and-r (not (eqb l j)) _ (s .0)) in (
-        record { laid = f .laid; reached = f .reached; row = h; within = f .within; member = m; above = omega (arith, y .0, y .1) },
+        record { laid = f .laid; wellFormed = f .wellFormed; row = h; within = f .within; member = m; above = omega (arith, y .0, y .1) },
         top-fits l h (f .within l m) d,
       )
 

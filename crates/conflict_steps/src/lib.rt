@@ -6,7 +6,7 @@ ghost use lib.Dec.{ltb};
 ghost use lib.ListN.{length};
 ghost use Rattle.calculus.specs.Trail.{remove, intersection, on, decidedAt, levelAt, whyAt, levelOf, holds, firstOrder};
 ghost use Rattle.calculus.specs.Steps as calculus;
-ghost use Rattle.calculus.specs.Steps.{resolveNumber, clearNumber, jumpNumber, flipNumber};
+ghost use Rattle.calculus.specs.Steps.{resolveRefusal, clearRefusal, jumpRefusal, flipRefusal};
 ghost use Rattle.trail.specs.Words as words;
 ghost use Rattle.trail.specs.Words.{trailIn};
 ghost use Rattle.moves.specs.Post.{conflictIn};
@@ -115,9 +115,9 @@ fn share(
 // ---- the numbers
 
 // Numbers 17, 18, 19.
-fn resolve_number(terms: &[u16], work: &[u64], w: usize, n: usize, count: usize, a: Row) -> u16
+fn resolve_refusal(terms: &[u16], work: &[u64], w: usize, n: usize, count: usize, a: Row) -> u16
     requires { ⌜ Found w n (now terms) (now work) count × (a .0 < n) ⌝ }
-    ensures { λ r. ⌜ r ≡ resolveNumber (now (terms .entry)) (trailIn w n (now (work .entry)) count) (conflictIn w n (now (work .entry))) (a .0) ⌝ }
+    ensures { λ r. ⌜ r ≡ resolveRefusal (now (terms .entry)) (trailIn w n (now (work .entry)) count) (conflictIn w n (now (work .entry))) (a .0) ⌝ }
 {
     if !in_conflict(terms, work, w, n, count, a) {
         return 17;
@@ -132,9 +132,9 @@ fn resolve_number(terms: &[u16], work: &[u64], w: usize, n: usize, count: usize,
 }
 
 // Numbers 17, 20, 21.
-fn clear_number(terms: &[u16], work: &[u64], w: usize, n: usize, count: usize, a: Row) -> u16
+fn clear_refusal(terms: &[u16], work: &[u64], w: usize, n: usize, count: usize, a: Row) -> u16
     requires { ⌜ Found w n (now terms) (now work) count × (a .0 < n) ⌝ }
-    ensures { λ r. ⌜ r ≡ clearNumber (now (terms .entry)) (trailIn w n (now (work .entry)) count) (conflictIn w n (now (work .entry))) (a .0) ⌝ }
+    ensures { λ r. ⌜ r ≡ clearRefusal (now (terms .entry)) (trailIn w n (now (work .entry)) count) (conflictIn w n (now (work .entry))) (a .0) ⌝ }
 {
     if !in_conflict(terms, work, w, n, count, a) {
         return 17;
@@ -152,7 +152,7 @@ fn clear_number(terms: &[u16], work: &[u64], w: usize, n: usize, count: usize, a
 }
 
 // Numbers 17, 22, 21; m is the level of the rest of the conflict.
-fn jump_number(
+fn jump_refusal(
     terms: &[u16],
     work: &[u64],
     w: usize,
@@ -162,7 +162,7 @@ fn jump_number(
     m: Level,
 ) -> u16
     requires { ⌜ Found w n (now terms) (now work) count × (l .0 < n) × (m .0 ≡ levelOf (trailIn w n (now work) count) (remove (conflictIn w n (now work)) (l .0))) ⌝ }
-    ensures { λ r. ⌜ r ≡ jumpNumber (now (terms .entry)) (trailIn w n (now (work .entry)) count) (conflictIn w n (now (work .entry))) (l .0) ⌝ }
+    ensures { λ r. ⌜ r ≡ jumpRefusal (now (terms .entry)) (trailIn w n (now (work .entry)) count) (conflictIn w n (now (work .entry))) (l .0) ⌝ }
 {
     if !in_conflict(terms, work, w, n, count, l) {
         return 17;
@@ -177,7 +177,7 @@ fn jump_number(
 }
 
 // Numbers 17, 22, 18, 23; m is the level of the conflict.
-fn flip_number(
+fn flip_refusal(
     terms: &[u16],
     work: &[u64],
     w: usize,
@@ -188,7 +188,7 @@ fn flip_number(
     m: Level,
 ) -> u16
     requires { ⌜ Found w n (now terms) (now work) count × (l .0 < n) × (k .0 < n) × (m .0 ≡ levelOf (trailIn w n (now work) count) (conflictIn w n (now work))) ⌝ }
-    ensures { λ r. ⌜ r ≡ flipNumber (now (terms .entry)) (trailIn w n (now (work .entry)) count) (conflictIn w n (now (work .entry))) (l .0) (k .0) ⌝ }
+    ensures { λ r. ⌜ r ≡ flipRefusal (now (terms .entry)) (trailIn w n (now (work .entry)) count) (conflictIn w n (now (work .entry))) (l .0) (k .0) ⌝ }
 {
     if !in_conflict(terms, work, w, n, count, l) {
         return 17;
@@ -234,7 +234,7 @@ pub fn resolve(terms: &[u16], work: &mut [u64], w: usize, n: usize, st: Status, 
     ensures { λ r. ⌜ Answers w n (now (terms .entry)) (now (work .entry)) (now (work .exit)) (calculus.resolve (now (terms .entry)) (trailIn w n (now (work .entry)) (st .count)) (conflictIn w n (now (work .entry))) (a .0)) r ⌝ }
 {
     let count = st.count;
-    let c = resolve_number(terms, work, w, n, count, a);
+    let c = resolve_refusal(terms, work, w, n, count, a);
     if c != 0 {
         return Answer::Refused(c);
     }
@@ -253,7 +253,7 @@ pub fn clear(terms: &[u16], work: &mut [u64], w: usize, n: usize, st: Status, a:
     ensures { λ r. ⌜ Answers w n (now (terms .entry)) (now (work .entry)) (now (work .exit)) (calculus.clear (now (terms .entry)) (trailIn w n (now (work .entry)) (st .count)) (conflictIn w n (now (work .entry))) (a .0)) r ⌝ }
 {
     let count = st.count;
-    let c = clear_number(terms, work, w, n, count, a);
+    let c = clear_refusal(terms, work, w, n, count, a);
     if c != 0 {
         return Answer::Refused(c);
     }
@@ -267,7 +267,7 @@ pub fn jump(terms: &[u16], work: &mut [u64], w: usize, n: usize, st: Status, l: 
 {
     let count = st.count;
     let m = rest_level(terms, work, w, n, count, l);
-    let c = jump_number(terms, work, w, n, count, l, m);
+    let c = jump_refusal(terms, work, w, n, count, l, m);
     if c != 0 {
         return Answer::Refused(c);
     }
@@ -289,7 +289,7 @@ pub fn flip(
 {
     let count = st.count;
     let m = conflict_level(terms, work, w, n, count);
-    let c = flip_number(terms, work, w, n, count, l, k, m);
+    let c = flip_refusal(terms, work, w, n, count, l, k, m);
     if c != 0 {
         return Answer::Refused(c);
     }

@@ -14,16 +14,16 @@ use Rattle.calculus.specs.Sheets.{blank, termRows}
 use Rattle.calculus.specs.Terms.{sort, leftFilled}
 use Rattle.calculus.specs.Trail.{Set, Trail, Entry, everything, remove, union, intersection, entry, valueAt, levelAt, decidedAt, whyAt, premisesAt, holds, firstOrder, levelOf, keptTo}
 use Rattle.calculus.specs.Rules.{rowOf, ruleOf}
-use Rattle.calculus.specs.Reached.{Within, Reached, ReachedState}
+use Rattle.calculus.specs.WellFormed.{Within, WellFormed, WellFormedState}
 use Rattle.calculus.specs.Steps as steps
-use Rattle.calculus.specs.Steps.{State, searching, conflict, Answer, allowed, refuted, refused, answer, premiseCells, premises, kindOf, isBlank, isFilled, inferenceShaped, conflictShaped, shaped, ready, known, clashed, inferenceNumber, rowNumber, stepBy, step}
+use Rattle.calculus.specs.Steps.{State, searching, conflict, Answer, allowed, refuted, refused, answer, premiseCells, premises, kindOf, isBlank, isFilled, inferenceShaped, conflictShaped, shaped, ready, known, clashed, inferenceRefusal, rowRefusal, stepBy, step}
 use Rattle.calculus.proofs.Facts.{and-l, and-r, T-true, T-false, true-T, neq, facts, unless-ok}
 use Rattle.calculus.proofs.Entries.{entry-in, level-kept, holds-at}
-use Rattle.calculus.proofs.Reached.{decided-high}
+use Rattle.calculus.proofs.WellFormed.{decided-high}
 use Rattle.figure.specs.Inferences.{Opposite, oppositeOfTrue, oppositeOfFalse}
 use Rattle.figure.specs.Transitions.{_∈_, Boolean, Suits, Assigned, justifiedAt, Level, Inferred, Action, decide, deduce, clash, resolve, clear, jump, flip, Result, next, unsat, Transition, Decide, Deduce, Fail, Conflict, Resolve, Undo, Backjump, UndoDecide}
 use Rattle.figure.specs.Spelling.{Filled, Blank, FromLeft, noColumn, blankColumn, filledColumn, Columns, Spells}
-use Rattle.figure.specs.Faithful.{answerOf, Reachable}
+use Rattle.figure.specs.Faithful.{answerOf, Coherent}
 use Rattle.calculus.proofs.WellSorted.{WellSorted}
 use Rattle.figure.proofs.Rules.{Known, Truths, fits-infers}
 use Rattle.figure.proofs.Trails.{level-is, restricted-is, off-is, below-row, entry-of, assigned-is, one-value, premises-rows, premises-is, first-order-is, first-order-of, holds-of}
@@ -59,11 +59,11 @@ module _ (ts : List ℕ) where
   refute (next u) e t = absurd (let z : _≡_ {A = ℕ} 0 1 = cc in omega arith)
   refute unsat e t = t
 
-  module _ {ss : List ℕ} (W : WellSorted ss ts) {tr : Trail} (R : Reached (termRows ts) tr) (N : (e : Entry) → e ∈ tr → Suits ts (e .term) (e .value)) (r : Result) where
+  module _ {ss : List ℕ} (W : WellSorted ss ts) {tr : Trail} (R : WellFormed (termRows ts) tr) (N : (e : Entry) → e ∈ tr → Suits ts (e .term) (e .value)) (r : Result) where
     -- ---- search rules
 
     decide-back : (t v : ℕ) → t < termRows ts → steps.decide ts tr t v ≡ answerOf r → Transition ts (searching tr) (decide t v) r
-    unfolding steps.decide steps.decideNumber
+    unfolding steps.decide steps.decideRefusal
     decide-back t v l h =
         let a = answer-ok _ _ r h in
         let b = unless-ok _ 22 _ (omega arith) (a .0) in
@@ -72,9 +72,9 @@ module _ (ts : List ℕ) where
         settle _ r (a .1) (Decide l (value-suits ts t v (b .0)) (search) (level-is tr everything))
 
     -- a rule's guards
-    inferred-is : (n l v : ℕ) (ps : List ℕ) (rest : ℕ) → l < termRows ts → v ≤ 1 → inferenceNumber ts tr n l v ps rest ≡ 0
+    inferred-is : (n l v : ℕ) (ps : List ℕ) (rest : ℕ) → l < termRows ts → v ≤ 1 → inferenceRefusal ts tr n l v ps rest ≡ 0
         → (¬ Assigned tr l v → Inferred ts tr (ruleOf n) (premisesAt tr ps) l v (opposite v)) × (rest ≡ 0)
-    unfolding inferenceNumber
+    unfolding inferenceRefusal
     inferred-is n l v ps rest k small h =
         let a = unless-ok _ 22 _ (omega arith) h in
         let b = unless-ok _ 12 _ (omega arith) (a .1) in
@@ -94,7 +94,7 @@ module _ (ts : List ℕ) where
         )
 
     deduce-back : (n l v : ℕ) (ps : List ℕ) → l < termRows ts → v ≤ 1 → steps.deduce ts tr n l v ps ≡ answerOf r → Transition ts (searching tr) (deduce (ruleOf n) l v ps) r
-    unfolding steps.deduce steps.deduceNumber
+    unfolding steps.deduce steps.deduceRefusal
     deduce-back n l v ps k small h =
         let a = answer-ok _ _ r h in
         let b = inferred-is n l v ps _ k small (a .0) in
@@ -106,7 +106,7 @@ module _ (ts : List ℕ) where
         (Deduce k (b .0 (λ y. off (y .0) (y .1) (y .2))) (λ y. off (y .0) (y .1) (y .2)) (level-is tr (has (map rowOf (premisesAt tr ps))))))
 
     clash-back : (n l v : ℕ) (ps : List ℕ) → l < termRows ts → v ≤ 1 → steps.clash ts tr n l v ps ≡ answerOf r → Transition ts (searching tr) (clash (ruleOf n) l v ps) r
-    unfolding steps.clash steps.clashNumber clashed
+    unfolding steps.clash steps.clashRefusal clashed
     clash-back n l v ps k small h =
         let a = answer-ok _ _ r h in
         let b = inferred-is n l v ps _ k small (a .0) in
@@ -132,7 +132,7 @@ module _ (ts : List ℕ) where
 
     module _ (E : Set) where
       resolve-back : (a : Entry) → a ∈ tr → steps.resolve ts tr E (a .term) ≡ answerOf r → Transition ts (conflict tr E) (resolve (a .term)) r
-      unfolding steps.resolve steps.resolveNumber
+      unfolding steps.resolve steps.resolveRefusal
       resolve-back a m h =
           let q = entry-of R a m in
           let d : decidedAt tr (a .term) ≡ a .decided = ap (λ (y : Entry). y .decided) q in
@@ -148,7 +148,7 @@ module _ (ts : List ℕ) where
           (holds-of tr (whyAt tr (a .term)) (firstOrder ts (levelOf tr E)) x (g .0, ap (λ (H : Set). H (x .term)) w ∙ g .1) (first-order-of ts (levelOf tr E) x o l)))))
 
       clear-back : (a : Entry) → a ∈ tr → steps.clear ts tr E (a .term) ≡ answerOf r → Transition ts (conflict tr E) (clear (a .term)) r
-      unfolding steps.clear steps.clearNumber
+      unfolding steps.clear steps.clearRefusal
       clear-back a m h =
           let q = entry-of R a m in
           let d : decidedAt tr (a .term) ≡ a .decided = ap (λ (y : Entry). y .decided) q in
@@ -164,7 +164,7 @@ module _ (ts : List ℕ) where
           (omega arith) (level-is tr (remove E (a .term))) (omega arith) (restricted-is (levelAt tr (a .term) - 1) tr))
 
       jump-back : (l : Entry) → l ∈ tr → steps.jump ts tr E (l .term) ≡ answerOf r → Transition ts (conflict tr E) (jump (l .term)) r
-      unfolding steps.jump steps.jumpNumber
+      unfolding steps.jump steps.jumpRefusal
       jump-back l m h =
           let S = remove E (l .term) in
           let q = entry-of R l m in
@@ -184,7 +184,7 @@ module _ (ts : List ℕ) where
           (level-is tr S) (omega arith) (restricted-is (levelOf tr S) tr)))
 
       flip-back : (l k : Entry) → l ∈ tr → k ∈ tr → steps.flip ts tr E (l .term) (k .term) ≡ answerOf r → Transition ts (conflict tr E) (flip (l .term) (k .term)) r
-      unfolding steps.flip steps.flipNumber
+      unfolding steps.flip steps.flipRefusal
       flip-back l k ml mk h =
           let ql = entry-of R l ml in
           let qk = entry-of R k mk in
@@ -220,25 +220,25 @@ module _ (ts : List ℕ) where
         at-entry P l m f = let y = entry-in tr l (true-T _ (I l m)) in subst P (y .1) (f (entry tr l) (y .0))
 
         resolve-at : (l : ℕ) → steps.resolve ts tr E l ≡ answerOf r → Transition ts (conflict tr E) (resolve l) r
-        unfolding steps.resolve steps.resolveNumber
+        unfolding steps.resolve steps.resolveRefusal
         resolve-at l h =
             let c = unless-ok _ 17 _ (omega arith) (answer-ok _ _ r h .0) in
             at-entry (λ t. steps.resolve ts tr E t ≡ answerOf r → Transition ts (conflict tr E) (resolve t) r) l (T-true _ (c .0)) resolve-back h
 
         clear-at : (l : ℕ) → steps.clear ts tr E l ≡ answerOf r → Transition ts (conflict tr E) (clear l) r
-        unfolding steps.clear steps.clearNumber
+        unfolding steps.clear steps.clearRefusal
         clear-at l h =
             let c = unless-ok _ 17 _ (omega arith) (answer-ok _ _ r h .0) in
             at-entry (λ t. steps.clear ts tr E t ≡ answerOf r → Transition ts (conflict tr E) (clear t) r) l (T-true _ (c .0)) clear-back h
 
         jump-at : (l : ℕ) → steps.jump ts tr E l ≡ answerOf r → Transition ts (conflict tr E) (jump l) r
-        unfolding steps.jump steps.jumpNumber
+        unfolding steps.jump steps.jumpRefusal
         jump-at l h =
             let c = unless-ok _ 17 _ (omega arith) (answer-ok _ _ r h .0) in
             at-entry (λ t. steps.jump ts tr E t ≡ answerOf r → Transition ts (conflict tr E) (jump t) r) l (T-true _ (c .0)) jump-back h
 
         flip-at : (l k : ℕ) → steps.flip ts tr E l k ≡ answerOf r → Transition ts (conflict tr E) (flip l k) r
-        unfolding steps.flip steps.flipNumber
+        unfolding steps.flip steps.flipRefusal
         flip-at l k h =
             let c = unless-ok _ 17 _ (omega arith) (answer-ok _ _ r h .0) in
             at-entry (λ t. steps.flip ts tr E t k ≡ answerOf r → Transition ts (conflict tr E) (flip t k) r) l (T-true _ (and-l (E l) _ (c .0)))
@@ -304,41 +304,41 @@ module _ (ts : List ℕ) {ss : List ℕ} (W : WellSorted ss ts) (x : Step) (r : 
   abbrev Spelled : State → Type 0
   Spelled s = (a : Action) × Spells x a × Transition ts s a r
 
-  by-kind : (k : Kind) (s : State) → kindOf (x .step) ≡ k → Reachable ts s → T (shaped x k) → T (ready s k) → x .term < termRows ts → stepBy ts k s x ≡ answerOf r → Spelled s
-  unfolding ReachedState shaped ready stepBy
+  by-kind : (k : Kind) (s : State) → kindOf (x .step) ≡ k → Coherent ts s → T (shaped x k) → T (ready s k) → x .term < termRows ts → stepBy ts k s x ≡ answerOf r → Spelled s
+  unfolding WellFormedState shaped ready stepBy
   by-kind kinds.Decide (searching tr) e h p g l z =
-      (decide (x .term) (x .value), decision-spelled x e p, decide-back ts W (h .reached) (h .truths) r (x .term) (x .value) l z)
+      (decide (x .term) (x .value), decision-spelled x e p, decide-back ts W (h .wellFormed) (h .truths) r (x .term) (x .value) l z)
   by-kind kinds.Decide (conflict tr E) e h p g l z = absurd g
   by-kind kinds.Deduce (searching tr) e h p g l z =
       let i = inference-spelled x kinds.Deduce e p in (
         deduce (ruleOf (x .rule)) (x .term) (x .value) (premises x),
         (i .cols, refl, i .full),
-        deduce-back ts W (h .reached) (h .truths) r (x .rule) (x .term) (x .value) (premises x) l (i .small) z,
+        deduce-back ts W (h .wellFormed) (h .truths) r (x .rule) (x .term) (x .value) (premises x) l (i .small) z,
       )
   by-kind kinds.Deduce (conflict tr E) e h p g l z = absurd g
   by-kind kinds.Clash (searching tr) e h p g l z =
       let i = inference-spelled x kinds.Clash e p in (
         clash (ruleOf (x .rule)) (x .term) (x .value) (premises x),
         (i .cols, refl, i .full),
-        clash-back ts W (h .reached) (h .truths) r (x .rule) (x .term) (x .value) (premises x) l (i .small) z,
+        clash-back ts W (h .wellFormed) (h .truths) r (x .rule) (x .term) (x .value) (premises x) l (i .small) z,
       )
   by-kind kinds.Clash (conflict tr E) e h p g l z = absurd g
   by-kind kinds.Resolve (searching tr) e h p g l z = absurd g
   by-kind kinds.Resolve (conflict tr E) e h p g l z =
-      (resolve (x .term), alone-spelled x kinds.Resolve e p, resolve-at ts W (h .reached .0) (h .truths) r E (h .reached .1) (x .term) z)
+      (resolve (x .term), alone-spelled x kinds.Resolve e p, resolve-at ts W (h .wellFormed .0) (h .truths) r E (h .wellFormed .1) (x .term) z)
   by-kind kinds.Clear (searching tr) e h p g l z = absurd g
   by-kind kinds.Clear (conflict tr E) e h p g l z =
-      (clear (x .term), alone-spelled x kinds.Clear e p, clear-at ts W (h .reached .0) (h .truths) r E (h .reached .1) (x .term) z)
+      (clear (x .term), alone-spelled x kinds.Clear e p, clear-at ts W (h .wellFormed .0) (h .truths) r E (h .wellFormed .1) (x .term) z)
   by-kind kinds.Jump (searching tr) e h p g l z = absurd g
   by-kind kinds.Jump (conflict tr E) e h p g l z =
-      (jump (x .term), alone-spelled x kinds.Jump e p, jump-at ts W (h .reached .0) (h .truths) r E (h .reached .1) (x .term) z)
+      (jump (x .term), alone-spelled x kinds.Jump e p, jump-at ts W (h .wellFormed .0) (h .truths) r E (h .wellFormed .1) (x .term) z)
   by-kind kinds.Flip (searching tr) e h p g l z = absurd g
   by-kind kinds.Flip (conflict tr E) e h p g l z =
-      (flip (x .term) (x .p), pair-spelled x kinds.Flip e p, flip-at ts W (h .reached .0) (h .truths) r E (h .reached .1) (x .term) (x .p) z)
+      (flip (x .term) (x .p), pair-spelled x kinds.Flip e p, flip-at ts W (h .wellFormed .0) (h .truths) r E (h .wellFormed .1) (x .term) (x .p) z)
   by-kind kinds.Unlisted s e h p g l z = absurd p
 
-  pub back : (s : State) → Reachable ts s → step ts s x ≡ answerOf r → Spelled s
-  unfolding step rowNumber known
+  pub back : (s : State) → Coherent ts s → step ts s x ≡ answerOf r → Spelled s
+  unfolding step rowRefusal known
   back s h e =
       let a = answer-ok _ _ r e in
       let b = unless-ok _ 9 _ (omega arith) (a .0) in

@@ -18,15 +18,15 @@ use Rattle.calculus.specs.Terms.{prop, sort}
 use Rattle.calculus.specs.Trail.{Set, Trail, Entry, everything, remove, union, intersection, valueAt, levelAt, decidedAt, whyAt, assigned, holds, firstOrder, levelOf, topLevel, keptTo}
 use Rattle.calculus.specs.Inputs.{valueSuits}
 use Rattle.calculus.specs.Rules.{rowOf, ruleOf, ruleListed, fits}
-use Rattle.calculus.specs.Reached.{Reached, ReachedState}
+use Rattle.calculus.specs.WellFormed.{WellFormed, WellFormedState}
 use Rattle.calculus.specs.Steps as steps
-use Rattle.calculus.specs.Steps.{State, searching, conflict, Answer, allowed, refuted, answer, premiseCells, premises, kindOf, isBlank, isFilled, inferenceShaped, conflictShaped, shaped, ready, known, clashed, inferenceNumber, rowNumber, stepBy, step}
+use Rattle.calculus.specs.Steps.{State, searching, conflict, Answer, allowed, refuted, answer, premiseCells, premises, kindOf, isBlank, isFilled, inferenceShaped, conflictShaped, shaped, ready, known, clashed, inferenceRefusal, rowRefusal, stepBy, step}
 use Rattle.calculus.proofs.Facts.{and-l, and-r, and-both, T-true, T-false, true-T, false-T, all-of, facts}
 use Rattle.calculus.proofs.Entries.{level-kept, holds-at}
 use Rattle.figure.specs.Inferences.{Opposite, oppositeOfTrue, oppositeOfFalse}
 use Rattle.figure.specs.Transitions.{_∈_, Boolean, Suits, Among, Assigned, Absent, FirstOrder, decisionAt, justifiedAt, Level, Restricted, Inferred, Action, Result, Transition, Decide, Deduce, Fail, Conflict, Resolve, Undo, Backjump, UndoDecide}
 use Rattle.figure.specs.Spelling.{Filled, Blank, FromLeft, filledColumn, Columns, Spells}
-use Rattle.figure.specs.Faithful.{answerOf, Reachable}
+use Rattle.figure.specs.Faithful.{answerOf, Coherent}
 use Rattle.figure.proofs.Rows.{eqb-of, neqb-of}
 use Rattle.figure.proofs.Rules.{opposite-sum, infers-fits, infers-listed}
 use Rattle.figure.proofs.Trails.{level-of, restricted-of, off-of, below-row, entry-of, assigned-of, assigned-is, premises-of, first-order-is, first-order-of, holds-of}
@@ -93,7 +93,7 @@ module _ (ts : List ℕ) where
   -- ---- a row whose shape, state and rows are right is answered by its step
 
   step-of : (s : State) (x : Step) (k : Kind) → kindOf (x .step) ≡ k → T (shaped x k) → T (ready s k) → T (known ts x) → step ts s x ≡ stepBy ts k s x
-  unfolding step rowNumber
+  unfolding step rowRefusal
   step-of s x k e a b c =
       answer-of _ _
       (unless-of _ 9 _ (subst (λ (j : Kind). T (shaped x j)) (sym e) a)
@@ -107,12 +107,12 @@ module _ (ts : List ℕ) where
       and-both (ltb (x .term) (termRows ts)) _ (lt→ltb _ _ (subst (λ t. t < termRows ts) (sym (c .subject .0)) l))
       (subst (λ qs. T (all (λ p. ltb p (termRows ts)) qs)) (sym (premises-as c)) (all-of (λ p. ltb p (termRows ts)) ps (λ p m. lt→ltb _ _ (f p m))))
 
-  module _ {tr : Trail} (R : Reached (termRows ts) tr) (N : (e : Entry) → e ∈ tr → Suits ts (e .term) (e .value)) where
+  module _ {tr : Trail} (R : WellFormed (termRows ts) tr) (N : (e : Entry) → e ∈ tr → Suits ts (e .term) (e .value)) where
     -- ---- search rules
 
     decide-answer : {t v m : ℕ} → Suits ts t v → Absent tr t → Level tr everything m
         → steps.decide ts tr t v ≡ allowed (searching (decisionAt t v (1 + m) ∷ tr))
-    unfolding steps.decide steps.decideNumber
+    unfolding steps.decide steps.decideRefusal
     decide-answer {t} {v} s a l =
         answer-of _ _ (unless-of _ 22 _ (suits s) (unless-of _ 14 _ (off-of tr t a) refl))
         ∙ (λ i. allowed (searching (decisionAt t v (1 + level-of l i) ∷ tr)))
@@ -126,8 +126,8 @@ module _ (ts : List ℕ) where
 
     -- a rule's guards
     inference-of : {r : Rule} {J : List Premise} {l v w : ℕ} (n rest : ℕ) → Inferred ts tr r J l v w → ruleOf n ≡ r → rest ≡ 0
-        → inferenceNumber ts tr n l v (map rowOf J) rest ≡ 0
-    unfolding inferenceNumber
+        → inferenceRefusal ts tr n l v (map rowOf J) rest ≡ 0
+    unfolding inferenceRefusal
     inference-of {r} {J = ps} {l} {v} n rest i e z =
         let p = premises-of R ps (i .onTrail) in
         unless-of _ 22 _ (eqb-of (i .boolean))
@@ -144,7 +144,7 @@ module _ (ts : List ℕ) where
 
     deduce-answer : {r : Rule} {J : List Premise} {l v w m : ℕ} (n : ℕ) → Inferred ts tr r J l v w → ruleOf n ≡ r → ¬ Assigned tr l w → Level tr (has (map rowOf J)) m
         → steps.deduce ts tr n l v (map rowOf J) ≡ allowed (searching (justifiedAt l v m (has (map rowOf J)) ∷ tr))
-    unfolding steps.deduce steps.deduceNumber
+    unfolding steps.deduce steps.deduceRefusal
     deduce-answer {J = ps} {l} {v} n i e o z =
         answer-of _ _
         (inference-of n _ i e
@@ -154,7 +154,7 @@ module _ (ts : List ℕ) where
 
     clash-answer : {r : Rule} {J : List Premise} {l v w : ℕ} (n : ℕ) → Inferred ts tr r J l v w → ruleOf n ≡ r → Assigned tr l w
         → steps.clash ts tr n l v (map rowOf J) ≡ clashed tr (has (l ∷ map rowOf J))
-    unfolding steps.clash steps.clashNumber
+    unfolding steps.clash steps.clashRefusal
     clash-answer {l = l} {v} {w} n i e a =
         answer-of _ _
         (inference-of n _ i e (unless-of _ 16 _ (subst (λ u. T (assigned tr l u)) (sym (opposite-is (i .other))) (assigned-of R l w a)) refl))
@@ -172,7 +172,7 @@ module _ (ts : List ℕ) where
     module _ (E : Set) where
       resolve-answer : {a : Entry} {m : ℕ} → Among tr E a → a .decided ≡ false → Level tr E m → ((d : Entry) → Among tr (a .why) d → FirstOrder ts d → d .level ≢ m)
           → steps.resolve ts tr E (a .term) ≡ allowed (conflict tr (union (remove E (a .term)) (a .why)))
-      unfolding steps.resolve steps.resolveNumber
+      unfolding steps.resolve steps.resolveRefusal
       resolve-answer {a} {m} h j z f =
           let q = entry-of R a (h .0) in
           let d : decidedAt tr (a .term) ≡ false = ap (λ (y : Entry). y .decided) q ∙ j in
@@ -191,7 +191,7 @@ module _ (ts : List ℕ) where
 
       clear-answer : {rest : Trail} {a : Entry} {m n : ℕ} → Among tr E a → FirstOrder ts a → a .level ≡ 1 + m → Level tr (remove E (a .term)) n → n < a .level → Restricted m tr rest
           → steps.clear ts tr E (a .term) ≡ allowed (searching rest)
-      unfolding steps.clear steps.clearNumber
+      unfolding steps.clear steps.clearRefusal
       clear-answer {a = a} {m} {n} h o e z l r =
           let q = entry-of R a (h .0) in
           let d : decidedAt tr (a .term) ≡ true = ap (λ (y : Entry). y .decided) q ∙ o .0 in
@@ -207,7 +207,7 @@ module _ (ts : List ℕ) where
 
       jump-answer : {rest : Trail} {l : Entry} {m w : ℕ} → Among tr E l → Boolean ts (l .term) → Opposite (l .value) w → Level tr (remove E (l .term)) m → m < l .level → Restricted m tr rest
           → steps.jump ts tr E (l .term) ≡ allowed (searching (justifiedAt (l .term) w m (remove E (l .term)) ∷ rest))
-      unfolding steps.jump steps.jumpNumber
+      unfolding steps.jump steps.jumpRefusal
       jump-answer {rest} {l} {m} {w} h b o z k r =
           let S = remove E (l .term) in
           let q = entry-of R l (h .0) in
@@ -228,7 +228,7 @@ module _ (ts : List ℕ) where
           → Among tr (l .why) d → Among tr (k .why) d → FirstOrder ts d
           → d .level ≡ 1 + m → Level tr E (1 + m) → Restricted m tr rest → Level rest everything n
           → steps.flip ts tr E (l .term) (k .term) ≡ allowed (searching (decisionAt (l .term) w (1 + n) ∷ rest))
-      unfolding steps.flip steps.flipNumber
+      unfolding steps.flip steps.flipRefusal
       flip-answer {rest} {l} {k} {d} {m} {n} {w} hl jl b o hk jk ne dl dk fo e z r y =
           let ql = entry-of R l (hl .0) in
           let qk = entry-of R k (hk .0) in
@@ -253,10 +253,10 @@ module _ (ts : List ℕ) where
 
   -- ---- rows of the sheet
 
-  pub assigned-row : {tr : Trail} {t v : ℕ} → Reached (termRows ts) tr → Assigned tr t v → t < termRows ts
+  pub assigned-row : {tr : Trail} {t v : ℕ} → WellFormed (termRows ts) tr → Assigned tr t v → t < termRows ts
   assigned-row {tr} R a = subst (λ t. t < termRows ts) (a .2) (below-row tr (a .0) R (a .1))
 
-  pub premise-rows : {tr : Trail} {r : Rule} {J : List Premise} {l v w : ℕ} → Reached (termRows ts) tr → Inferred ts tr r J l v w
+  pub premise-rows : {tr : Trail} {r : Rule} {J : List Premise} {l v w : ℕ} → WellFormed (termRows ts) tr → Inferred ts tr r J l v w
       → (p : ℕ) → List·Memᴰ p (map rowOf J) → p < termRows ts
   premise-rows {J = ps} R i p m =
       let y = Memᴰ·of-map rowOf ps m in
@@ -272,8 +272,8 @@ module _ (ts : List ℕ) where
       (and-both (isFilled (x .term)) _ (filled-test (c .subject))
       (and-both (leb (x .value) 1) _ (le→leb _ _ (subst (λ n. n ≤ 1) (sym (f .0)) (opposite-small (i .other)))) (left-of (c .rows))))
 
-  pub forth : {s : State} {a : Action} {r : Result} → Reachable ts s → Transition ts s a r → (x : Step) → Spells x a → step ts s x ≡ answerOf r
-  unfolding ReachedState shaped ready stepBy
+  pub forth : {s : State} {a : Action} {r : Result} → Coherent ts s → Transition ts s a r → (x : Step) → Spells x a → step ts s x ≡ answerOf r
+  unfolding WellFormedState shaped ready stepBy
   forth h (Decide {tr} {t} {v} b s a l) x (p) =
       let c = p .0 in
       step-of (searching tr) x kinds.Decide (c .kind)
@@ -281,47 +281,47 @@ module _ (ts : List ℕ) where
       (and-both (isFilled (x .term)) _ (filled-test (c .subject))
       (and-both (isFilled (x .value)) _ (filled-test (p .2)) (blanks-of (c .rows))))) tt (known-of c b no-rows)
       ∙ (λ i. steps.decide ts tr (c .subject .0 i) (p .2 .0 i))
-      ∙ decide-answer (h .reached) (h .truths) (search) (search) (search)
+      ∙ decide-answer (h .wellFormed) (h .truths) (search) (search) (search)
   forth h (Deduce {tr} {l = l} {v} b i n z) x (p) =
       let c = p .0 in
-      step-of (searching tr) x kinds.Deduce (c .kind) (inference-shaped x i c (p .1) (p .2)) tt (known-of c b (premise-rows (h .reached) i))
+      step-of (searching tr) x kinds.Deduce (c .kind) (inference-shaped x i c (p .1) (p .2)) tt (known-of c b (premise-rows (h .wellFormed) i))
       ∙ (λ j. steps.deduce ts tr (x .rule) (c .subject .0 j) (p .2 .0 j) (premises-as c j))
-      ∙ deduce-answer (h .reached) (h .truths) (x .rule) i (p .1) (search) (search)
+      ∙ deduce-answer (h .wellFormed) (h .truths) (x .rule) i (p .1) (search) (search)
   forth h (Fail {tr} i a z) x (p) =
       let c = p .0 in
       step-of (searching tr) x kinds.Clash (c .kind) (inference-shaped x i c (p .1) (p .2)) tt
-      (known-of c (assigned-row (h .reached) a) (premise-rows (h .reached) i))
+      (known-of c (assigned-row (h .wellFormed) a) (premise-rows (h .wellFormed) i))
       ∙ (λ j. steps.clash ts tr (x .rule) (c .subject .0 j) (p .2 .0 j) (premises-as c j))
-      ∙ clash-answer (h .reached) (h .truths) (x .rule) i (p .1) (search)
-      ∙ clash-fails (h .reached) (h .truths) (search)
+      ∙ clash-answer (h .wellFormed) (h .truths) (x .rule) i (p .1) (search)
+      ∙ clash-fails (h .wellFormed) (h .truths) (search)
   forth h (Conflict {tr} i a z m) x (p) =
       let c = p .0 in
       step-of (searching tr) x kinds.Clash (c .kind) (inference-shaped x i c (p .1) (p .2)) tt
-      (known-of c (assigned-row (h .reached) a) (premise-rows (h .reached) i))
+      (known-of c (assigned-row (h .wellFormed) a) (premise-rows (h .wellFormed) i))
       ∙ (λ j. steps.clash ts tr (x .rule) (c .subject .0 j) (p .2 .0 j) (premises-as c j))
-      ∙ clash-answer (h .reached) (h .truths) (x .rule) i (p .1) (search)
-      ∙ clash-opens (h .reached) (h .truths) z (omega arith)
+      ∙ clash-answer (h .wellFormed) (h .truths) (x .rule) i (p .1) (search)
+      ∙ clash-opens (h .wellFormed) (h .truths) z (omega arith)
   forth h (Resolve {tr} {E} a j z f) x (p) =
       let c = p .0 in
-      let R = h .reached .0 in
+      let R = h .wellFormed .0 in
       step-of (conflict tr E) x kinds.Resolve (c .kind) (alone-shaped x (c .subject) (p .1) (p .2) (c .rows)) tt (known-of c (below-row tr _ R (a .0)) no-rows)
       ∙ (λ i. steps.resolve ts tr E (c .subject .0 i))
       ∙ resolve-answer R (h .truths) E a (search) z (search)
   forth h (Undo {tr} {E = E} a o e z l r) x (p) =
       let c = p .0 in
-      let R = h .reached .0 in
+      let R = h .wellFormed .0 in
       step-of (conflict tr E) x kinds.Clear (c .kind) (alone-shaped x (c .subject) (p .1) (p .2) (c .rows)) tt (known-of c (below-row tr _ R (a .0)) no-rows)
       ∙ (λ i. steps.clear ts tr E (c .subject .0 i))
       ∙ clear-answer R (h .truths) E a (search) (omega arith) z (omega arith) r
   forth h (Backjump {tr} {E = E} a b o z l r) x (p) =
       let c = p .0 in
-      let R = h .reached .0 in
+      let R = h .wellFormed .0 in
       step-of (conflict tr E) x kinds.Jump (c .kind) (alone-shaped x (c .subject) (p .1) (p .2) (c .rows)) tt (known-of c (below-row tr _ R (a .0)) no-rows)
       ∙ (λ i. steps.jump ts tr E (c .subject .0 i))
       ∙ jump-answer R (h .truths) E a (search) (search) (search) (omega arith) r
   forth h (UndoDecide {tr} {E = E} {k = k} hl jl b o hk jk ne dl dk fo e z r y) x (p) =
       let c = p .0 in
-      let R = h .reached .0 in
+      let R = h .wellFormed .0 in
       let f = first-column (c .rows) in
       step-of (conflict tr E) x kinds.Flip (c .kind) (conflict-shaped x (isFilled (x .p)) (c .subject) (p .1) (p .2) (filled-test (f .0)) (blanks-of (f .1))) tt
       (known-of c (below-row tr _ R (hl .0)) (λ t m. subst (λ t. t < termRows ts) (sym (List·Memᴰ·eq-of-singleton m)) (below-row tr _ R (hk .0))))

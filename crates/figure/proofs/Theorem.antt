@@ -9,22 +9,22 @@ use Rattle.calculus.specs.declared.Kind.{Kind}
 use Rattle.calculus.specs.declared.Kind.the-variants as kinds
 use Rattle.calculus.specs.declared.Premise.{Premise}
 use Rattle.calculus.specs.declared.Rule.{Rule}
-use Rattle.calculus.specs.Sheets.{Call, blank, termRows, lengthNumber}
-use Rattle.calculus.specs.Sorts.{sortsNumber}
-use Rattle.calculus.specs.Terms.{termsNumber}
+use Rattle.calculus.specs.Sheets.{Call, blank, termRows, lengthRefusal}
+use Rattle.calculus.specs.Sorts.{sortsRefusal}
+use Rattle.calculus.specs.Terms.{termsRefusal}
 use Rattle.calculus.specs.Trail.{Trail}
 use Rattle.calculus.specs.Rules.{rowOf, ruleOf}
-use Rattle.calculus.specs.Reached.{Reached, ReachedState}
+use Rattle.calculus.specs.WellFormed.{WellFormed, WellFormedState}
 use Rattle.calculus.specs.Steps.{State, kindOf, step}
-use Rattle.calculus.specs.Run.{run, start, sheetsNumber, callNumber}
+use Rattle.calculus.specs.Run.{run, start, sheetsRefusal, callRefusal}
 use Rattle.calculus.proofs.Facts.{true-T, T-true, unless-ok, orElse-ok, facts}
 use Rattle.figure.specs.Transitions.{Inferred, Action, Result, Transition, Decide, Deduce, Fail, Conflict, Resolve, Undo, Backjump, UndoDecide}
 use Rattle.figure.specs.Spelling.{Filled, FromLeft, noColumn, blankColumn, filledColumn, Columns, Spells, SixteenBits, Writable}
-use Rattle.figure.specs.Faithful.{Reachable, RulesFaithful, Faithful}
+use Rattle.figure.specs.Faithful.{Coherent, RulesFaithful, Faithful}
 use Rattle.calculus.proofs.WellSorted.{well-sorted}
 use Rattle.figure.proofs.Rules.{fits-infers, infers-fits, infers-short, opposite-sum}
 use Rattle.figure.proofs.Trails.{below-row}
-use Rattle.figure.proofs.Truths.{run-reachable, start-reachable}
+use Rattle.figure.proofs.Truths.{run-coherent, start-coherent}
 use Rattle.figure.proofs.Spelling.{rule-number}
 use Rattle.figure.proofs.Forth.{forth, assigned-row, premise-rows}
 use Rattle.figure.proofs.Back.{back}
@@ -94,7 +94,7 @@ module _ (ts : List ℕ) (short : termRows ts ≤ 256) where
   alone : (k t : ℕ) → k ≤ 6 → t < termRows ts → Written (kindOf k) blank t blank []
   alone k t i l = write k blank t blank [] i (omega arith) (omega arith) (omega arith) (omega arith) no-premises
 
-  inference-row : {tr : Trail} {r : Rule} {J : List Premise} {l v w : ℕ} (k : ℕ) → k ≤ 6 → Reached (termRows ts) tr → l < termRows ts → Inferred ts tr r J l v w
+  inference-row : {tr : Trail} {r : Rule} {J : List Premise} {l v w : ℕ} (k : ℕ) → k ≤ 6 → WellFormed (termRows ts) tr → l < termRows ts → Inferred ts tr r J l v w
       → Written (kindOf k) (rule-number r .0) l v (map rowOf J)
   inference-row {r = r} {J = ps} {l} {v} k i R b h =
       let s = infers-short (h .inference) in
@@ -103,43 +103,43 @@ module _ (ts : List ℕ) (short : termRows ts ≤ 256) where
       let n = rule-number r .2 in
       write k (rule-number r .0) l v (map rowOf ps) i (omega arith) (omega arith) (omega arith) (omega arith) (λ p q. let z = premise-rows ts R h p q in omega arith)
 
-  row-of : {s : State} {a : Action} {r : Result} → Reachable ts s → Writable a → Transition ts s a r → Row a
-  unfolding ReachedState kindOf
+  row-of : {s : State} {a : Action} {r : Result} → Coherent ts s → Writable a → Transition ts s a r → Row a
+  unfolding WellFormedState kindOf
   row-of h w (Decide {t = t} {v} b s a l) =
       let y = write 0 blank t v [] (omega arith) (omega arith) (omega arith) (omega arith) (omega arith) no-premises in
       (y .row, y .sheet, (y .cols, y .rule, (y .value, λ q. omega arith)))
   row-of h w (Deduce {r = r} b i n z) =
-      let y = inference-row 1 (omega arith) (h .reached) b i in
+      let y = inference-row 1 (omega arith) (h .wellFormed) b i in
       (y .row, y .sheet, (y .cols, ap ruleOf (y .rule) ∙ rule-number r .1, (y .value, λ q. let o = opposite-sum (i .other) in omega arith)))
   row-of h w (Fail {r = r} i a z) =
-      let y = inference-row 2 (omega arith) (h .reached) (assigned-row ts (h .reached) a) i in
+      let y = inference-row 2 (omega arith) (h .wellFormed) (assigned-row ts (h .wellFormed) a) i in
       (y .row, y .sheet, (y .cols, ap ruleOf (y .rule) ∙ rule-number r .1, (y .value, λ q. let o = opposite-sum (i .other) in omega arith)))
   row-of h w (Conflict {r = r} i a z m) =
-      let y = inference-row 2 (omega arith) (h .reached) (assigned-row ts (h .reached) a) i in
+      let y = inference-row 2 (omega arith) (h .wellFormed) (assigned-row ts (h .wellFormed) a) i in
       (y .row, y .sheet, (y .cols, ap ruleOf (y .rule) ∙ rule-number r .1, (y .value, λ q. let o = opposite-sum (i .other) in omega arith)))
   row-of h w (Resolve {tr} a j z f) =
-      let y = alone 3 _ (omega arith) (below-row tr _ (h .reached .0) (a .0)) in
+      let y = alone 3 _ (omega arith) (below-row tr _ (h .wellFormed .0) (a .0)) in
       (y .row, y .sheet, (y .cols, y .rule, y .value))
   row-of h w (Undo {tr} a o e z l r) =
-      let y = alone 4 _ (omega arith) (below-row tr _ (h .reached .0) (a .0)) in
+      let y = alone 4 _ (omega arith) (below-row tr _ (h .wellFormed .0) (a .0)) in
       (y .row, y .sheet, (y .cols, y .rule, y .value))
   row-of h w (Backjump {tr} a b o z l r) =
-      let y = alone 5 _ (omega arith) (below-row tr _ (h .reached .0) (a .0)) in
+      let y = alone 5 _ (omega arith) (below-row tr _ (h .wellFormed .0) (a .0)) in
       (y .row, y .sheet, (y .cols, y .rule, y .value))
   row-of h w (UndoDecide {tr} {l = l} {k = k} hl jl b o hk jk ne dl dk fo e z r u) =
-      let i = below-row tr l (h .reached .0) (hl .0) in
-      let j = below-row tr k (h .reached .0) (hk .0) in
+      let i = below-row tr l (h .wellFormed .0) (hl .0) in
+      let j = below-row tr k (h .wellFormed .0) (hk .0) in
       let y = write 6 blank (l .term) blank (k .term ∷ []) (omega arith) (omega arith) (omega arith) (omega arith) (omega arith)
       (λ p m. let q = List·Memᴰ·eq-of-singleton m in omega arith) in
       (y .row, y .sheet, (y .cols, y .rule, y .value))
 
   -- ---- the theorem
 
-  pub rules-faithful : (ss : List ℕ) → termsNumber ss ts ≡ 0 → RulesFaithful ts
+  pub rules-faithful : (ss : List ℕ) → termsRefusal ss ts ≡ 0 → RulesFaithful ts
   rules-faithful ss ok r J l v k rows truths =
       (λ h. fits-infers (well-sorted ss ts ok) l v k r J (true-T _ h) rows truths, λ i. T-true _ (infers-fits i))
 
-  pub faithful : (ss : List ℕ) → termsNumber ss ts ≡ 0 → (s : State) → Reachable ts s → Faithful ts s
+  pub faithful : (ss : List ℕ) → termsRefusal ss ts ≡ 0 → (s : State) → Coherent ts s → Faithful ts s
   faithful ss ok s h =
       record {
         exact = λ x r. (back ts (well-sorted ss ts ok) x r s h, λ y. forth ts h (y .2) x (y .1));
@@ -147,14 +147,14 @@ module _ (ts : List ℕ) (short : termRows ts ≤ 256) where
       }
 
 -- over the sheets of a call that get no number, at every state that a list of steps can reach: after the first k rows of a log, whatever it holds
-pub call-faithful : (x : Call) → callNumber x ≡ 0 → (log : List ℕ) (k : ℕ) → Faithful (x .terms) (run (x .terms) log (start x) 0 k .state)
-unfolding callNumber sheetsNumber lengthNumber
+pub call-faithful : (x : Call) → callRefusal x ≡ 0 → (log : List ℕ) (k : ℕ) → Faithful (x .terms) (run (x .terms) log (start x) 0 k .state)
+unfolding callRefusal sheetsRefusal lengthRefusal
 call-faithful x e log k =
-    let a = orElse-ok (lengthNumber x) _ e in
-    let b = orElse-ok (sortsNumber (x .sorts)) _ (a .1) in
-    let c = orElse-ok (termsNumber (x .sorts) (x .terms)) _ (b .1) in
+    let a = orElse-ok (lengthRefusal x) _ e in
+    let b = orElse-ok (sortsRefusal (x .sorts)) _ (a .1) in
+    let c = orElse-ok (termsRefusal (x .sorts) (x .terms)) _ (b .1) in
     let d = unless-ok _ 31 _ (omega arith) (a .0) in
     let f = unless-ok _ 30 _ (omega arith) (d .1) in
     let g = f .0 in
     let short : termRows (x .terms) ≤ 256 = search facts in
-    faithful (x .terms) short (x .sorts) (c .0) _ (run-reachable (x .terms) log (start x) 0 k (start-reachable (x .terms) (x .inputs) (c .1)))
+    faithful (x .terms) short (x .sorts) (c .0) _ (run-coherent (x .terms) log (start x) 0 k (start-coherent (x .terms) (x .inputs) (c .1)))

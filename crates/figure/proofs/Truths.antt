@@ -12,15 +12,15 @@ use Rattle.calculus.specs.declared.Kind.the-variants.{Decide, Deduce, Clash, Re
 use Rattle.calculus.specs.Sheets.{blank, inputRows}
 use Rattle.calculus.specs.Terms.{prop}
 use Rattle.calculus.specs.Trail.{Trail, Entry, levelOf, keptTo, decision}
-use Rattle.calculus.specs.Inputs.{given, inputTerm, inputValue, inputTrail, valueSuits, inputNumber, inputsNumber}
-use Rattle.calculus.specs.Steps.{State, searching, conflict, trailOf, Answer, allowed, refuted, refused, answer, stepAt, premises, kindOf, shaped, decideNumber, decide, deduce, clashed, clashSet, clash, resolve, clear, jump, flip, rowNumber, stepBy, step}
-use Rattle.calculus.specs.Reached.{ReachedState}
+use Rattle.calculus.specs.Inputs.{given, inputTerm, inputValue, inputTrail, valueSuits, inputRefusal, inputsRefusal}
+use Rattle.calculus.specs.Steps.{State, searching, conflict, trailOf, Answer, allowed, refuted, refused, answer, stepAt, premises, kindOf, shaped, decideRefusal, decide, deduce, clashed, clashSet, clash, resolve, clear, jump, flip, rowRefusal, stepBy, step}
+use Rattle.calculus.specs.WellFormed.{WellFormedState}
 use Rattle.calculus.specs.Run.{follow, run}
 use Rattle.calculus.proofs.Facts.{and-r, or-cases, facts, cond-case, unless-ok, first-ok, answer-case}
 use Rattle.calculus.proofs.Entries.{kept-out}
-use Rattle.calculus.proofs.Reached.{input-reached, step-reached}
+use Rattle.calculus.proofs.WellFormed.{input-well-formed, step-well-formed}
 use Rattle.figure.specs.Transitions.{_∈_, Suits}
-use Rattle.figure.specs.Faithful.{Reachable}
+use Rattle.figure.specs.Faithful.{Coherent}
 use Rattle.figure.proofs.Rows.{eqb-of}
 
 module _ (ts : List ℕ) where
@@ -61,7 +61,7 @@ module _ (ts : List ℕ) where
   inferred-value x h = search facts
 
   step-by-truthful : (k : Kind) (s : State) (x : Step) → Truthful (trailOf s) → T (shaped x k) → After (stepBy ts k s x)
-  unfolding stepBy decide decideNumber deduce clash clashed resolve clear jump flip shaped
+  unfolding stepBy decide decideRefusal deduce clash clashed resolve clear jump flip shaped
   step-by-truthful Decide s x h p =
       after _ _ (λ e.
       push-truthful (decision (trailOf s) (x .term) (x .value)) (trailOf s) (value-suits (x .term) (x .value) (unless-ok _ 22 _ (omega arith) e .0)) h)
@@ -77,27 +77,27 @@ module _ (ts : List ℕ) where
   step-by-truthful Unlisted s x h p = tt
 
   step-truthful : (s : State) (x : Step) → Truthful (trailOf s) → After (step ts s x)
-  unfolding step rowNumber
+  unfolding step rowRefusal
   step-truthful s x h = after _ _ (λ e. step-by-truthful (kindOf (x .step)) s x h (unless-ok _ 9 _ (omega arith) e .0))
 
   -- an allowed step leads from a reachable state to a reachable one
-  pub step-reachable : (s s′ : State) (x : Step) → Reachable ts s → step ts s x ≡ allowed s′ → Reachable ts s′
-  step-reachable s s′ x h e =
-      record { reached = step-reached ts s s′ x (h .reached) e; truths = subst After e (step-truthful s x (h .truths)) }
+  pub step-coherent : (s s′ : State) (x : Step) → Coherent ts s → step ts s x ≡ allowed s′ → Coherent ts s′
+  step-coherent s s′ x h e =
+      record { wellFormed = step-well-formed ts s s′ x (h .wellFormed) e; truths = subst After e (step-truthful s x (h .truths)) }
 
-  pub run-reachable : (log : List ℕ) (s : State) (n k : ℕ) → Reachable ts s → Reachable ts (run ts log s n k .state)
+  pub run-coherent : (log : List ℕ) (s : State) (n k : ℕ) → Coherent ts s → Coherent ts (run ts log s n k .state)
   unfolding run follow
-  run-reachable log s n zero h = h
-  run-reachable log s n (suc k) h = go (λ s′ q. run-reachable log s′ (suc n) k q) (step ts s (stepAt log n)) refl
+  run-coherent log s n zero h = h
+  run-coherent log s n (suc k) h = go (λ s′ q. run-coherent log s′ (suc n) k q) (step ts s (stepAt log n)) refl
     where
-      go : ((s′ : State) → Reachable ts s′ → Reachable ts (run ts log s′ (suc n) k .state)) → (a : Answer) → step ts s (stepAt log n) ≡ a
-          → Reachable ts (follow (λ s′. run ts log s′ (suc n) k) s n a .state)
-      go f (allowed s′) e = f s′ (step-reachable s s′ (stepAt log n) h e)
+      go : ((s′ : State) → Coherent ts s′ → Coherent ts (run ts log s′ (suc n) k .state)) → (a : Answer) → step ts s (stepAt log n) ≡ a
+          → Coherent ts (follow (λ s′. run ts log s′ (suc n) k) s n a .state)
+      go f (allowed s′) e = f s′ (step-coherent s s′ (stepAt log n) h e)
       go f refuted e = h
       go f (refused c) e = h
 
-  input-truthful : (is : List ℕ) (n : ℕ) → ((k : ℕ) → k < n → inputNumber ts is k ≡ 0) → Truthful (inputTrail is n)
-  unfolding inputTrail inputNumber
+  input-truthful : (is : List ℕ) (n : ℕ) → ((k : ℕ) → k < n → inputRefusal ts is k ≡ 0) → Truthful (inputTrail is n)
+  unfolding inputTrail inputRefusal
   input-truthful is zero h = none-truthful
   input-truthful is (suc n) h =
       let a = unless-ok _ 6 _ (omega arith) (h n (omega arith)) in
@@ -106,8 +106,8 @@ module _ (ts : List ℕ) where
       (value-suits (inputTerm is n) (inputValue is n) (and-r (not (eqb (inputValue is n) blank)) _ (b .0))) (input-truthful is n (λ k l. h k (omega arith)))
 
   -- the input's trail is reachable where its rows get no number
-  pub start-reachable : (is : List ℕ) → inputsNumber ts is ≡ 0 → Reachable ts (searching (inputTrail is (inputRows is)))
-  unfolding inputsNumber ReachedState
-  start-reachable is ok =
-      let h : (k : ℕ) → k < inputRows is → inputNumber ts is k ≡ 0 = λ k l. first-ok (inputRows is) (inputNumber ts is) k ok l in
-      record { reached = input-reached ts is (inputRows is) h; truths = input-truthful is (inputRows is) h }
+  pub start-coherent : (is : List ℕ) → inputsRefusal ts is ≡ 0 → Coherent ts (searching (inputTrail is (inputRows is)))
+  unfolding inputsRefusal WellFormedState
+  start-coherent is ok =
+      let h : (k : ℕ) → k < inputRows is → inputRefusal ts is k ≡ 0 = λ k l. first-ok (inputRows is) (inputRefusal ts is) k ok l in
+      record { wellFormed = input-well-formed ts is (inputRows is) h; truths = input-truthful is (inputRows is) h }

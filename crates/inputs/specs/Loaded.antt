@@ -7,18 +7,18 @@ use Rattle.calculus.specs.declared.Check.the-variants.{Passed, Refused}
 use Rattle.calculus.specs.Numbers.{checkOf}
 use Rattle.calculus.specs.Sheets.{inputRows}
 use Rattle.calculus.specs.Trail.{on}
-use Rattle.calculus.specs.Inputs.{given, inputTrail, inputsNumber}
-use Rattle.sheets.specs.Rows.{inputRowNumber}
+use Rattle.calculus.specs.Inputs.{given, inputTrail, inputsRefusal}
+use Rattle.sheets.specs.Rows.{inputRowRefusal}
 use Rattle.trail.specs.Words.{trailIn}
 use Rattle.moves.specs.Post.{Stands}
 
 -- a row with term t and value v: refused with its number, or one entry more on the trail of k entries
 unfoldable pub RowLoaded : ℕ → ℕ → List ℕ → List ℕ → List ℕ → ℕ → ℕ → ℕ → Check → Type 0
 RowLoaded w n ts ws vs k t v Passed =
-    (inputRowNumber ts t v (on (trailIn w n ws k) t) ≡ 0) × Stands w n vs (k + 1) 0 (given t v ∷ trailIn w n ws k)
-RowLoaded w n ts ws vs k t v (Refused c) = checkOf (inputRowNumber ts t v (on (trailIn w n ws k) t)) ≡ Refused c
+    (inputRowRefusal ts t v (on (trailIn w n ws k) t) ≡ 0) × Stands w n vs (k + 1) 0 (given t v ∷ trailIn w n ws k)
+RowLoaded w n ts ws vs k t v (Refused c) = checkOf (inputRowRefusal ts t v (on (trailIn w n ws k) t)) ≡ Refused c
 
 -- the input sheet: refused with its number, or its trail in the words
 unfoldable pub Loaded : ℕ → ℕ → List ℕ → List ℕ → List ℕ → Check → Type 0
-Loaded w n ts is ws Passed = (inputsNumber ts is ≡ 0) × Stands w n ws (inputRows is) 0 (inputTrail is (inputRows is))
-Loaded w n ts is ws (Refused c) = checkOf (inputsNumber ts is) ≡ Refused c
+Loaded w n ts is ws Passed = (inputsRefusal ts is ≡ 0) × Stands w n ws (inputRows is) 0 (inputTrail is (inputRows is))
+Loaded w n ts is ws (Refused c) = checkOf (inputsRefusal ts is) ≡ Refused c

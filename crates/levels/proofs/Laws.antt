@@ -10,7 +10,7 @@ use lib.ListN.{getD}
 use borrow.Author.Tests.{ltb-true, ltb-false, eqb-true, eqb-false, lt-ltb, le-ltb}
 use Rattle.calculus.specs.Terms.{prop}
 use Rattle.calculus.specs.Trail.{Set, Trail, Entry, insert, remove, intersection, on, entry, levelOf, levelAt, holds, firstOrder}
-use Rattle.calculus.specs.Reached.{Distinct}
+use Rattle.calculus.specs.WellFormed.{Distinct}
 use Rattle.calculus.proofs.Facts.{is-or-not, true-or-false, both-true, none-true}
 use Rattle.bitset.specs.Windows.{setAt}
 use Rattle.bitset.specs.Members.{Clear, Least}

@@ -7,7 +7,7 @@ ghost use lib.Dec.{eqb};
 ghost use lib.ListN.{length};
 ghost use Rattle.calculus.specs.Trail.{remove, intersection, on, entry, levelAt, levelOf, topLevel, holds, firstOrder, trailNumbersOf};
 ghost use Rattle.calculus.specs.Run.{written};
-ghost use Rattle.calculus.specs.Reached.{Within};
+ghost use Rattle.calculus.specs.WellFormed.{Within};
 ghost use Rattle.bitset.specs.Windows.{setAt};
 ghost use Rattle.trail.specs.Words.{trailIn, Laid};
 ghost use Rattle.levels.specs.Decisions.{firstOrderAny, WordTells};

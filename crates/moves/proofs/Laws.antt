@@ -8,7 +8,7 @@ use mathlib.Core.List.{List, [], _∷_}
 use lib.Dec.{leb}
 use Rattle.calculus.specs.Lists.{has}
 use Rattle.calculus.specs.Trail.{Set, Trail, empty, insert, remove, union, on, levelAt, decidedAt, whyAt, levelOf, topLevel, keptTo, decision, justified}
-use Rattle.calculus.specs.Reached.{Within}
+use Rattle.calculus.specs.WellFormed.{Within}
 use Rattle.calculus.proofs.Facts.{cond-case}
 use Rattle.calculus.proofs.Entries.{level-kept}
 use Rattle.bitset.specs.Windows.{setAt, Holds, Copied}

@@ -5,7 +5,7 @@ use mathlib.Core.Bool.{true}
 use mathlib.Core.List.{List}
 use Rattle.calculus.specs.Trail.{Set, Trail, remove, levelAt, levelOf, topLevel}
 use Rattle.calculus.specs.Steps.{jumped, flipped}
-use Rattle.calculus.specs.Reached.{Within, Reached}
+use Rattle.calculus.specs.WellFormed.{Within, WellFormed}
 use Rattle.bitset.specs.Windows.{setAt}
 use Rattle.trail.specs.Words.{conflict, trailIn, Laid}
 
@@ -28,7 +28,7 @@ pub record Conflicts (w N : ℕ) (ws : List ℕ) (n : ℕ) (tr : Trail) (E : Set
 -- l is in the conflict, whose members are on the trail, which steps can reach, and stands above the level m
 pub record Above (w N : ℕ) (ws : List ℕ) (n l m : ℕ) : Type 0 where
   pub laid : Laid w N ws n
-  pub reached : Reached N (trailIn w N ws n)
+  pub wellFormed : WellFormed N (trailIn w N ws n)
   pub row : l < N
   pub within : Within (conflictIn w N ws) (trailIn w N ws n)
   pub member : conflictIn w N ws l ≡ true

@@ -8,7 +8,7 @@ ghost use Rattle.calculus.specs.Lists.{has, opposite};
 ghost use Rattle.calculus.specs.Terms.{filled};
 ghost use Rattle.calculus.specs.Trail.{on, levelAt, decidedAt, whyAt, levelOf, topLevel, keptTo, decision, justified, remove, union};
 ghost use Rattle.calculus.specs.Inputs.{given};
-ghost use Rattle.calculus.specs.Reached.{Within, Reached};
+ghost use Rattle.calculus.specs.WellFormed.{Within, WellFormed};
 ghost use Rattle.bitset.specs.Windows.{Holds};
 ghost use Rattle.trail.specs.Words.{trailIn, Laid};
 ghost use Rattle.moves.specs.Post.{conflictIn, restLevel, lowerLevel, jumpedIn, flippedIn, Above, Stands, Conflicts};
@@ -115,7 +115,7 @@ pub fn resolve(work: &mut [u64], w: usize, terms: usize, n: usize, a: Row)
 
 // clear: the trail kept below the level of a, which is on it.
 pub fn clear(work: &mut [u64], w: usize, terms: usize, n: usize, a: Row) -> Kept
-    requires { ⌜ Laid w terms (now work) n × (a .0 < terms) × (on (trailIn w terms (now work) n) (a .0) ≡ true) × Reached terms (trailIn w terms (now work) n) ⌝ }
+    requires { ⌜ Laid w terms (now work) n × (a .0 < terms) × (on (trailIn w terms (now work) n) (a .0) ≡ true) × WellFormed terms (trailIn w terms (now work) n) ⌝ }
     ensures { λ r. ⌜ Stands w terms (now (work .exit)) (r .count) (r .top .0) (keptTo (levelAt (trailIn w terms (now (work .entry)) n) (a .0) - 1) (trailIn w terms (now (work .entry)) n)) ⌝ }
 {
     let level = trail::level(work, w, terms, n, a);
@@ -125,7 +125,7 @@ pub fn clear(work: &mut [u64], w: usize, terms: usize, n: usize, a: Row) -> Kept
 
 // The trail kept to m, the level of the conflict without t and below t's own; then t with value v, justified by that rest.
 pub fn land(work: &mut [u64], w: usize, terms: usize, n: usize, t: Row, v: u16, m: Level) -> Kept
-    requires { ⌜ Laid w terms (now work) n × (t .0 < terms) × (m .0 < levelAt (trailIn w terms (now work) n) (t .0)) × (m .0 ≡ levelOf (trailIn w terms (now work) n) (remove (conflictIn w terms (now work)) (t .0))) × Reached terms (trailIn w terms (now work) n) ⌝ }
+    requires { ⌜ Laid w terms (now work) n × (t .0 < terms) × (m .0 < levelAt (trailIn w terms (now work) n) (t .0)) × (m .0 ≡ levelOf (trailIn w terms (now work) n) (remove (conflictIn w terms (now work)) (t .0))) × WellFormed terms (trailIn w terms (now work) n) ⌝ }
     ensures { λ r. ⌜ Stands w terms (now (work .exit)) (r .count) (r .top .0) (justified (keptTo (m .0) (trailIn w terms (now (work .entry)) n)) (t .0) v (remove (conflictIn w terms (now (work .entry))) (t .0)) ∷ keptTo (m .0) (trailIn w terms (now (work .entry)) n)) ⌝ }
 {
     let e = terms * w + 4 * terms;

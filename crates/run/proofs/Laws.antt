@@ -13,8 +13,8 @@ use Rattle.calculus.specs.Sheets.{stepRows}
 use Rattle.calculus.specs.Steps as calculus
 use Rattle.calculus.specs.Steps.{stepAt, step}
 use Rattle.calculus.specs.Run.{Ending, run}
-use Rattle.calculus.specs.Reached.{ReachedState}
-use Rattle.calculus.proofs.Reached.{step-reached}
+use Rattle.calculus.specs.WellFormed.{WellFormedState}
+use Rattle.calculus.proofs.WellFormed.{step-well-formed}
 use Rattle.calculus.proofs.Running.{run-allowed, run-refuted, run-refused, run-over}
 use Rattle.state.specs.declared.Status.{Status}
 use Rattle.state.specs.declared.Answer.{Answer}
@@ -59,7 +59,7 @@ module _ (w n : ℕ) (ts log : List ℕ) (e : Ending) where
             standing =
                 record {
                   held = a .1;
-                  reached = subst (λ m. ReachedState m (stateIn w n vs next)) (sym (r .standing .held .rows)) (step-reached ts (stateIn w n ws st) (stateIn w n vs next) (stepAt log k) (subst (λ m. ReachedState m (stateIn w n ws st)) (r .standing .held .rows) (r .standing .reached)) (a .0));
+                  wellFormed = subst (λ m. WellFormedState m (stateIn w n vs next)) (sym (r .standing .held .rows)) (step-well-formed ts (stateIn w n ws st) (stateIn w n vs next) (stepAt log k) (subst (λ m. WellFormedState m (stateIn w n ws st)) (r .standing .held .rows) (r .standing .wellFormed)) (a .0));
                 };
           }
 

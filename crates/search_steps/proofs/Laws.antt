@@ -15,13 +15,13 @@ use Rattle.calculus.specs.Numbers.{unless, orElse}
 use Rattle.calculus.specs.Sheets.{blank}
 use Rattle.calculus.specs.Terms.{prop, filled}
 use Rattle.calculus.specs.Trail.{Set, Trail, on, levelAt, levelOf, premisesAt}
-use Rattle.calculus.specs.Reached.{Within, Distinct}
+use Rattle.calculus.specs.WellFormed.{Within, Distinct}
 use Rattle.calculus.specs.Rules.{fits, fitOf, ruleOf}
 use Rattle.calculus.specs.Steps as calculus
-use Rattle.calculus.specs.Steps.{premises, decideNumber, inferenceNumber, deduceNumber, clashNumber}
+use Rattle.calculus.specs.Steps.{premises, decideRefusal, inferenceRefusal, deduceRefusal, clashRefusal}
 use Rattle.calculus.proofs.Entries.{level-empty}
 use Rattle.calculus.proofs.Facts.{T-false, T-true, and-l, both-true, unless-ok}
-use Rattle.calculus.proofs.Reached.{level-more, top-length, inference-ok}
+use Rattle.calculus.proofs.WellFormed.{level-more, top-length, inference-ok}
 use Rattle.rules.specs.declared.Claim.{Claim}
 use Rattle.rules.specs.Claims.{premisesOf}
 use Rattle.trail.specs.Words.{trailIn}
@@ -29,7 +29,7 @@ use Rattle.trail.proofs.Abstract.{room-more}
 use Rattle.trail.proofs.Laws.{trail-length}
 use Rattle.state.specs.declared.Status.{Status}
 use Rattle.state.specs.States.{Standing}
-use Rattle.state.proofs.States.{trail-reached}
+use Rattle.state.proofs.States.{trail-well-formed}
 use Rattle.search_steps.specs.Claims.{Claims, PremisesLevel}
 
 -- ---- premises
@@ -52,8 +52,8 @@ level-filled tr p l m xs d e a b = λ h.
 -- ---- numbers
 
 -- what is not the tests' own comes after them
-pub inference-rest : (ts : List ℕ) (tr : Trail) (r l v : ℕ) (ps : List ℕ) (rest : ℕ) → inferenceNumber ts tr r l v ps rest ≡ orElse (inferenceNumber ts tr r l v ps 0) rest
-unfolding inferenceNumber unless orElse
+pub inference-rest : (ts : List ℕ) (tr : Trail) (r l v : ℕ) (ps : List ℕ) (rest : ℕ) → inferenceRefusal ts tr r l v ps rest ≡ orElse (inferenceRefusal ts tr r l v ps 0) rest
+unfolding inferenceRefusal unless orElse
 inference-rest ts tr r l v ps rest = go (prop ts l) (all (on tr) ps) (fits ts (ruleOf r) l v (premisesAt tr ps))
   where
     go : (a b c : Bool) → unless a 22 (unless b 12 (unless c 13 rest)) ≡ orElse (unless a 22 (unless b 12 (unless c 13 0))) rest
@@ -96,42 +96,42 @@ tested ts tr x e q c = e ∙ rw (q, c .term, c .value, c .premises)
 pub top-small : (w n : ℕ) (ts ws : List ℕ) (st : Status) (t : ℕ) → Standing w n ts ws st → t < n → on (trailIn w n ws (st .count)) t ≡ false → st .top .0 < 65536
 top-small w n ts ws st t s l h =
     let d = s .held .laid in
-    let a = top-length (trailIn w n ws (st .count)) (trail-reached w n ws st (s .reached)) in
+    let a = top-length (trailIn w n ws (st .count)) (trail-well-formed w n ws st (s .wellFormed)) in
     let c = trail-length w n ws (st .count) in
     let b = room-more n t (trailIn w n ws (st .count)) (d .distinct) (d .below) l h in
     omega (arith, s .held .top, d .wide, d .narrow)
 
 -- ---- what the number 0 says
 
-pub decide-new : (ts : List ℕ) (tr : Trail) (t v : ℕ) → decideNumber ts tr t v ≡ 0 → on tr t ≡ false
-unfolding decideNumber
+pub decide-new : (ts : List ℕ) (tr : Trail) (t v : ℕ) → decideRefusal ts tr t v ≡ 0 → on tr t ≡ false
+unfolding decideRefusal
 decide-new ts tr t v e =
     let a = unless-ok _ 22 _ (omega arith) e in
     let b = unless-ok _ 14 _ (omega arith) (a .1) in
     T-false _ (b .0)
 
-pub deduce-new : (ts : List ℕ) (tr : Trail) (r l v : ℕ) (ps : List ℕ) → deduceNumber ts tr r l v ps ≡ 0 → Within (has ps) tr × (on tr l ≡ false)
-unfolding deduceNumber
+pub deduce-new : (ts : List ℕ) (tr : Trail) (r l v : ℕ) (ps : List ℕ) → deduceRefusal ts tr r l v ps ≡ 0 → Within (has ps) tr × (on tr l ≡ false)
+unfolding deduceRefusal
 deduce-new ts tr r l v ps e =
     let a = inference-ok ts tr r l v ps _ e in
     let b = unless-ok _ 14 _ (omega arith) (a .1) in
     let c = unless-ok _ 15 _ (omega arith) (b .1) in
     (a .0, T-false _ (c .0))
 
-pub inference-on : (ts : List ℕ) (tr : Trail) (r l v : ℕ) (ps : List ℕ) (rest : ℕ) → inferenceNumber ts tr r l v ps rest ≡ 0 → all (on tr) ps ≡ true
-unfolding inferenceNumber
+pub inference-on : (ts : List ℕ) (tr : Trail) (r l v : ℕ) (ps : List ℕ) (rest : ℕ) → inferenceRefusal ts tr r l v ps rest ≡ 0 → all (on tr) ps ≡ true
+unfolding inferenceRefusal
 inference-on ts tr r l v ps rest e =
     let a = unless-ok _ 22 _ (omega arith) e in
     let b = unless-ok _ 12 _ (omega arith) (a .1) in
     T-true _ (b .0)
 
-pub deduce-on : (ts : List ℕ) (tr : Trail) (r l v : ℕ) (ps : List ℕ) → deduceNumber ts tr r l v ps ≡ 0 → all (on tr) ps ≡ true
-unfolding deduceNumber
+pub deduce-on : (ts : List ℕ) (tr : Trail) (r l v : ℕ) (ps : List ℕ) → deduceRefusal ts tr r l v ps ≡ 0 → all (on tr) ps ≡ true
+unfolding deduceRefusal
 deduce-on ts tr r l v ps e = inference-on ts tr r l v ps _ e
 
-pub clash-on : (ts : List ℕ) (tr : Trail) (r l v : ℕ) (ps : List ℕ) → clashNumber ts tr r l v ps ≡ 0
+pub clash-on : (ts : List ℕ) (tr : Trail) (r l v : ℕ) (ps : List ℕ) → clashRefusal ts tr r l v ps ≡ 0
     → Within (has ps) tr × (all (on tr) ps ≡ true) × (on tr l ≡ true)
-unfolding clashNumber
+unfolding clashRefusal
 clash-on ts tr r l v ps e =
     let a = inference-ok ts tr r l v ps _ e in
     let b = unless-ok _ 16 _ (omega arith) (a .1) in

@@ -7,7 +7,7 @@ ghost use Rattle.calculus.specs.Lists.{all, has};
 ghost use Rattle.calculus.specs.Terms.{filled};
 ghost use Rattle.calculus.specs.Inputs.{valueSuits};
 ghost use Rattle.calculus.specs.Trail.{on, valueAt, levelOf};
-ghost use Rattle.calculus.specs.Steps.{premises, decideNumber, inferenceNumber, deduceNumber, clashNumber, clashSet, decide, deduce, clash};
+ghost use Rattle.calculus.specs.Steps.{premises, decideRefusal, inferenceRefusal, deduceRefusal, clashRefusal, clashSet, decide, deduce, clash};
 ghost use Rattle.rules.specs.Claims.{Looked};
 ghost use Rattle.trail.specs.Words.{trailIn, Laid};
 ghost use Rattle.state.specs.States.{Standing, Answers};
@@ -142,7 +142,7 @@ fn claim(work: &[u64], w: usize, n: usize, count: usize, x: Step) -> Claim
 // ---- the numbers
 
 // Numbers 22 and 14.
-fn decide_number(
+fn decide_refusal(
     terms: &[u16],
     work: &[u64],
     w: usize,
@@ -152,7 +152,7 @@ fn decide_number(
     v: u16,
 ) -> u16
     requires { ⌜ Laid w n (now work) count ⌝ }
-    ensures { λ r. ⌜ r ≡ decideNumber (now (terms .entry)) (trailIn w n (now (work .entry)) count) (t .0) v ⌝ }
+    ensures { λ r. ⌜ r ≡ decideRefusal (now (terms .entry)) (trailIn w n (now (work .entry)) count) (t .0) v ⌝ }
 {
     if !value_suits(terms, t, v) {
         return 22;
@@ -164,9 +164,9 @@ fn decide_number(
 }
 
 // Numbers 22, 12, 13, which deduce and clash share.
-fn inference_number(terms: &[u16], work: &[u64], w: usize, n: usize, count: usize, x: Step) -> u16
+fn inference_refusal(terms: &[u16], work: &[u64], w: usize, n: usize, count: usize, x: Step) -> u16
     requires { ⌜ Laid w n (now work) count ⌝ }
-    ensures { λ r. ⌜ r ≡ inferenceNumber (now (terms .entry)) (trailIn w n (now (work .entry)) count) (x .rule) (x .term) (x .value) (premises x) 0 ⌝ }
+    ensures { λ r. ⌜ r ≡ inferenceRefusal (now (terms .entry)) (trailIn w n (now (work .entry)) count) (x .rule) (x .term) (x .value) (premises x) 0 ⌝ }
 {
     if !state::is_prop(terms, Row(x.term)) {
         return 22;
@@ -182,11 +182,11 @@ fn inference_number(terms: &[u16], work: &[u64], w: usize, n: usize, count: usiz
 }
 
 // Numbers 22, 12, 13, 14, 15.
-fn deduce_number(terms: &[u16], work: &[u64], w: usize, n: usize, count: usize, x: Step) -> u16
+fn deduce_refusal(terms: &[u16], work: &[u64], w: usize, n: usize, count: usize, x: Step) -> u16
     requires { ⌜ Laid w n (now work) count ⌝ }
-    ensures { λ r. ⌜ r ≡ deduceNumber (now (terms .entry)) (trailIn w n (now (work .entry)) count) (x .rule) (x .term) (x .value) (premises x) ⌝ }
+    ensures { λ r. ⌜ r ≡ deduceRefusal (now (terms .entry)) (trailIn w n (now (work .entry)) count) (x .rule) (x .term) (x .value) (premises x) ⌝ }
 {
-    let c = inference_number(terms, work, w, n, count, x);
+    let c = inference_refusal(terms, work, w, n, count, x);
     if c != 0 {
         return c;
     }
@@ -200,11 +200,11 @@ fn deduce_number(terms: &[u16], work: &[u64], w: usize, n: usize, count: usize, 
 }
 
 // Numbers 22, 12, 13, 16.
-fn clash_number(terms: &[u16], work: &[u64], w: usize, n: usize, count: usize, x: Step) -> u16
+fn clash_refusal(terms: &[u16], work: &[u64], w: usize, n: usize, count: usize, x: Step) -> u16
     requires { ⌜ Laid w n (now work) count ⌝ }
-    ensures { λ r. ⌜ r ≡ clashNumber (now (terms .entry)) (trailIn w n (now (work .entry)) count) (x .rule) (x .term) (x .value) (premises x) ⌝ }
+    ensures { λ r. ⌜ r ≡ clashRefusal (now (terms .entry)) (trailIn w n (now (work .entry)) count) (x .rule) (x .term) (x .value) (premises x) ⌝ }
 {
-    let c = inference_number(terms, work, w, n, count, x);
+    let c = inference_refusal(terms, work, w, n, count, x);
     if c != 0 {
         return c;
     }
@@ -229,7 +229,7 @@ pub fn decide(
     requires { ⌜ Standing w n (now terms) (now work) st × (st .conflict ≡ false) × (t .0 < n) ⌝ }
     ensures { λ r. ⌜ Answers w n (now (terms .entry)) (now (work .entry)) (now (work .exit)) (decide (now (terms .entry)) (trailIn w n (now (work .entry)) (st .count)) (t .0) v) r ⌝ }
 {
-    let c = decide_number(terms, work, w, n, st.count, t, v);
+    let c = decide_refusal(terms, work, w, n, st.count, t, v);
     if c != 0 {
         return Answer::Refused(c);
     }
@@ -247,7 +247,7 @@ pub fn deduce(terms: &[u16], work: &mut [u64], w: usize, n: usize, st: Status, x
     requires { ⌜ Standing w n (now terms) (now work) st × (st .conflict ≡ false) × (x .term < n) ⌝ }
     ensures { λ r. ⌜ Answers w n (now (terms .entry)) (now (work .entry)) (now (work .exit)) (deduce (now (terms .entry)) (trailIn w n (now (work .entry)) (st .count)) (x .rule) (x .term) (x .value) (premises x)) r ⌝ }
 {
-    let c = deduce_number(terms, work, w, n, st.count, x);
+    let c = deduce_refusal(terms, work, w, n, st.count, x);
     if c != 0 {
         return Answer::Refused(c);
     }
@@ -277,7 +277,7 @@ pub fn clash(terms: &[u16], work: &mut [u64], w: usize, n: usize, st: Status, x:
     requires { ⌜ Standing w n (now terms) (now work) st × (st .conflict ≡ false) × (x .term < n) ⌝ }
     ensures { λ r. ⌜ Answers w n (now (terms .entry)) (now (work .entry)) (now (work .exit)) (clash (now (terms .entry)) (trailIn w n (now (work .entry)) (st .count)) (x .rule) (x .term) (x .value) (premises x)) r ⌝ }
 {
-    let c = clash_number(terms, work, w, n, st.count, x);
+    let c = clash_refusal(terms, work, w, n, st.count, x);
     if c != 0 {
         return Answer::Refused(c);
     }

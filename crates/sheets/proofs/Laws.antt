@@ -9,7 +9,7 @@ use lib.Dec.{leb}
 use borrow.Author.Tests.{leb-true, leb-false, not-true, not-false}
 use Rattle.calculus.specs.declared.Check.the-variants.{Passed, Refused}
 use Rattle.calculus.proofs.Facts.{unless-yes, unless-no}
-use Rattle.calculus.specs.Numbers.{unless, orElse, firstNumber, checkOf}
+use Rattle.calculus.specs.Numbers.{unless, orElse, firstRefusal, checkOf}
 
 -- a test that fails gives its number, and one that passes the rest
 pub stop : (a : Bool) (n r : ℕ) → not a ≡ true → n ≡ unless a n r
@@ -27,13 +27,13 @@ pub refused-some : (x c : ℕ) → checkOf x ≡ Refused c → x ≡ 0 → ⊥
 refused-some zero c e q = let z : _≡_ {A = ℕ} 0 1 = cc in omega arith
 refused-some (suc x) c e q = omega arith
 
-pub first-none : (f : ℕ → ℕ) → firstNumber 0 f ≡ 0
-unfolding firstNumber
+pub first-none : (f : ℕ → ℕ) → firstRefusal 0 f ≡ 0
+unfolding firstRefusal
 first-none f = refl
 
 -- one more row that passes
-pub first-more : (f : ℕ → ℕ) (t : ℕ) → firstNumber t f ≡ 0 → checkOf (f t) ≡ Passed → firstNumber (t + 1) f ≡ 0
-unfolding firstNumber orElse
+pub first-more : (f : ℕ → ℕ) (t : ℕ) → firstRefusal t f ≡ 0 → checkOf (f t) ≡ Passed → firstRefusal (t + 1) f ≡ 0
+unfolding firstRefusal orElse
 first-more f t a b = rw (add-one, a, passed-zero (f t) b)
 
 pub or-else-none : (x : ℕ) → orElse 0 x ≡ x
@@ -46,14 +46,14 @@ or-else-some zero r d = absurd (d refl)
 or-else-some (suc x) r d = refl
 
 -- the first row that does not pass gives the sheet its number
-first-at : (f : ℕ → ℕ) (n t : ℕ) → firstNumber t f ≡ 0 → (f t ≡ 0 → ⊥) → t < n → firstNumber n f ≡ f t
-unfolding firstNumber
+first-at : (f : ℕ → ℕ) (n t : ℕ) → firstRefusal t f ≡ 0 → (f t ≡ 0 → ⊥) → t < n → firstRefusal n f ≡ f t
+unfolding firstRefusal
 first-at f zero t a d h = absurd (not-suc-le-zero h)
 first-at f (suc n) t a d h = go (leb n t) refl (λ l. first-at f n t a d l)
   where
-    go : (g : Bool) → leb n t ≡ g → (t < n → firstNumber n f ≡ f t) → orElse (firstNumber n f) (f n) ≡ f t
+    go : (g : Bool) → leb n t ≡ g → (t < n → firstRefusal n f ≡ f t) → orElse (firstRefusal n f) (f n) ≡ f t
     go true q r = let s : t ≡ n = omega (arith, leb-true) in rw (← s, a) (or-else-none (f t))
     go false q r = rw (r (omega (arith, leb-false))) (or-else-some (f t) (f n) d)
 
-pub first-found : (f : ℕ → ℕ) (n t c : ℕ) → firstNumber t f ≡ 0 → checkOf (f t) ≡ Refused c → t < n → Refused c ≡ checkOf (firstNumber n f)
+pub first-found : (f : ℕ → ℕ) (n t c : ℕ) → firstRefusal t f ≡ 0 → checkOf (f t) ≡ Refused c → t < n → Refused c ≡ checkOf (firstRefusal n f)
 first-found f n t c a e h = sym (ap checkOf (first-at f n t a (refused-some (f t) c e) h) ∙ e)

@@ -10,9 +10,9 @@ use borrow.Author.Tests.{leb-true, eqb-true}
 use Rattle.calculus.proofs.Facts.{both-true, unless-ok, T-true}
 use Rattle.calculus.specs.declared.Check.the-variants.{Passed, Refused}
 use Rattle.calculus.specs.Numbers.{orElse, checkOf}
-use Rattle.calculus.specs.Sheets.{Call, blank, sortRows, termRows, inputRows, stepRows, whole, within, roomy, lengthNumber, workWords, trailNumbers}
+use Rattle.calculus.specs.Sheets.{Call, blank, sortRows, termRows, inputRows, stepRows, whole, within, roomy, lengthRefusal, workWords, trailNumbers}
 use Rattle.calculus.specs.Inputs.{valueSuits}
-use Rattle.sheets.specs.Rows.{fitNumber, givenNumber, inputRowNumber}
+use Rattle.sheets.specs.Rows.{fitRefusal, givenRefusal, inputRowRefusal}
 use Rattle.sheets.proofs.Laws.{passed-zero, refused-some, or-else-some}
 
 -- the parts of a test that holds
@@ -32,8 +32,8 @@ pub record Fitting (x : Call) : Type 0 where
   pub work-room : workWords (termRows (x .terms)) ≤ length (x .work)
   pub trail-room : trailNumbers (termRows (x .terms)) ≤ length (x .trail)
 
-pub lengths-passed : (x : Call) → checkOf (lengthNumber x) ≡ Passed → Fitting x
-unfolding lengthNumber
+pub lengths-passed : (x : Call) → checkOf (lengthRefusal x) ≡ Passed → Fitting x
+unfolding lengthRefusal
 lengths-passed x e =
     let w = unless-ok (whole x) 31 _ (omega arith) (passed-zero _ e) in
     let i = unless-ok (within x) 30 _ (omega arith) (w .1) in
@@ -62,20 +62,20 @@ lengths-passed x e =
     }
 
 -- an input row whose term and value fit: the term is a row, the value suits it, and number 8 is left to ask
-pub fit-term : (ts : List ℕ) (t v : ℕ) → checkOf (fitNumber ts t v) ≡ Passed → t < termRows ts
-unfolding fitNumber
+pub fit-term : (ts : List ℕ) (t v : ℕ) → checkOf (fitRefusal ts t v) ≡ Passed → t < termRows ts
+unfolding fitRefusal
 fit-term ts t v e = ltb→lt t (termRows ts) (unless-ok (ltb t (termRows ts)) 6 _ (omega arith) (passed-zero _ e) .0)
 
-pub fit-value : (ts : List ℕ) (t v : ℕ) → checkOf (fitNumber ts t v) ≡ Passed → (not (eqb v blank) && valueSuits ts t v) ≡ true
-unfolding fitNumber
+pub fit-value : (ts : List ℕ) (t v : ℕ) → checkOf (fitRefusal ts t v) ≡ Passed → (not (eqb v blank) && valueSuits ts t v) ≡ true
+unfolding fitRefusal
 fit-value ts t v e =
     T-true (not (eqb v blank) && valueSuits ts t v) (unless-ok (not (eqb v blank) && valueSuits ts t v) 7 0 (omega arith) (unless-ok (ltb t (termRows ts)) 6 _ (omega arith) (passed-zero _ e) .1) .0)
 
-pub row-fits : (ts : List ℕ) (t v : ℕ) (g : Bool) → checkOf (fitNumber ts t v) ≡ Passed → inputRowNumber ts t v g ≡ givenNumber g
-unfolding inputRowNumber orElse
-row-fits ts t v g e = rw (passed-zero (fitNumber ts t v) e)
+pub row-fits : (ts : List ℕ) (t v : ℕ) (g : Bool) → checkOf (fitRefusal ts t v) ≡ Passed → inputRowRefusal ts t v g ≡ givenRefusal g
+unfolding inputRowRefusal orElse
+row-fits ts t v g e = rw (passed-zero (fitRefusal ts t v) e)
 
 -- and one that is refused: the row has that number, given or not
-pub row-unfit : (ts : List ℕ) (t v c : ℕ) (g : Bool) → checkOf (fitNumber ts t v) ≡ Refused c → checkOf (inputRowNumber ts t v g) ≡ Refused c
-unfolding inputRowNumber
-row-unfit ts t v c g e = ap checkOf (or-else-some (fitNumber ts t v) (givenNumber g) (refused-some (fitNumber ts t v) c e)) ∙ e
+pub row-unfit : (ts : List ℕ) (t v c : ℕ) (g : Bool) → checkOf (fitRefusal ts t v) ≡ Refused c → checkOf (inputRowRefusal ts t v g) ≡ Refused c
+unfolding inputRowRefusal
+row-unfit ts t v c g e = ap checkOf (or-else-some (fitRefusal ts t v) (givenRefusal g) (refused-some (fitRefusal ts t v) c e)) ∙ e

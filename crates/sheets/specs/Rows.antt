@@ -7,21 +7,21 @@ use lib.Dec.{eqb, ltb}
 use Rattle.calculus.specs.Numbers.{unless, orElse}
 use Rattle.calculus.specs.Sheets.{blank, termRows}
 use Rattle.calculus.specs.Trail.{on}
-use Rattle.calculus.specs.Inputs.{inputTerm, inputValue, inputTrail, inputNumber, valueSuits}
+use Rattle.calculus.specs.Inputs.{inputTerm, inputValue, inputTrail, inputRefusal, valueSuits}
 
 -- numbers 6 and 7: the term is a row, and the value suits it
-unfoldable pub fitNumber : List ℕ → ℕ → ℕ → ℕ
-fitNumber ts t v =
+unfoldable pub fitRefusal : List ℕ → ℕ → ℕ → ℕ
+fitRefusal ts t v =
     unless (ltb t (termRows ts)) 6 (
     unless (not (eqb v blank) && valueSuits ts t v) 7 0)
 
 -- number 8: the term is not given before
-unfoldable pub givenNumber : Bool → ℕ
-givenNumber given = unless (not given) 8 0
+unfoldable pub givenRefusal : Bool → ℕ
+givenRefusal given = unless (not given) 8 0
 
 -- numbers 6, 7, 8
-unfoldable pub inputRowNumber : List ℕ → ℕ → ℕ → Bool → ℕ
-inputRowNumber ts t v given = orElse (fitNumber ts t v) (givenNumber given)
+unfoldable pub inputRowRefusal : List ℕ → ℕ → ℕ → Bool → ℕ
+inputRowRefusal ts t v given = orElse (fitRefusal ts t v) (givenRefusal given)
 
 both : (a b : Bool) (x : ℕ) → unless a 6 (unless b 7 x) ≡ orElse (unless a 6 (unless b 7 0)) x
 unfolding unless orElse
@@ -30,6 +30,6 @@ both true false x = refl
 both false b x = refl
 
 -- the number of the n-th input row
-pub input-row : (ts is : List ℕ) (n : ℕ) → inputNumber ts is n ≡ inputRowNumber ts (inputTerm is n) (inputValue is n) (on (inputTrail is n) (inputTerm is n))
-unfolding inputNumber inputRowNumber fitNumber givenNumber
+pub input-row : (ts is : List ℕ) (n : ℕ) → inputRefusal ts is n ≡ inputRowRefusal ts (inputTerm is n) (inputValue is n) (on (inputTrail is n) (inputTerm is n))
+unfolding inputRefusal inputRowRefusal fitRefusal givenRefusal
 input-row ts is n = both _ _ _

@@ -3,10 +3,10 @@ ghost use mathlib.Core.Path.{_≡_};
 ghost use Prim.Native.Nat.{_+_, _*_, _-_, _≤_};
 ghost use lib.ListN.{length};
 ghost use Rattle.calculus.specs.Numbers.{checkOf};
-ghost use Rattle.calculus.specs.Sheets.{lengthNumber};
-ghost use Rattle.calculus.specs.Sorts.{indexSort, valueSort, isArray, isPlain, sortNumber, sortsNumber};
+ghost use Rattle.calculus.specs.Sheets.{lengthRefusal};
+ghost use Rattle.calculus.specs.Sorts.{indexSort, valueSort, isArray, isPlain, sortRefusal, sortsRefusal};
 ghost use Rattle.calculus.specs.Terms.{sort};
-ghost use Rattle.sheets.specs.Rows.{fitNumber, givenNumber};
+ghost use Rattle.sheets.specs.Rows.{fitRefusal, givenRefusal};
 use calculus::Check;
 use calculus::Row;
 use calculus::Sort;
@@ -23,7 +23,7 @@ pub fn check_lengths(
     work: &[u64],
     trail: &[u16],
 ) -> Check
-    ensures { λ r. ⌜ r ≡ checkOf (lengthNumber (record { sorts = now (sorts .entry); terms = now (terms .entry); inputs = now (inputs .entry); steps = now (steps .entry); work = now (work .entry); trail = now (trail .entry) })) ⌝ }
+    ensures { λ r. ⌜ r ≡ checkOf (lengthRefusal (record { sorts = now (sorts .entry); terms = now (terms .entry); inputs = now (inputs .entry); steps = now (steps .entry); work = now (work .entry); trail = now (trail .entry) })) ⌝ }
 {
     if !((sorts.len() % 2 == 0)
         & ((terms.len() % 6 == 0) & ((inputs.len() % 2 == 0) & (steps.len() % 9 == 0)))) {
@@ -84,7 +84,7 @@ fn is_plain(sorts: &[u16], s: Sort) -> bool
 // Number 1, of the row of sort k + 1.
 fn check_sort(sorts: &[u16], k: u16) -> Check
     requires { ⌜ k + 1 ≤ 65535 ⌝ }
-    ensures { λ r. ⌜ r ≡ checkOf (sortNumber (now (sorts .entry)) k) ⌝ }
+    ensures { λ r. ⌜ r ≡ checkOf (sortRefusal (now (sorts .entry)) k) ⌝ }
 {
     let s = Sort(k + 1);
     let a = is_array(sorts, s);
@@ -98,7 +98,7 @@ fn check_sort(sorts: &[u16], k: u16) -> Check
 // Number 1: the first sort row in trouble decides.
 pub fn check_sorts(sorts: &[u16]) -> Check
     requires { ⌜ length (now sorts) ≤ 64 ⌝ }
-    ensures { λ r. ⌜ r ≡ checkOf (sortsNumber (now (sorts .entry))) ⌝ }
+    ensures { λ r. ⌜ r ≡ checkOf (sortsRefusal (now (sorts .entry))) ⌝ }
 {
     let n = sorts.len() / 2;
     let mut k: u16 = 0;
@@ -127,7 +127,7 @@ pub fn sort_of(terms: &[u16], t: Row) -> Sort
 
 // Numbers 6 and 7, of an input row with term t and value v.
 pub fn check_input(terms: &[u16], t: Row, v: u16) -> Check
-    ensures { λ r. ⌜ r ≡ checkOf (fitNumber (now (terms .entry)) (t .0) v) ⌝ }
+    ensures { λ r. ⌜ r ≡ checkOf (fitRefusal (now (terms .entry)) (t .0) v) ⌝ }
 {
     let i = t.0 as usize;
     let n = terms.len() / 6;
@@ -143,7 +143,7 @@ pub fn check_input(terms: &[u16], t: Row, v: u16) -> Check
 
 // Number 8, where `given` says whether the row's term stands on the trail already.
 pub fn check_given(given: bool) -> Check
-    ensures { λ r. ⌜ r ≡ checkOf (givenNumber given) ⌝ }
+    ensures { λ r. ⌜ r ≡ checkOf (givenRefusal given) ⌝ }
 {
     if given {
         return Check::Refused(8);

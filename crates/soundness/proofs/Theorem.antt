@@ -6,15 +6,15 @@ use mathlib.Core.List.{List, List·Memᴰ·not-nil}
 use Prim.Native.Nat.{ℕ, zero, suc, _≤_, _<_}
 use native.Mathlib.Omega.{arith}
 use lib.Dec.{eqb}
-use Rattle.calculus.specs.Sheets.{blank, Call, termRows, inputRows, stepRows, lengthNumber}
-use Rattle.calculus.specs.Sorts.{sortsNumber}
-use Rattle.calculus.specs.Terms.{termsNumber}
-use Rattle.calculus.specs.Inputs.{given, inputTerm, inputValue, inputTrail, inputNumber, inputsNumber}
+use Rattle.calculus.specs.Sheets.{blank, Call, termRows, inputRows, stepRows, lengthRefusal}
+use Rattle.calculus.specs.Sorts.{sortsRefusal}
+use Rattle.calculus.specs.Terms.{termsRefusal}
+use Rattle.calculus.specs.Inputs.{given, inputTerm, inputValue, inputTrail, inputRefusal, inputsRefusal}
 use Rattle.calculus.specs.Steps.{State, trailOf, Answer, allowed, refuted, refused, stepAt, step}
-use Rattle.calculus.specs.Run.{Ending, follow, run, sheetsNumber, callNumber, start, endingOf, ending, verdictNumber, outcome}
-use Rattle.calculus.specs.Reached.{ReachedState}
+use Rattle.calculus.specs.Run.{Ending, follow, run, sheetsRefusal, callRefusal, start, endingOf, ending, verdictNumber, outcome}
+use Rattle.calculus.specs.WellFormed.{WellFormedState}
 use Rattle.calculus.proofs.Facts.{and-r, unless-ok, orElse-ok, first-ok}
-use Rattle.calculus.proofs.Reached.{step-reached, input-reached}
+use Rattle.calculus.proofs.WellFormed.{step-well-formed, input-well-formed}
 use Rattle.soundness.specs.Interpretation.{Interpretation, Endorses}
 use Rattle.soundness.specs.Claim.{Given, Sound}
 use Rattle.calculus.proofs.WellSorted.{WellSorted, well-sorted}
@@ -28,9 +28,9 @@ record SoundEnding (ss ts is : List ℕ) (e : Ending) : Type 1 where
 
 -- ---- the input
 
-input-valid : (ss ts is : List ℕ) (n : ℕ) → n ≤ inputRows is → ((k : ℕ) → k < n → inputNumber ts is k ≡ 0)
+input-valid : (ss ts is : List ℕ) (n : ℕ) → n ≤ inputRows is → ((k : ℕ) → k < n → inputRefusal ts is k ≡ 0)
     → AllValid ss ts (Given is) (inputTrail is n)
-unfolding inputTrail inputNumber Given
+unfolding inputTrail inputRefusal Given
 input-valid ss ts is zero l h = λ e m. absurd (List·Memᴰ·not-nil m)
 input-valid ss ts is (suc n) l h =
     let t = inputTerm is n in
@@ -49,35 +49,35 @@ input-valid ss ts is (suc n) l h =
 -- ---- the run
 
 module _ {ss ts : List ℕ} (W : WellSorted ss ts) (is log : List ℕ) where
-  run-sound : (s : State) (n k : ℕ) → ReachedState (termRows ts) s → Good W (Given is) s → SoundEnding ss ts is (run ts log s n k)
+  run-sound : (s : State) (n k : ℕ) → WellFormedState (termRows ts) s → Good W (Given is) s → SoundEnding ss ts is (run ts log s n k)
   unfolding run follow
   run-sound s n zero r g = record { refutation = λ h. absurd (omega arith); entries = g .entries }
   run-sound s n (suc k) r g =
       go (λ s′ q c. run-sound s′ (suc n) k q c) (step ts s (stepAt log n)) refl (step-good W (Given is) (termRows ts) s (stepAt log n) r g)
     where
-      go : ((s′ : State) → ReachedState (termRows ts) s′ → Good W (Given is) s′ → SoundEnding ss ts is (run ts log s′ (suc n) k))
+      go : ((s′ : State) → WellFormedState (termRows ts) s′ → Good W (Given is) s′ → SoundEnding ss ts is (run ts log s′ (suc n) k))
           → (a : Answer) → step ts s (stepAt log n) ≡ a → GoodAnswer W (Given is) a
           → SoundEnding ss ts is (follow (λ s′. run ts log s′ (suc n) k) s n a)
-      go f (allowed s′) e c = f s′ (step-reached ts s s′ (stepAt log n) r e) c
+      go f (allowed s′) e c = f s′ (step-well-formed ts s s′ (stepAt log n) r e) c
       go f refuted e c = record { refutation = λ _. c; entries = g .entries }
       go f (refused q) e c = record { refutation = λ h. absurd (omega arith); entries = g .entries }
 
 -- ---- the call
 
 ending-sound : (x : Call) → SoundEnding (x .sorts) (x .terms) (x .inputs) (ending x)
-unfolding ending endingOf callNumber sheetsNumber inputsNumber ReachedState
-ending-sound x = go (callNumber x) refl
+unfolding ending endingOf callRefusal sheetsRefusal inputsRefusal WellFormedState
+ending-sound x = go (callRefusal x) refl
   where
-    go : (c : ℕ) → callNumber x ≡ c → SoundEnding (x .sorts) (x .terms) (x .inputs) (endingOf c x)
+    go : (c : ℕ) → callRefusal x ≡ c → SoundEnding (x .sorts) (x .terms) (x .inputs) (endingOf c x)
     go zero e =
-        let a = orElse-ok (lengthNumber x) _ e in
-        let b = orElse-ok (sortsNumber (x .sorts)) _ (a .1) in
-        let c = orElse-ok (termsNumber (x .sorts) (x .terms)) _ (b .1) in
+        let a = orElse-ok (lengthRefusal x) _ e in
+        let b = orElse-ok (sortsRefusal (x .sorts)) _ (a .1) in
+        let c = orElse-ok (termsRefusal (x .sorts) (x .terms)) _ (b .1) in
         let W = well-sorted (x .sorts) (x .terms) (c .0) in
-        let h : (k : ℕ) → k < inputRows (x .inputs) → inputNumber (x .terms) (x .inputs) k ≡ 0
-        = λ k l. first-ok (inputRows (x .inputs)) (inputNumber (x .terms) (x .inputs)) k (c .1) l in
+        let h : (k : ℕ) → k < inputRows (x .inputs) → inputRefusal (x .terms) (x .inputs) k ≡ 0
+        = λ k l. first-ok (inputRows (x .inputs)) (inputRefusal (x .terms) (x .inputs)) k (c .1) l in
         run-sound W (x .inputs) (x .steps) (start x) 0 (stepRows (x .steps))
-        (input-reached (x .terms) (x .inputs) (inputRows (x .inputs)) h)
+        (input-well-formed (x .terms) (x .inputs) (inputRows (x .inputs)) h)
         (good-search W (Given (x .inputs)) (input-valid (x .sorts) (x .terms) (x .inputs) (inputRows (x .inputs)) (omega arith) h))
     go (suc c) e = record { refutation = λ h. absurd (omega arith); entries = λ y m. absurd (List·Memᴰ·not-nil m) }
 

@@ -9,7 +9,7 @@ use lib.Dec.{eqb, eqb→eq}
 use Rattle.calculus.specs.Trail.{Set, Trail, on}
 use Rattle.calculus.specs.Steps as calculus
 use Rattle.calculus.specs.Steps.{answer}
-use Rattle.calculus.specs.Reached.{Within, Below, Reached, ReachedState}
+use Rattle.calculus.specs.WellFormed.{Within, Below, WellFormed, WellFormedState}
 use Rattle.calculus.proofs.Facts.{is-or-not, true-T}
 use Rattle.bitset.specs.Windows.{setAt}
 use Rattle.trail.specs.Words
@@ -51,17 +51,17 @@ module _ (w n : ℕ) (ws : List ℕ) (st : Status) where
       go true = refl
       go false = refl
 
-  pub trail-reached : ReachedState n (stateIn w n ws st) → Reached n (trailIn w n ws (st .count))
-  unfolding stateIn ReachedState
-  trail-reached r = go (st .conflict) r
+  pub trail-well-formed : WellFormedState n (stateIn w n ws st) → WellFormed n (trailIn w n ws (st .count))
+  unfolding stateIn WellFormedState
+  trail-well-formed r = go (st .conflict) r
     where
-      go : (b : Bool) → ReachedState n (cond b (calculus.conflict there set) (calculus.searching there)) → Reached n there
+      go : (b : Bool) → WellFormedState n (cond b (calculus.conflict there set) (calculus.searching there)) → WellFormed n there
       go true r = r .0
       go false r = r
 
-  pub conflict-within : st .conflict ≡ true → ReachedState n (stateIn w n ws st) → Within (setAt ws (Words.conflict w n) w) (trailIn w n ws (st .count))
-  unfolding ReachedState
-  conflict-within e r = (subst (ReachedState n) (in-conflict e) r) .1
+  pub conflict-within : st .conflict ≡ true → WellFormedState n (stateIn w n ws st) → Within (setAt ws (Words.conflict w n) w) (trailIn w n ws (st .count))
+  unfolding WellFormedState
+  conflict-within e r = (subst (WellFormedState n) (in-conflict e) r) .1
 
 -- ---- rows past the last stand on no trail
 

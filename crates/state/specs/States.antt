@@ -6,7 +6,7 @@ use Prim.Native.Nat.{ℕ}
 use Rattle.calculus.specs.Sheets.{termRows}
 use Rattle.calculus.specs.Trail.{topLevel}
 use Rattle.calculus.specs.Steps as calculus
-use Rattle.calculus.specs.Reached.{ReachedState}
+use Rattle.calculus.specs.WellFormed.{WellFormedState}
 use Rattle.bitset.specs.Windows.{setAt}
 use Rattle.trail.specs.Words
 use Rattle.trail.specs.Words.{trailIn, Laid}
@@ -30,7 +30,7 @@ pub record Held (w n : ℕ) (ts ws : List ℕ) (st : Status) : Type 0 where
 -- and the state is one that steps can reach
 pub record Standing (w n : ℕ) (ts ws : List ℕ) (st : Status) : Type 0 where
   pub held : Held w n ts ws st
-  pub reached : ReachedState n (stateIn w n ws st)
+  pub wellFormed : WellFormedState n (stateIn w n ws st)
 
 -- the answer r is the answer a of the calculus: an allowed step leaves its state in the words, any other leaves the words as they were
 unfoldable pub Answers : ℕ → ℕ → List ℕ → List ℕ → List ℕ → calculus.Answer → Answer → Type 0

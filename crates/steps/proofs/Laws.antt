@@ -12,7 +12,7 @@ use Rattle.calculus.specs.Lists.{all}
 use Rattle.calculus.specs.Sheets.{blank, termRows}
 use Rattle.calculus.specs.Terms.{filled}
 use Rattle.calculus.specs.Steps as calculus
-use Rattle.calculus.specs.Steps.{needsConflict, isFilled, premises, conflictShaped, shaped, ready, known, stepBy, answer, rowNumber, kindOf, step}
+use Rattle.calculus.specs.Steps.{needsConflict, isFilled, premises, conflictShaped, shaped, ready, known, stepBy, answer, rowRefusal, kindOf, step}
 use Rattle.calculus.proofs.Facts.{facts, true-T, both-true, unless-yes, unless-no}
 use Rattle.trail.specs.Words.{trailIn}
 use Rattle.moves.specs.Post.{conflictIn}
@@ -102,27 +102,27 @@ module _ (w n : ℕ) (ts ws : List ℕ) (st : Status) (x : Step) (k : Kind) wher
 -- ---- a row: the first test that fails decides, and then its step
 
 module _ (ts : List ℕ) (s : calculus.State) (x : Step) {k : Kind} (e : k ≡ kindOf (x .step)) where
-  numbered : (c : ℕ) → rowNumber ts s x ≡ suc c → step ts s x ≡ calculus.refused (suc c)
+  numbered : (c : ℕ) → rowRefusal ts s x ≡ suc c → step ts s x ≡ calculus.refused (suc c)
   unfolding step answer
   numbered c q = rw q
 
   pub step-9 : shaped x k ≡ false → step ts s x ≡ calculus.refused 9
-  unfolding rowNumber
+  unfolding rowRefusal
   step-9 a = numbered 8 (unless-no _ _ (ap (shaped x) (sym e) ∙ a))
 
   pub step-10 : shaped x k ≡ true → ready s k ≡ false → step ts s x ≡ calculus.refused 10
-  unfolding rowNumber
+  unfolding rowRefusal
   step-10 a b = numbered 9 (unless-yes _ _ (ap (shaped x) (sym e) ∙ a) ∙ unless-no _ _ (ap (ready s) (sym e) ∙ b))
 
   pub step-11 : shaped x k ≡ true → ready s k ≡ true → known ts x ≡ false → step ts s x ≡ calculus.refused 11
-  unfolding rowNumber
+  unfolding rowRefusal
   step-11 a b c = numbered 10 (unless-yes _ _ (ap (shaped x) (sym e) ∙ a) ∙ unless-yes _ _ (ap (ready s) (sym e) ∙ b) ∙ unless-no _ _ c)
 
   pub step-on : shaped x k ≡ true → ready s k ≡ true → known ts x ≡ true → step ts s x ≡ stepBy ts k s x
-  unfolding step rowNumber
+  unfolding step rowRefusal
   step-on a b c = go (unless-yes _ _ (ap (shaped x) (sym e) ∙ a) ∙ unless-yes _ _ (ap (ready s) (sym e) ∙ b) ∙ unless-yes _ _ c)
     where
-      go : rowNumber ts s x ≡ 0 → step ts s x ≡ stepBy ts k s x
+      go : rowRefusal ts s x ≡ 0 → step ts s x ≡ stepBy ts k s x
       go z = passed-by (stepBy ts (kindOf (x .step)) s x) (sym z) refl ∙ ap (λ j. stepBy ts j s x) (sym e)
 
 -- ---- the answers, test by test as the code has them

@@ -17,9 +17,9 @@ use Rattle.calculus.proofs.Facts.{both-true, none-true, T-true, true-T, below-a
 use Rattle.calculus.specs.Lists.{all, below, eqList, firstWhere}
 use Rattle.calculus.specs.Numbers.{unless, checkOf}
 use Rattle.calculus.specs.Sheets.{blank, sortRows}
-use Rattle.calculus.specs.Terms.{head, sort, prop, cells, filled, leftFilled, args, termAt, cellsOf, headOf, earlier, suits, sameUse, firstUse, twins, fresh, termNumber}
+use Rattle.calculus.specs.Terms.{head, sort, prop, cells, filled, leftFilled, args, termAt, cellsOf, headOf, earlier, suits, sameUse, firstUse, twins, fresh, termRefusal}
 use Rattle.sheets.proofs.Laws.{passed-zero}
-use Rattle.term_sheet.specs.Found.{FirstRepeat, Noted, Known, noted, slot, smaller, least, mix, otherHead, column, agree, before, placed, rowNumber}
+use Rattle.term_sheet.specs.Found.{FirstRepeat, Noted, Known, noted, slot, smaller, least, mix, otherHead, column, agree, before, placed, rowRefusal}
 
 -- ---- arguments, one more column in front
 
@@ -349,9 +349,9 @@ fresh-is ts n r t F l h = go (eqb t r) refl
     go true q = let e : t ≡ r = eqb-true t r q in ap (fresh ts) e ∙ F .found (omega arith)
     go false q = let d : t ≡ r → ⊥ = eqb-false t r q in below-is (fresh ts) r t (F .before) (omega (arith, d))
 
-pub row-is : (ss ts : List ℕ) (n r t : ℕ) → FirstRepeat ts n r → t ≤ r → t < n → termNumber ss ts t ≡ rowNumber ss ts t (not (eqb t r))
-unfolding rowNumber termNumber
-row-is ss ts n r t F l h = ap (rowNumber ss ts t) (fresh-is ts n r t F l h)
+pub row-is : (ss ts : List ℕ) (n r t : ℕ) → FirstRepeat ts n r → t ≤ r → t < n → termRefusal ss ts t ≡ rowRefusal ss ts t (not (eqb t r))
+unfolding rowRefusal termRefusal
+row-is ss ts n r t F l h = ap (rowRefusal ss ts t) (fresh-is ts n r t F l h)
 
 passed : (a b g : Bool) → g ≡ false → unless a 3 (unless b 4 (unless g 5 0)) ≡ 0 → ⊥
 unfolding unless
@@ -360,14 +360,14 @@ passed true true false f e = omega arith
 passed true false false f e = omega arith
 passed false b false f e = omega arith
 
-pub row-passed : (ss ts : List ℕ) (t r : ℕ) → checkOf (rowNumber ss ts t (not (eqb t r))) ≡ Passed → t ≡ r → ⊥
-unfolding rowNumber
+pub row-passed : (ss ts : List ℕ) (t r : ℕ) → checkOf (rowRefusal ss ts t (not (eqb t r))) ≡ Passed → t ≡ r → ⊥
+unfolding rowRefusal
 row-passed ss ts t r e q = passed _ _ (not (eqb t r)) (ap not (eq-eqb t r q)) (passed-zero _ e)
 
 -- a row's tests, by what the code asks of the row that it has read
 pub row-flat : (ss ts : List ℕ) (t : ℕ) {e : Term} (g : Bool) → e ≡ termAt ts t
-    → rowNumber ss ts t g ≡ unless (all (before t) (cellsOf e)) 3 (unless (leftFilled (cellsOf e) && suits ss ts t (headOf (e .head))) 4 (unless g 5 0))
-unfolding rowNumber earlier cells
+    → rowRefusal ss ts t g ≡ unless (all (before t) (cellsOf e)) 3 (unless (leftFilled (cellsOf e) && suits ss ts t (headOf (e .head))) 4 (unless g 5 0))
+unfolding rowRefusal earlier cells
 row-flat ss ts t g p = rw p
 
 module _ (a b c g : Bool) where
@@ -391,8 +391,8 @@ module _ (a b c g : Bool) where
   fine p q h = let r = both-true a b p in rw (r .0, r .1, q, h)
 
 -- a row without trouble suits its head
-pub suited-row : (ss ts : List ℕ) (u : ℕ) → termNumber ss ts u ≡ 0 → suits ss ts u (headOf (head ts u)) ≡ true
-unfolding termNumber
+pub suited-row : (ss ts : List ℕ) (u : ℕ) → termRefusal ss ts u ≡ 0 → suits ss ts u (headOf (head ts u)) ≡ true
+unfolding termRefusal
 suited-row ss ts u e =
     let p = unless-ok (earlier ts u) 3 _ (omega arith) e in
     let q = unless-ok (leftFilled (cells ts u) && suits ss ts u (headOf (head ts u))) 4 _ (omega arith) (p .1) in

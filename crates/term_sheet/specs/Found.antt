@@ -80,8 +80,8 @@ pub record Known (ss ts : List ℕ) (t : ℕ) (e : Term) (u : ℕ) : Type 0 wher
   pub suit : u < t → suits ss ts u (headOf (head ts u)) ≡ true
 
 -- a row's number, where g says whether it is fresh
-unfoldable pub rowNumber : List ℕ → List ℕ → ℕ → Bool → ℕ
-rowNumber ss ts t g =
+unfoldable pub rowRefusal : List ℕ → List ℕ → ℕ → Bool → ℕ
+rowRefusal ss ts t g =
     unless (earlier ts t) 3 (
     unless (leftFilled (cells ts t) && suits ss ts t (headOf (head ts t))) 4 (
     unless g 5 0))

@@ -7,8 +7,8 @@ ghost use lib.ListN.{length};
 ghost use lib.Dec.{eqb};
 ghost use Rattle.calculus.specs.Lists.{all, below, eqList};
 ghost use Rattle.calculus.specs.Numbers.{checkOf};
-ghost use Rattle.calculus.specs.Terms.{head, sort, prop, filled, cellsOf, argsOf, headOf, sameUse, firstUse, suits, termAt, termsNumber};
-ghost use Rattle.term_sheet.specs.Found.{FirstRepeat, Whole, Known, noted, smaller, least, mixed, mix, otherHead, mostNumbers, column, agree, before, placed, rowNumber};
+ghost use Rattle.calculus.specs.Terms.{head, sort, prop, filled, cellsOf, argsOf, headOf, sameUse, firstUse, suits, termAt, termsRefusal};
+ghost use Rattle.term_sheet.specs.Found.{FirstRepeat, Whole, Known, noted, smaller, least, mixed, mix, otherHead, mostNumbers, column, agree, before, placed, rowRefusal};
 use calculus::Check;
 use calculus::Head;
 use calculus::Row;
@@ -324,7 +324,7 @@ pub fn first_repeat(terms: &[u16], n: usize) -> usize
 // The number of row t, read as e, where row u is the first to use its head and `twin` is the first row that repeats an earlier one.
 fn check_term(sorts: &[u16], terms: &[u16], t: Row, e: Term, u: Row, twin: usize) -> Check
     requires { ⌜ Known (now sorts) (now terms) (t .0) e (u .0) ⌝ }
-    ensures { λ r. ⌜ r ≡ checkOf (rowNumber (now (sorts .entry)) (now (terms .entry)) (t .0) (not (eqb (t .0) twin))) ⌝ }
+    ensures { λ r. ⌜ r ≡ checkOf (rowRefusal (now (sorts .entry)) (now (terms .entry)) (t .0) (not (eqb (t .0) twin))) ⌝ }
 {
     if !in_place(e, t) {
         if all_earlier(e, t) {
@@ -345,7 +345,7 @@ fn check_term(sorts: &[u16], terms: &[u16], t: Row, e: Term, u: Row, twin: usize
 // Numbers 3, 4, 5: the first term row in trouble decides.
 pub fn check_terms(sorts: &[u16], terms: &[u16]) -> Check
     requires { ⌜ length (now terms) ≤ mostNumbers ⌝ }
-    ensures { λ r. ⌜ r ≡ checkOf (termsNumber (now (sorts .entry)) (now (terms .entry))) ⌝ }
+    ensures { λ r. ⌜ r ≡ checkOf (termsRefusal (now (sorts .entry)) (now (terms .entry))) ⌝ }
 {
     let n = terms.len() / 6;
     let twin = first_repeat(terms, n);

@@ -9,7 +9,7 @@ use lib.Dec.{eqb, leb}
 use lib.ListN.{length}
 use borrow.Author.Tests.{eqb-true, eqb-false, eq-eqb, le-leb, lt-leb}
 use Rattle.calculus.specs.Trail.{Set, Trail, Entry, empty, insert, on, entry, levelAt, decidedAt, holds, levelOf, topLevel, keptTo}
-use Rattle.calculus.specs.Reached.{Distinct, Below}
+use Rattle.calculus.specs.WellFormed.{Distinct, Below}
 use Rattle.calculus.proofs.Facts.{is-or-not, true-or-false, none-true, cond-case}
 use Rattle.calculus.proofs.Entries.{entry-here, entry-older, kept-off}
 use Rattle.trail.specs.Words.{kindAt}

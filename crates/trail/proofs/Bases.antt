@@ -9,9 +9,9 @@ use lib.Dec.{eqb, leb, ltb}
 use lib.ListN.{getD}
 use borrow.Author.Tests.{le-leb, leb-true, ltb-true, ltb-false}
 use Rattle.calculus.specs.Trail.{Trail, Entry, on, levelOf, topLevel, keptTo}
-use Rattle.calculus.specs.Reached.{Reached}
+use Rattle.calculus.specs.WellFormed.{WellFormed}
 use Rattle.calculus.proofs.Facts.{is-or-not, both-true, cond-case}
-use Rattle.calculus.proofs.Reached.{newest}
+use Rattle.calculus.proofs.WellFormed.{newest}
 use Rattle.trail.specs.Words.{levels, kinds, order, entryFor, trailIn, kindAt, Laid}
 use Rattle.trail.specs.Bases.{baseOf, Base}
 use Rattle.trail.proofs.Abstract.{kind-on}
@@ -20,11 +20,11 @@ use Rattle.trail.proofs.Laws.{trail-more, below-at, entry-at}
 -- ---- trails
 
 -- a decision is one level above all before it
-decided-above : {n : ℕ} (e : Entry) (older : Trail) → Reached n (e ∷ older) → e .decided ≡ true → e .level ≡ 1 + topLevel older
+decided-above : {n : ℕ} (e : Entry) (older : Trail) → WellFormed n (e ∷ older) → e .decided ≡ true → e .level ≡ 1 + topLevel older
 decided-above e older r d = newest e older r .0 .level ∙ rw d
 
 -- the base has no level above m
-pub base-low : {n : ℕ} (m : ℕ) (tr : Trail) → Reached n tr → topLevel (baseOf m tr) ≤ m
+pub base-low : {n : ℕ} (m : ℕ) (tr : Trail) → WellFormed n tr → topLevel (baseOf m tr) ≤ m
 unfolding baseOf levelOf
 base-low m [] r = omega arith
 base-low m (e ∷ older) r =
@@ -42,12 +42,12 @@ kept-all m (e ∷ older) h = rw (le-leb (e .level) m (omega arith)) (ap (λ (l :
 
 -- ---- the first entries of a trail in words
 
-reached-first : {k : ℕ} (w N : ℕ) (ws : List ℕ) (n i : ℕ) → Reached k (trailIn w N ws n) → i ≤ n → Reached k (trailIn w N ws i)
+well-formed-first : {k : ℕ} (w N : ℕ) (ws : List ℕ) (n i : ℕ) → WellFormed k (trailIn w N ws n) → i ≤ n → WellFormed k (trailIn w N ws i)
 unfolding trailIn
-reached-first w N ws zero i r h = let e : i ≡ 0 = omega arith in rw e r
-reached-first w N ws (suc n) i r h =
+well-formed-first w N ws zero i r h = let e : i ≡ 0 = omega arith in rw e r
+well-formed-first w N ws (suc n) i r h =
     ⊎-elim
-    (λ b. let l : i < suc n = ltb-true i (suc n) b in reached-first w N ws n i (newest _ _ r .1) (omega arith))
+    (λ b. let l : i < suc n = ltb-true i (suc n) b in well-formed-first w N ws n i (newest _ _ r .1) (omega arith))
     (λ b. let l : suc n ≤ i = ltb-false i (suc n) b in let e : i ≡ suc n = omega arith in rw e r)
     (is-or-not (ltb i (suc n)))
 
@@ -98,10 +98,10 @@ module _ (w N : ℕ) (ws : List ℕ) (n m i k : ℕ) (u : Seeking w N ws n m i) 
   pub seek-on : eqb (getD ws (kinds w N + t) 0) 2 && leb l m ≡ false → Seeking w N ws n m k
   seek-on q = record { within = omega (arith, u .within); same = sym (opened ∙ rw q) }
 
-  pub seek-found : {j : ℕ} → Reached j (trailIn w N ws n) → eqb (getD ws (kinds w N + t) 0) 2 && leb l m ≡ true → Base w N ws n m k l
+  pub seek-found : {j : ℕ} → WellFormed j (trailIn w N ws n) → eqb (getD ws (kinds w N + t) 0) 2 && leb l m ≡ true → Base w N ws n m k l
   seek-found r q =
       let b = both-true (eqb (getD ws (kinds w N + t) 0) 2) (leb l m) q in
-      let d = decided-above (entryFor w N ws t) (trailIn w N ws k) (rw here at (reached-first w N ws n i r (u .within))) (b .0) in
+      let d = decided-above (entryFor w N ws t) (trailIn w N ws k) (rw here at (well-formed-first w N ws n i r (u .within))) (b .0) in
       record { within = omega (arith, u .within); trail = sym (opened ∙ rw q); greatest = omega (arith, d, below) }
 
 pub seek-end : (w N : ℕ) (ws : List ℕ) (n m i : ℕ) → i ≡ 0 → Seeking w N ws n m i → Base w N ws n m 0 0

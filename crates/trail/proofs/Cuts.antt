@@ -10,7 +10,7 @@ use lib.ListN.{getD, set, length-set}
 use lib.Seq.{getD-set-same, getD-set-other}
 use borrow.Author.Tests.{eqb-true, eqb-false}
 use Rattle.calculus.specs.Trail.{Trail, Entry, on, keptTo, topLevel}
-use Rattle.calculus.specs.Reached.{Below, Reached}
+use Rattle.calculus.specs.WellFormed.{Below, WellFormed}
 use Rattle.calculus.proofs.Facts.{is-or-not}
 use Rattle.calculus.proofs.Entries.{kept-off}
 use Rattle.bitset.specs.Windows.{Only}
@@ -30,7 +30,7 @@ pub record Cutting (w N : ℕ) (ws₀ ws : List ℕ) (m j i top : ℕ) : Type 0 
   pub greatest : top ≡ topLevel (keptTo m (trailIn w N ws₀ i))
 
 -- the base is kept as it stands
-pub cut-base : (w N : ℕ) (ws : List ℕ) (n m i top : ℕ) → Laid w N ws n → Reached N (trailIn w N ws n) → Base w N ws n m i top → Cutting w N ws ws m i i top
+pub cut-base : (w N : ℕ) (ws : List ℕ) (n m i top : ℕ) → Laid w N ws n → WellFormed N (trailIn w N ws n) → Base w N ws n m i top → Cutting w N ws ws m i i top
 cut-base w N ws n m i top laid r b =
     let low : topLevel (trailIn w N ws i) ≤ m = rw (b .trail) (base-low m (trailIn w N ws n) r) in
     let all = kept-all m (trailIn w N ws i) low in

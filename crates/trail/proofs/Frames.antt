@@ -11,7 +11,7 @@ use lib.ListN.{length, getD, set, replicate, length-set}
 use lib.Seq.{ext-getD, getD-set-same, getD-set-other}
 use borrow.Author.Tests.{ltb-true, ltb-false, eqb-true, eqb-false}
 use Rattle.calculus.specs.Trail.{Trail, Entry, empty, on, decidedAt, whyAt, assigned}
-use Rattle.calculus.specs.Reached.{Distinct, Below}
+use Rattle.calculus.specs.WellFormed.{Distinct, Below}
 use Rattle.calculus.proofs.Facts.{is-or-not, true-or-false}
 use Rattle.calculus.proofs.Entries.{entry-off}
 use Rattle.bitset.specs.Windows.{setAt, Only}

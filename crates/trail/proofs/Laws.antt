@@ -12,7 +12,7 @@ use lib.ListN.{length, getD, set}
 use lib.Seq.{getD-set-other}
 use borrow.Author.Tests.{ltb-true, ltb-false, eqb-true, eqb-false}
 use Rattle.calculus.specs.Trail.{Trail, Entry, empty, on, entry}
-use Rattle.calculus.specs.Reached.{Distinct, Below}
+use Rattle.calculus.specs.WellFormed.{Distinct, Below}
 use Rattle.calculus.proofs.Facts.{is-or-not, true-or-false}
 use Rattle.bitset.proofs.Windows.{same-set}
 use Rattle.trail.specs.Words.{values, levels, kinds, order, entryFor, trailIn, Laid}

@@ -12,7 +12,7 @@ use lib.Seq.{getD-set-same, getD-set-other}
 use mir.Val.{boolByte}
 use borrow.Author.Tests.{eqb-true, eqb-false, ne-eqb}
 use Rattle.calculus.specs.Trail.{Trail, Entry, empty, on}
-use Rattle.calculus.specs.Reached.{Distinct, Below}
+use Rattle.calculus.specs.WellFormed.{Distinct, Below}
 use Rattle.calculus.proofs.Facts.{is-or-not}
 use Rattle.bitset.specs.Windows.{setAt}
 use Rattle.bitset.proofs.Windows.{same-set}

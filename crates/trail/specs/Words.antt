@@ -8,7 +8,7 @@ use mathlib.Core.List.{List, [], _∷_}
 use lib.Dec.{eqb}
 use lib.ListN.{length, getD}
 use Rattle.calculus.specs.Trail.{Set, Trail, Entry, empty, on, decidedAt, keptTo, topLevel}
-use Rattle.calculus.specs.Reached.{Distinct, Below}
+use Rattle.calculus.specs.WellFormed.{Distinct, Below}
 use Rattle.bitset.specs.Windows.{setAt, Only}
 
 -- where each table begins: all linear in N * w and N

@@ -5,7 +5,7 @@ ghost use mathlib.Core.Bool.{true, false};
 ghost use Prim.Native.Nat.{_+_, _-_, _*_, _<_, _≤_, max};
 ghost use lib.ListN.{length, replicate};
 ghost use Rattle.calculus.specs.Trail.{on, valueAt, levelAt, decidedAt, assigned};
-ghost use Rattle.calculus.specs.Reached.{Reached};
+ghost use Rattle.calculus.specs.WellFormed.{WellFormed};
 ghost use Rattle.bitset.specs.Windows.{setAt};
 ghost use Rattle.trail.specs.Words.{conflict, trailIn, entryOf, Laid, Pushed, Cut};
 ghost use Rattle.trail.specs.Bases.{Base};
@@ -122,7 +122,7 @@ pub fn lower(m: Level) -> Level
 // The entries before the newest decision of level at most m + 1, and their greatest level; none where there is no such decision.
 // Levels being what they are, all of them are of level at most m, so that keeping to m leaves them as they stand.
 fn base(work: &[u64], w: usize, terms: usize, n: usize, m: Level) -> Kept
-    requires { ⌜ Laid w terms (now work) n × Reached terms (trailIn w terms (now work) n) ⌝ }
+    requires { ⌜ Laid w terms (now work) n × WellFormed terms (trailIn w terms (now work) n) ⌝ }
     ensures { λ r. ⌜ Base w terms (now (work .entry)) n (m .0) (r .count) (r .top .0) ⌝ }
 {
     let b = terms * w;
@@ -146,7 +146,7 @@ fn base(work: &[u64], w: usize, terms: usize, n: usize, m: Level) -> Kept
 
 // The trail kept to level m: past the base the order closes up, and the kinds of what goes become 0.
 pub fn cut(work: &mut [u64], w: usize, terms: usize, n: usize, m: Level) -> Kept
-    requires { ⌜ Laid w terms (now work) n × Reached terms (trailIn w terms (now work) n) ⌝ }
+    requires { ⌜ Laid w terms (now work) n × WellFormed terms (trailIn w terms (now work) n) ⌝ }
     ensures { λ r. ⌜ Cut w terms (now (work .entry)) (now (work .exit)) n (m .0) (r .count) (r .top .0) ⌝ }
 {
     let first = base(work, w, terms, n, m);

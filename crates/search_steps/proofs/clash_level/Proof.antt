@@ -1,5 +1,5 @@
 -- `search_steps::clash_level` meets its contract.
-use Rattle.calculus.proofs.Reached.{level-more}
+use Rattle.calculus.proofs.WellFormed.{level-more}
 use mathlib.Core.Path.{sym}
 use borrow.Author.Needs.{needs}
 use Rattle.search_steps.proofs.clash_level.Statement.{statement}

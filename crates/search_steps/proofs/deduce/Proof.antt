@@ -9,20 +9,20 @@ use borrow.Author.Needs.{needs}
 use Rattle.search_steps.proofs.deduce.Statement.{statement}
 use Rattle.search_steps.proofs.deduce.Tie as tie
 
-deduce-number-requires : tie.Need-deduce-number-requires
-deduce-number-requires c κs = search needs
+deduce-refusal-requires : tie.Need-deduce-refusal-requires
+deduce-refusal-requires c κs = search needs
 
 same-length : tie.Need-same-length
 same-length c = search needs
 
 returns : tie.Need-returns
 unfolding Answers deduce
-returns c = (refused-by _ (c .before .deduce-number .ensures) (c .if1 .taken), refl)
+returns c = (refused-by _ (c .before .deduce-refusal .ensures) (c .if1 .taken), refl)
 
 premises-level-requires : tie.Need-premises-level-requires
 premises-level-requires c κs =
     let k = c .before .before .before .before .before .before in
-    (search needs, deduce-on _ _ (k .args .x .rule) (k .args .x .term) (k .args .x .value) _ (sym (c .before .before .deduce-number .ensures) ∙ c .before .if1 .left))
+    (search needs, deduce-on _ _ (k .args .x .rule) (k .args .x .term) (k .args .x .value) _ (sym (c .before .before .deduce-refusal .ensures) ∙ c .before .if1 .left))
 
 slice-aggregate-propagate : tie.Need-slice-aggregate-propagate
 slice-aggregate-propagate c = search needs
@@ -31,7 +31,7 @@ propagate-requires : tie.Need-propagate-requires
 unfolding premises
 propagate-requires c κs =
     let k = c .before .before .before .before .before .before .before .before .before in
-    let h = deduce-new _ _ (k .args .x .rule) (k .args .x .term) (k .args .x .value) _ (sym (c .before .before .before .before .before .deduce-number .ensures) ∙ c .before .before .before .before .if1 .left) in
+    let h = deduce-new _ _ (k .args .x .rule) (k .args .x .term) (k .args .x .value) _ (sym (c .before .before .before .before .before .deduce-refusal .ensures) ∙ c .before .before .before .before .if1 .left) in
     (search needs, search needs, h .1, k .pre .0 .held .top, h .0, c .before .before .premises-level .ensures)
 
 same-length-2 : tie.Need-same-length-2
@@ -39,13 +39,13 @@ same-length-2 c = search needs
 
 returns-2 : tie.Need-returns-2
 unfolding deduce premises
-returns-2 c = landed _ _ _ _ _ _ refl (c .before .before .before .before .before .before .before .before .before .before .before .before .before .pre .0 .held .rows) (c .before .before .before .propagate .ensures) (passed-by _ (c .before .before .before .before .before .before .before .before .before .deduce-number .ensures) (c .before .before .before .before .before .before .before .before .if1 .left))
+returns-2 c = landed _ _ _ _ _ _ refl (c .before .before .before .before .before .before .before .before .before .before .before .before .before .pre .0 .held .rows) (c .before .before .before .propagate .ensures) (passed-by _ (c .before .before .before .before .before .before .before .before .before .deduce-refusal .ensures) (c .before .before .before .before .before .before .before .before .if1 .left))
 
 pub deduce-spec : {M : Type 1} → statement M
 deduce-spec =
     tie.close
     (tie.spec
-    deduce-number-requires
+    deduce-refusal-requires
     same-length
     returns
     premises-level-requires

@@ -2,7 +2,7 @@
 use mathlib.Core.Path.{refl, ap}
 use Rattle.calculus.specs.Numbers.{checkOf}
 use Rattle.sheets.proofs.Laws.{stop, pass}
-use Rattle.sheets.specs.Rows.{fitNumber}
+use Rattle.sheets.specs.Rows.{fitRefusal}
 use borrow.Author.Needs.{needs}
 use Rattle.sheets.proofs.check_input.Statement.{statement}
 use Rattle.sheets.proofs.check_input.Tie as tie
@@ -11,18 +11,18 @@ cast-i : tie.Need-cast-i
 cast-i c = search needs
 
 returns : tie.Need-returns
-unfolding fitNumber
+unfolding fitRefusal
 returns c = ap checkOf (stop _ 6 _ (c .if1 .taken))
 
 sort-of-requires : tie.Need-sort-of-requires
 sort-of-requires c κs = search needs
 
 returns-2 : tie.Need-returns-2
-unfolding fitNumber
+unfolding fitRefusal
 returns-2 c = rw (← c .before .before .sort-of .ensures) (ap checkOf (pass _ 6 _ _ (c .before .before .before .if1 .left) (stop _ 7 _ (c .if2 .taken))))
 
 returns-3 : tie.Need-returns-3
-unfolding fitNumber
+unfolding fitRefusal
 returns-3 c = rw (← c .before .before .sort-of .ensures) (ap checkOf (pass _ 6 _ _ (c .before .before .before .if1 .left) (pass _ 7 _ _ (c .if2 .left) refl)))
 
 pub check-input-spec : {M : Type 1} → statement M

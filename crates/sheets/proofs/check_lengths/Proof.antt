@@ -2,17 +2,17 @@
 use mathlib.Core.Path.{refl, ap}
 use Rattle.calculus.specs.Numbers.{checkOf}
 use Rattle.sheets.proofs.Laws.{stop, pass}
-use Rattle.calculus.specs.Sheets.{lengthNumber}
+use Rattle.calculus.specs.Sheets.{lengthRefusal}
 use borrow.Author.Needs.{needs}
 use Rattle.sheets.proofs.check_lengths.Statement.{statement}
 use Rattle.sheets.proofs.check_lengths.Tie as tie
 
 returns : tie.Need-returns
-unfolding lengthNumber
+unfolding lengthRefusal
 returns c = ap checkOf (stop _ 31 _ (c .if1 .taken))
 
 returns-2 : tie.Need-returns-2
-unfolding lengthNumber
+unfolding lengthRefusal
 returns-2 c = ap checkOf (pass _ 31 _ _ (c .before .if1 .left) (stop _ 30 _ (c .if2 .taken)))
 
 mul-if3 : tie.Need-mul-if3
@@ -25,11 +25,11 @@ mul-if3-2 : tie.Need-mul-if3-2
 mul-if3-2 c = search needs
 
 returns-3 : tie.Need-returns-3
-unfolding lengthNumber
+unfolding lengthRefusal
 returns-3 c = ap checkOf (pass _ 31 _ _ (c .before .before .if1 .left) (pass _ 30 _ _ (c .before .if2 .left) (stop _ 32 _ (c .if3 .taken))))
 
 returns-4 : tie.Need-returns-4
-unfolding lengthNumber
+unfolding lengthRefusal
 returns-4 c = ap checkOf (pass _ 31 _ _ (c .before .before .if1 .left) (pass _ 30 _ _ (c .before .if2 .left) (pass _ 32 _ _ (c .if3 .left) refl)))
 
 pub check-lengths-spec : {M : Type 1} → statement M

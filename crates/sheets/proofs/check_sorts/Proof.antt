@@ -3,8 +3,8 @@ use lib.ListN.{length}
 use Rattle.calculus.specs.Numbers.{checkOf}
 use Rattle.sheets.proofs.Laws.{first-none, first-more, first-found}
 use borrow.Author.Needs.{needs}
-use Rattle.calculus.specs.Sorts.{sortNumber, sortsNumber}
-use Rattle.calculus.specs.Numbers.{firstNumber}
+use Rattle.calculus.specs.Sorts.{sortRefusal, sortsRefusal}
+use Rattle.calculus.specs.Numbers.{firstRefusal}
 use Prim.Native.Nat.{_≤_, _-_, _/_}
 use native.Mathlib.Omega.{arith}
 use borrow.Author.Tests.{ltb-true, ltb-false}
@@ -13,7 +13,7 @@ use Rattle.sheets.proofs.check_sorts.Statement.{statement}
 use Rattle.sheets.proofs.check_sorts.Tie as tie
 
 abbrev Inv-loop : tie.InvT-loop
-Inv-loop sorts n k₀ k = (k ≤ n) × (firstNumber k (sortNumber sorts) ≡ 0)
+Inv-loop sorts n k₀ k = (k ≤ n) × (firstRefusal k (sortRefusal sorts) ≡ 0)
 
 abbrev μ-loop : tie.MeasureT-loop
 μ-loop sorts n k₀ k = n - k
@@ -31,8 +31,8 @@ enum-known-c : tie.Need-enum-known-c Inv-loop μ-loop
 enum-known-c c = search needs
 
 returns : tie.Need-returns Inv-loop μ-loop
-unfolding sortsNumber
-returns c = first-found (sortNumber (c .before .before .before .before .before .before .before .args .sorts .now)) _ (c .before .before .before .before .before .loop .k) _ (c .before .before .before .before .before .loop .inv .1) (sym (c .before .before .before .check-sort .ensures) ∙ c .before .c .given .1) (omega (arith, ltb-true))
+unfolding sortsRefusal
+returns c = first-found (sortRefusal (c .before .before .before .before .before .before .before .args .sorts .now)) _ (c .before .before .before .before .before .loop .k) _ (c .before .before .before .before .before .loop .inv .1) (sym (c .before .before .before .check-sort .ensures) ∙ c .before .c .given .1) (omega (arith, ltb-true))
 
 enum-told : tie.Need-enum-told Inv-loop μ-loop
 enum-told c = search needs
@@ -44,10 +44,10 @@ loop-less : tie.Need-loop-less Inv-loop μ-loop
 loop-less c = omega (arith, ltb-true)
 
 loop-again : tie.Need-loop-again Inv-loop μ-loop
-loop-again c = (omega (arith, ltb-true), first-more (sortNumber (c .before .before .before .before .before .before .args .sorts .now)) (c .before .before .before .before .loop .k) (c .before .before .before .before .loop .inv .1) (sym (c .before .before .check-sort .ensures) ∙ c .enum-told .given .1))
+loop-again c = (omega (arith, ltb-true), first-more (sortRefusal (c .before .before .before .before .before .before .args .sorts .now)) (c .before .before .before .before .loop .k) (c .before .before .before .before .loop .inv .1) (sym (c .before .before .check-sort .ensures) ∙ c .enum-told .given .1))
 
 returns-2 : tie.Need-returns-2 Inv-loop μ-loop
-unfolding sortsNumber
+unfolding sortsRefusal
 returns-2 c = let e : c .before .loop .k ≡ length (c .before .before .before .args .sorts .now) / 2 = omega (arith, ltb-false) in sym (ap checkOf (rw e at (c .before .loop .inv .1)))
 
 pub check-sorts-spec : {M : Type 1} → statement M

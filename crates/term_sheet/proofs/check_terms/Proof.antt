@@ -3,8 +3,8 @@ use Rattle.term_sheet.proofs.Laws.{row-is, row-passed, suited-row, use-
 use Rattle.term_sheet.specs.Found.{Noted, least}
 use Rattle.sheets.proofs.Laws.{first-none, first-more, first-found}
 use Rattle.calculus.proofs.Facts.{first-ok}
-use Rattle.calculus.specs.Terms.{head, termNumber, termsNumber}
-use Rattle.calculus.specs.Numbers.{firstNumber, checkOf}
+use Rattle.calculus.specs.Terms.{head, termRefusal, termsRefusal}
+use Rattle.calculus.specs.Numbers.{firstRefusal, checkOf}
 use lib.ListN.{length}
 use borrow.Author.Needs.{needs}
 use borrow.Author.Tests.{ltb-true, ltb-false}
@@ -15,7 +15,7 @@ use Rattle.term_sheet.proofs.check_terms.Statement.{statement}
 use Rattle.term_sheet.proofs.check_terms.Tie as tie
 
 abbrev Inv-loop : tie.InvT-loop
-Inv-loop sorts terms n twin slots₀ t₀ slots t = (t ≤ n) × (t ≤ twin) × (firstNumber t (termNumber sorts terms) ≡ 0) × Noted (head terms) t slots
+Inv-loop sorts terms n twin slots₀ t₀ slots t = (t ≤ n) × (t ≤ twin) × (firstRefusal t (termRefusal sorts terms) ≡ 0) × Noted (head terms) t slots
 
 abbrev μ-loop : tie.MeasureT-loop
 μ-loop sorts terms n twin slots₀ t₀ slots t = n - t
@@ -56,18 +56,18 @@ check-term-requires : tie.Need-check-term-requires Inv-loop μ-loop
 check-term-requires c κs =
     let a = c .before .before .before .before .before .before .before .before .before .before .args in
     let l = c .before .before .before .before .before .before .loop in
-    record { row = c .before .before .before .before .term-at .ensures; first = c .first-use .ensures; suit = λ h. suited-row (a .sorts .now) (a .terms .now) _ (first-ok (l .t) (termNumber (a .sorts .now) (a .terms .now)) _ (l .inv .2) h) }
+    record { row = c .before .before .before .before .term-at .ensures; first = c .first-use .ensures; suit = λ h. suited-row (a .sorts .now) (a .terms .now) _ (first-ok (l .t) (termRefusal (a .sorts .now) (a .terms .now)) _ (l .inv .2) h) }
 
 enum-known-c : tie.Need-enum-known-c Inv-loop μ-loop
 enum-known-c c = search needs
 
 returns : tie.Need-returns Inv-loop μ-loop
-unfolding termsNumber
+unfolding termsRefusal
 returns c =
     let a = c .before .before .before .before .before .before .before .before .before .before .before .before .before .before .args in
     let l = c .before .before .before .before .before .before .before .before .before .before .loop in
     let r = row-is (a .sorts .now) (a .terms .now) _ _ (l .t) (c .before .before .before .before .before .before .before .before .before .before .before .first-repeat .ensures) (l .inv .1) (omega (arith, ltb-true)) in
-    first-found (termNumber (a .sorts .now) (a .terms .now)) _ (l .t) _ (l .inv .2) (ap checkOf r ∙ (sym (c .before .before .before .check-term .ensures) ∙ c .before .c .given .1)) (omega (arith, ltb-true))
+    first-found (termRefusal (a .sorts .now) (a .terms .now)) _ (l .t) _ (l .inv .2) (ap checkOf r ∙ (sym (c .before .before .before .check-term .ensures) ∙ c .before .c .given .1)) (omega (arith, ltb-true))
 
 enum-told : tie.Need-enum-told Inv-loop μ-loop
 enum-told c = search needs
@@ -86,10 +86,10 @@ loop-again c =
     let p = sym (c .before .before .check-term .ensures) ∙ c .enum-told .given .1 in
     let d = row-passed (a .sorts .now) (a .terms .now) (l .t) (c .before .before .before .before .before .before .before .before .before .before .first-repeat .result) p in
     let s = rw (c .before .before .before .before .before .before .before .term-at .ensures) at (c .before .before .before .before .note .ensures .0) in
-    (omega (arith, ltb-true), omega (arith, d), first-more (termNumber (a .sorts .now) (a .terms .now)) (l .t) (l .inv .2) (ap checkOf r ∙ p), note-more (head (a .terms .now)) (l .slots) _ (l .t) (l .inv .3) s)
+    (omega (arith, ltb-true), omega (arith, d), first-more (termRefusal (a .sorts .now) (a .terms .now)) (l .t) (l .inv .2) (ap checkOf r ∙ p), note-more (head (a .terms .now)) (l .slots) _ (l .t) (l .inv .3) s)
 
 returns-2 : tie.Need-returns-2 Inv-loop μ-loop
-unfolding termsNumber
+unfolding termsRefusal
 returns-2 c =
     let a = c .before .before .before .before .before .args in
     let e : c .before .loop .t ≡ length (a .terms .now) / 6 = omega (arith, ltb-false) in

@@ -1,9 +1,9 @@
--- `conflict_steps::flip_number` meets its contract.
+-- `conflict_steps::flip_refusal` meets its contract.
 use Rattle.conflict_steps.proofs.Laws.{member-in}
 use Rattle.conflict_steps.proofs.Tests.{told, flip-17-l, flip-17-k, flip-22, flip-18-l, flip-18-k, flip-23-same, flip-23-apart, flip-0}
 use borrow.Author.Needs.{needs}
-use Rattle.conflict_steps.proofs.flip_number.Statement.{statement}
-use Rattle.conflict_steps.proofs.flip_number.Tie as tie
+use Rattle.conflict_steps.proofs.flip_refusal.Statement.{statement}
+use Rattle.conflict_steps.proofs.flip_refusal.Tie as tie
 
 in-conflict-requires : tie.Need-in-conflict-requires
 in-conflict-requires c κs = search needs
@@ -54,8 +54,8 @@ returns-7 c = search flip-23-apart
 returns-8 : tie.Need-returns-8
 returns-8 c = search flip-0
 
-pub flip-number-spec : {M : Type 1} → statement M
-flip-number-spec =
+pub flip-refusal-spec : {M : Type 1} → statement M
+flip-refusal-spec =
     tie.close
     (tie.spec
     in-conflict-requires

@@ -11,14 +11,14 @@ use Rattle.calculus.specs.declared.Step.{Step}
 use Rattle.calculus.specs.declared.Kind.{Kind}
 use Rattle.calculus.specs.declared.Kind.the-variants.{Decide, Deduce, Clash, Resolve, Clear, Jump, Flip, Unlisted}
 use Rattle.calculus.specs.Lists.{has}
-use Rattle.calculus.specs.Sheets.{Call, termRows, inputRows, stepRows, lengthNumber}
-use Rattle.calculus.specs.Sorts.{sortsNumber}
-use Rattle.calculus.specs.Terms.{prop, termsNumber}
+use Rattle.calculus.specs.Sheets.{Call, termRows, inputRows, stepRows, lengthRefusal}
+use Rattle.calculus.specs.Sorts.{sortsRefusal}
+use Rattle.calculus.specs.Terms.{prop, termsRefusal}
 use Rattle.calculus.specs.Trail.{Set, Trail, Entry, remove, intersection, on, entry, levelAt, whyAt, holds, firstOrder, levelOf, topLevel, keptTo, decision, justified}
-use Rattle.calculus.specs.Inputs.{given, inputTerm, inputValue, inputTrail, inputNumber, inputsNumber}
-use Rattle.calculus.specs.Steps.{State, searching, conflict, trailOf, conflictOf, Answer, allowed, refuted, refused, answer, stepAt, premises, known, kindOf, decideNumber, decide, inferenceNumber, deduceNumber, deduce, clashNumber, clashSet, clashed, clash, resolve, clear, jumpNumber, jump, flipNumber, flip, rowNumber, stepBy, step}
-use Rattle.calculus.specs.Run.{follow, run, sheetsNumber, callNumber, start, endingOf, ending}
-use Rattle.calculus.specs.Reached.{Within, Distinct, Below, Grounded, relevelled, Reached, ReachedState}
+use Rattle.calculus.specs.Inputs.{given, inputTerm, inputValue, inputTrail, inputRefusal, inputsRefusal}
+use Rattle.calculus.specs.Steps.{State, searching, conflict, trailOf, conflictOf, Answer, allowed, refuted, refused, answer, stepAt, premises, known, kindOf, decideRefusal, decide, inferenceRefusal, deduceRefusal, deduce, clashRefusal, clashSet, clashed, clash, resolve, clear, jumpRefusal, jump, flipRefusal, flip, rowRefusal, stepBy, step}
+use Rattle.calculus.specs.Run.{follow, run, sheetsRefusal, callRefusal, start, endingOf, ending}
+use Rattle.calculus.specs.WellFormed.{Within, Distinct, Below, Grounded, relevelled, WellFormed, WellFormedState}
 use Rattle.calculus.proofs.Facts.{and-l, and-r, T-true, T-false, true-T, is-or-not, true-or-false, both-true, one-true, cond-case, all-at, has-at, unless-ok, orElse-ok, first-ok, answer-case}
 use Rattle.calculus.proofs.Entries.{entered-on, entry-in, entry-older, entry-off, level-ge, level-le, level-empty, kept-entry, kept-off, level-kept, level-at, holds-at}
 
@@ -35,18 +35,18 @@ pub record Placed (n : ℕ) (e : Entry) (older : Trail) : Type 0 where
   pub low : (t : ℕ) → e .why t ≡ true → levelAt older t ≤ e .level
   pub level : e .level ≡ ruled e older
 
-pub push-reached : {n : ℕ} (e : Entry) {older : Trail} → Placed n e older → Reached n older → Reached n (e ∷ older)
+pub push-well-formed : {n : ℕ} (e : Entry) {older : Trail} → Placed n e older → WellFormed n older → WellFormed n (e ∷ older)
 unfolding Distinct Below Grounded relevelled
-push-reached e {older} p r = record {
+push-well-formed e {older} p r = record {
   distinct = (p .new, r .distinct);
   below = (p .row, r .below);
   grounded = (p .why, p .low, r .grounded);
   levels = rw (r .levels) (λ i. record { term = e .term; value = e .value; level = sym (p .level) i; decided = e .decided; why = e .why } ∷ older);
 }
 
-pub none-reached : {n : ℕ} → Reached n []
+pub none-well-formed : {n : ℕ} → WellFormed n []
 unfolding Distinct Below Grounded relevelled
-none-reached = record { distinct = tt; below = tt; grounded = tt; levels = refl }
+none-well-formed = record { distinct = tt; below = tt; grounded = tt; levels = refl }
 
 tail-of : Trail → Trail
 unfolding relevelled
@@ -57,8 +57,8 @@ level-of-head : Trail → ℕ
 level-of-head [] = 0
 level-of-head (e ∷ older) = e .level
 
--- the newest entry is placed on a reached trail
-pub newest : {n : ℕ} (e : Entry) (older : Trail) → Reached n (e ∷ older) → Placed n e older × Reached n older
+-- the newest entry is placed on a well-formed trail
+pub newest : {n : ℕ} (e : Entry) (older : Trail) → WellFormed n (e ∷ older) → Placed n e older × WellFormed n older
 unfolding Distinct Below Grounded relevelled tail-of level-of-head
 newest e older r =
     let q : relevelled older ≡ older = ap tail-of (r .levels) in (
@@ -72,7 +72,7 @@ newest e older r =
       record { distinct = r .distinct .1; below = r .below .1; grounded = r .grounded .2; levels = q },
     )
 
--- ---- look-up on a reached trail
+-- ---- look-up on a well-formed trail
 
 -- a term that stands among the older entries is not the newest one's
 apart : (x : Entry) (older : Trail) (t : ℕ) → on older (x .term) ≡ false → on older t ≡ true → eqb (x .term) t ≡ false
@@ -91,10 +91,10 @@ same-level : {e x : Entry} (l : ℕ) → e ≡ x → x .level ≤ l → e .level
 same-level l q h = subst (λ (y : Entry). y .level ≤ l) (sym q) h
 
 -- the members of a justification stand on the trail, at levels not above the entry's
-pub why-reached : {n : ℕ} (tr : Trail) (a t : ℕ) → Reached n tr → whyAt tr a t ≡ true → (on tr t ≡ true) × (levelAt tr t ≤ levelAt tr a)
+pub why-well-formed : {n : ℕ} (tr : Trail) (a t : ℕ) → WellFormed n tr → whyAt tr a t ≡ true → (on tr t ≡ true) × (levelAt tr t ≤ levelAt tr a)
 unfolding entry
-why-reached [] a t r h = absurd (true-or-false h refl)
-why-reached {n} (x ∷ older) a t r h = let q = newest x older r in go (q .0) (λ k. why-reached older a t (q .1) k) (eqb (x .term) a) refl h
+why-well-formed [] a t r h = absurd (true-or-false h refl)
+why-well-formed {n} (x ∷ older) a t r h = let q = newest x older r in go (q .0) (λ k. why-well-formed older a t (q .1) k) (eqb (x .term) a) refl h
   where
     go : Placed n x older → (whyAt older a t ≡ true → (on older t ≡ true) × (levelAt older t ≤ levelAt older a)) → (b : Bool) → eqb (x .term) a ≡ b
         → (cond b x (entry older a)) .why t ≡ true → (on (x ∷ older) t ≡ true) × (levelAt (x ∷ older) t ≤ (cond b x (entry older a)) .level)
@@ -102,7 +102,7 @@ why-reached {n} (x ∷ older) a t r h = let q = newest x older r in go (q .0) (�
     go p k false e w = let z = k w in let y = past-newest x older t p (z .0) in (y .0, same-level _ (y .1) (z .1))
 
 -- a decision is above level 0
-pub decided-high : {n : ℕ} (tr : Trail) (e : Entry) → Reached n tr → List·Memᴰ e tr → T (e .decided) → 0 < e .level
+pub decided-high : {n : ℕ} (tr : Trail) (e : Entry) → WellFormed n tr → List·Memᴰ e tr → T (e .decided) → 0 < e .level
 decided-high [] e r m d = absurd (elim m [ ])
 decided-high (x ∷ older) e r (List·Memᴰ·head q) d =
     let p = newest x older r .0 .level in
@@ -111,7 +111,7 @@ decided-high (x ∷ older) e r (List·Memᴰ·head q) d =
 decided-high (x ∷ older) e r (List·Memᴰ·tail m) d = decided-high older e (newest x older r .1) m d
 
 -- two entries of one term are one
-pub one-entry : {n : ℕ} (tr : Trail) (e x : Entry) → Reached n tr → List·Memᴰ e tr → List·Memᴰ x tr → e .term ≡ x .term → e ≡ x
+pub one-entry : {n : ℕ} (tr : Trail) (e x : Entry) → WellFormed n tr → List·Memᴰ e tr → List·Memᴰ x tr → e .term ≡ x .term → e ≡ x
 one-entry [] e x r a b q = absurd (elim a [ ])
 one-entry (y ∷ older) e x r (List·Memᴰ·head a) (List·Memᴰ·head b) q = a ∙ sym b
 one-entry (y ∷ older) e x r (List·Memᴰ·head a) (List·Memᴰ·tail b) q =
@@ -120,10 +120,10 @@ one-entry (y ∷ older) e x r (List·Memᴰ·tail a) (List·Memᴰ·head b) q =
     absurd (true-or-false (T-true _ (entered-on older (y .term) e a (q ∙ ap (λ (z : Entry). z .term) b))) (newest y older r .0 .new))
 one-entry (y ∷ older) e x r (List·Memᴰ·tail a) (List·Memᴰ·tail b) q = one-entry older e x (newest y older r .1) a b q
 
--- ---- what is kept is reached
+-- ---- what is kept is well-formed
 
 -- a term above level m is not kept
-pub off-kept : {n : ℕ} (m : ℕ) (tr : Trail) (t : ℕ) → Reached n tr → m < levelAt tr t → on (keptTo m tr) t ≡ false
+pub off-kept : {n : ℕ} (m : ℕ) (tr : Trail) (t : ℕ) → WellFormed n tr → m < levelAt tr t → on (keptTo m tr) t ≡ false
 unfolding keptTo on entry
 off-kept m [] t r h = refl
 off-kept m (x ∷ older) t r h = let q = newest x older r in go (q .0 .new) (λ k. off-kept m older t (q .1) k) (leb (x .level) m) refl (eqb (x .term) t) refl h
@@ -139,13 +139,13 @@ off-kept m (x ∷ older) t r h = let q = newest x older r in go (q .0 .new) (λ 
 pub within-kept : (m : ℕ) (tr : Trail) (s : Set) → Within s tr → levelOf tr s ≤ m → Within s (keptTo m tr)
 within-kept m tr s h l t q = kept-entry m tr t (h t q) (let k = level-at tr s t (h t q) q in omega arith) .0
 
-pub kept-reached : {n : ℕ} (m : ℕ) (tr : Trail) → Reached n tr → Reached n (keptTo m tr)
+pub kept-well-formed : {n : ℕ} (m : ℕ) (tr : Trail) → WellFormed n tr → WellFormed n (keptTo m tr)
 unfolding keptTo
-kept-reached m [] r = r
-kept-reached m (x ∷ older) r =
+kept-well-formed m [] r = r
+kept-well-formed m (x ∷ older) r =
     let q = newest x older r in
-    cond-case (Reached _) (leb (x .level) m) (x ∷ keptTo m older) (keptTo m older)
-    (λ h. push-reached x (placed (q .0) (leb→le _ _ (true-T _ h))) (kept-reached m older (q .1))) (λ h. kept-reached m older (q .1))
+    cond-case (WellFormed _) (leb (x .level) m) (x ∷ keptTo m older) (keptTo m older)
+    (λ h. push-well-formed x (placed (q .0) (leb→le _ _ (true-T _ h))) (kept-well-formed m older (q .1))) (λ h. kept-well-formed m older (q .1))
   where
     ruled-kept : (b : Bool) → x .level ≤ m → x .level ≡ cond b (1 + topLevel older) (levelOf older (x .why)) → x .level ≡ cond b (1 + topLevel (keptTo m older)) (levelOf (keptTo m older) (x .why))
     ruled-kept true l e = let k : topLevel (keptTo m older) ≡ topLevel older = level-kept m older (λ u. true) (omega arith) in omega arith
@@ -163,31 +163,31 @@ kept-reached m (x ∷ older) r =
           level = ruled-kept (x .decided) l (p .level);
         }
 
--- ---- one entry more is reached
+-- ---- one entry more is well-formed
 
-pub decision-reached : {n : ℕ} (tr : Trail) (t v : ℕ) → Reached n tr → t < n → on tr t ≡ false → Reached n (decision tr t v ∷ tr)
-decision-reached tr t v r l h = push-reached (decision tr t v) (record { new = h; row = l; why = λ u w. absurd (true-or-false w refl); low = λ u w. absurd (true-or-false w refl); level = refl }) r
+pub decision-well-formed : {n : ℕ} (tr : Trail) (t v : ℕ) → WellFormed n tr → t < n → on tr t ≡ false → WellFormed n (decision tr t v ∷ tr)
+decision-well-formed tr t v r l h = push-well-formed (decision tr t v) (record { new = h; row = l; why = λ u w. absurd (true-or-false w refl); low = λ u w. absurd (true-or-false w refl); level = refl }) r
 
-pub justified-reached : {n : ℕ} (tr : Trail) (t v : ℕ) (s : Set) → Reached n tr → t < n → on tr t ≡ false → Within s tr → Reached n (justified tr t v s ∷ tr)
-justified-reached tr t v s r l h w = push-reached (justified tr t v s) (record { new = h; row = l; why = w; low = λ u q. level-at tr s u (w u q) q; level = refl }) r
+pub justified-well-formed : {n : ℕ} (tr : Trail) (t v : ℕ) (s : Set) → WellFormed n tr → t < n → on tr t ≡ false → Within s tr → WellFormed n (justified tr t v s ∷ tr)
+justified-well-formed tr t v s r l h w = push-well-formed (justified tr t v s) (record { new = h; row = l; why = w; low = λ u q. level-at tr s u (w u q) q; level = refl }) r
 
--- ---- the trail and the conflict of a reached state
+-- ---- the trail and the conflict of a well-formed state
 
-pub trail-reached : (n : ℕ) (s : State) → ReachedState n s → Reached n (trailOf s)
-unfolding ReachedState
-trail-reached n (searching tr) r = r
-trail-reached n (conflict tr E) r = r .0
+pub trail-well-formed : (n : ℕ) (s : State) → WellFormedState n s → WellFormed n (trailOf s)
+unfolding WellFormedState
+trail-well-formed n (searching tr) r = r
+trail-well-formed n (conflict tr E) r = r .0
 
-pub conflict-within : (n : ℕ) (s : State) → ReachedState n s → Within (conflictOf s) (trailOf s)
-unfolding ReachedState
+pub conflict-within : (n : ℕ) (s : State) → WellFormedState n s → Within (conflictOf s) (trailOf s)
+unfolding WellFormedState
 conflict-within n (searching tr) r = λ t h. absurd (true-or-false h refl)
 conflict-within n (conflict tr E) r = r .1
 
--- ---- every step keeps a reached state
+-- ---- every step keeps a well-formed state
 
--- of an answer: the state after an allowed step is reached
+-- of an answer: the state after an allowed step is well-formed
 abbrev Kept : ℕ → Answer → Type 0
-Kept n (allowed s) = ReachedState n s
+Kept n (allowed s) = WellFormedState n s
 Kept n refuted = Unit {0}
 Kept n (refused c) = Unit {0}
 
@@ -199,34 +199,34 @@ module _ (ts : List ℕ) where
   abbrev rows : ℕ
   rows = termRows ts
 
-  decide-kept : (tr : Trail) (t v : ℕ) → Reached rows tr → t < rows → Kept rows (decide ts tr t v)
-  unfolding decide decideNumber ReachedState
+  decide-kept : (tr : Trail) (t v : ℕ) → WellFormed rows tr → t < rows → Kept rows (decide ts tr t v)
+  unfolding decide decideRefusal WellFormedState
   decide-kept tr t v r l =
       kept-answer rows _ _ (λ e.
       let a = unless-ok _ 22 _ (omega arith) e in
       let b = unless-ok _ 14 _ (omega arith) (a .1) in
-      decision-reached tr t v r l (T-false _ (b .0)))
+      decision-well-formed tr t v r l (T-false _ (b .0)))
 
   -- the premises of an inference stand on the trail
-  pub inference-ok : (tr : Trail) (r l v : ℕ) (ps : List ℕ) (rest : ℕ) → inferenceNumber ts tr r l v ps rest ≡ 0 → Within (has ps) tr × (rest ≡ 0)
-  unfolding inferenceNumber
+  pub inference-ok : (tr : Trail) (r l v : ℕ) (ps : List ℕ) (rest : ℕ) → inferenceRefusal ts tr r l v ps rest ≡ 0 → Within (has ps) tr × (rest ≡ 0)
+  unfolding inferenceRefusal
   inference-ok tr r l v ps rest e =
       let a = unless-ok _ 22 _ (omega arith) e in
       let b = unless-ok _ 12 _ (omega arith) (a .1) in
       let c = unless-ok _ 13 _ (omega arith) (b .1) in
       ((λ t h. T-true _ (all-at (on tr) ps (b .0) (has-at ps (true-T _ h)))), c .1)
 
-  deduce-kept : (tr : Trail) (r l v : ℕ) (ps : List ℕ) → Reached rows tr → l < rows → Kept rows (deduce ts tr r l v ps)
-  unfolding deduce deduceNumber ReachedState
+  deduce-kept : (tr : Trail) (r l v : ℕ) (ps : List ℕ) → WellFormed rows tr → l < rows → Kept rows (deduce ts tr r l v ps)
+  unfolding deduce deduceRefusal WellFormedState
   deduce-kept tr r l v ps i k =
       kept-answer rows _ _ (λ e.
       let a = inference-ok tr r l v ps _ e in
       let b = unless-ok _ 14 _ (omega arith) (a .1) in
       let c = unless-ok _ 15 _ (omega arith) (b .1) in
-      justified-reached tr l v (has ps) i k (T-false _ (c .0)) (a .0))
+      justified-well-formed tr l v (has ps) i k (T-false _ (c .0)) (a .0))
 
-  clash-kept : (tr : Trail) (r l v : ℕ) (ps : List ℕ) → Reached rows tr → Kept rows (clash ts tr r l v ps)
-  unfolding clash clashNumber clashed ReachedState
+  clash-kept : (tr : Trail) (r l v : ℕ) (ps : List ℕ) → WellFormed rows tr → Kept rows (clash ts tr r l v ps)
+  unfolding clash clashRefusal clashed WellFormedState
   clash-kept tr r l v ps i =
       kept-answer rows _ _ (λ e.
       let a = inference-ok tr r l v ps _ e in
@@ -234,26 +234,26 @@ module _ (ts : List ℕ) where
       cond-case (Kept rows) (eqb (levelOf tr (clashSet l ps)) 0) refuted (allowed (conflict tr (clashSet l ps))) (λ _. tt)
       (λ _. (i, λ t h. ⊎-elim (λ q. ap (on tr) (eqb→eq _ _ (true-T _ q)) ∙ T-true _ (and-l (on tr l) _ (b .0))) (λ q. a .0 t q) (one-true (eqb t l) (has ps t) h))))
 
-  module _ (tr : Trail) (E : Set) (i : Reached rows tr) (inside : Within E tr) where
+  module _ (tr : Trail) (E : Set) (i : WellFormed rows tr) (inside : Within E tr) where
     resolve-kept : (a : ℕ) → Kept rows (resolve ts tr E a)
-    unfolding resolve ReachedState
+    unfolding resolve WellFormedState
     resolve-kept a =
         kept-answer rows _ _ (λ e.
-        (i, λ t h. ⊎-elim (λ q. inside t (both-true (E t) _ q .0)) (λ q. why-reached tr a t i q .0) (one-true (remove E a t) (whyAt tr a t) h)))
+        (i, λ t h. ⊎-elim (λ q. inside t (both-true (E t) _ q .0)) (λ q. why-well-formed tr a t i q .0) (one-true (remove E a t) (whyAt tr a t) h)))
 
     clear-kept : (a : ℕ) → Kept rows (clear ts tr E a)
-    unfolding clear ReachedState
-    clear-kept a = kept-answer rows _ _ (λ e. kept-reached _ tr i)
+    unfolding clear WellFormedState
+    clear-kept a = kept-answer rows _ _ (λ e. kept-well-formed _ tr i)
 
     jump-kept : (l : ℕ) → l < rows → Kept rows (jump ts tr E l)
-    unfolding jump jumpNumber ReachedState
+    unfolding jump jumpRefusal WellFormedState
     jump-kept l k =
         kept-answer rows _ _ (λ e.
         let a = unless-ok _ 17 _ (omega arith) e in
         let b = unless-ok _ 22 _ (omega arith) (a .1) in
         let c = unless-ok _ 21 _ (omega arith) (b .1) in
         let m = levelOf tr (remove E l) in
-        justified-reached (keptTo m tr) l _ (remove E l) (kept-reached m tr i) k (off-kept m tr l i (ltb→lt _ _ (c .0)))
+        justified-well-formed (keptTo m tr) l _ (remove E l) (kept-well-formed m tr i) k (off-kept m tr l i (ltb→lt _ _ (c .0)))
         (within-kept m tr (remove E l) (λ t h. inside t (both-true (E t) _ h .0)) (omega arith)))
 
     -- what shares a first-order decision at level m is not below m, and m is above 0
@@ -262,7 +262,7 @@ module _ (ts : List ℕ) where
         let d = holds-at tr (intersection (whyAt tr l) (whyAt tr k)) (firstOrder ts m) h in
         let x = d .0 in
         let w : whyAt tr l (x .term) ≡ true = T-true _ (and-l (whyAt tr l (x .term)) _ (d .2)) in
-        let q = why-reached tr l (x .term) i w in
+        let q = why-well-formed tr l (x .term) i w in
         let y = entry-in tr (x .term) (true-T _ (q .0)) in
         let s : entry tr (x .term) ≡ x = one-entry tr (entry tr (x .term)) x i (y .0) (d .1) (y .1) in
         let u : levelAt tr (x .term) ≡ x .level = ap (λ (z : Entry). z .level) s in
@@ -271,7 +271,7 @@ module _ (ts : List ℕ) where
         (omega (arith, q .1), omega arith)
 
     flip-kept : (l k : ℕ) → l < rows → Kept rows (flip ts tr E l k)
-    unfolding flip flipNumber ReachedState
+    unfolding flip flipRefusal WellFormedState
     flip-kept l k j =
         kept-answer rows _ _ (λ e.
         let a = unless-ok _ 17 _ (omega arith) e in
@@ -280,21 +280,21 @@ module _ (ts : List ℕ) where
         let d = unless-ok _ 23 _ (omega arith) (c .1) in
         let m = levelOf tr E in
         let h = shared-high l k m (and-r (not (eqb l k)) _ (d .0)) in
-        decision-reached (keptTo (m - 1) tr) l _ (kept-reached (m - 1) tr i) j (off-kept (m - 1) tr l i (omega (arith, h .0, h .1))))
+        decision-well-formed (keptTo (m - 1) tr) l _ (kept-well-formed (m - 1) tr i) j (off-kept (m - 1) tr l i (omega (arith, h .0, h .1))))
 
-  step-by-kept : (k : Kind) (s : State) (x : Step) → ReachedState rows s → x .term < rows → Kept rows (stepBy ts k s x)
+  step-by-kept : (k : Kind) (s : State) (x : Step) → WellFormedState rows s → x .term < rows → Kept rows (stepBy ts k s x)
   unfolding stepBy
-  step-by-kept Decide s x r l = decide-kept (trailOf s) (x .term) (x .value) (trail-reached rows s r) l
-  step-by-kept Deduce s x r l = deduce-kept (trailOf s) (x .rule) (x .term) (x .value) (premises x) (trail-reached rows s r) l
-  step-by-kept Clash s x r l = clash-kept (trailOf s) (x .rule) (x .term) (x .value) (premises x) (trail-reached rows s r)
-  step-by-kept Resolve s x r l = resolve-kept (trailOf s) (conflictOf s) (trail-reached rows s r) (conflict-within rows s r) (x .term)
-  step-by-kept Clear s x r l = clear-kept (trailOf s) (conflictOf s) (trail-reached rows s r) (conflict-within rows s r) (x .term)
-  step-by-kept Jump s x r l = jump-kept (trailOf s) (conflictOf s) (trail-reached rows s r) (conflict-within rows s r) (x .term) l
-  step-by-kept Flip s x r l = flip-kept (trailOf s) (conflictOf s) (trail-reached rows s r) (conflict-within rows s r) (x .term) (x .p) l
+  step-by-kept Decide s x r l = decide-kept (trailOf s) (x .term) (x .value) (trail-well-formed rows s r) l
+  step-by-kept Deduce s x r l = deduce-kept (trailOf s) (x .rule) (x .term) (x .value) (premises x) (trail-well-formed rows s r) l
+  step-by-kept Clash s x r l = clash-kept (trailOf s) (x .rule) (x .term) (x .value) (premises x) (trail-well-formed rows s r)
+  step-by-kept Resolve s x r l = resolve-kept (trailOf s) (conflictOf s) (trail-well-formed rows s r) (conflict-within rows s r) (x .term)
+  step-by-kept Clear s x r l = clear-kept (trailOf s) (conflictOf s) (trail-well-formed rows s r) (conflict-within rows s r) (x .term)
+  step-by-kept Jump s x r l = jump-kept (trailOf s) (conflictOf s) (trail-well-formed rows s r) (conflict-within rows s r) (x .term) l
+  step-by-kept Flip s x r l = flip-kept (trailOf s) (conflictOf s) (trail-well-formed rows s r) (conflict-within rows s r) (x .term) (x .p) l
   step-by-kept Unlisted s x r l = tt
 
-  step-kept : (s : State) (x : Step) → ReachedState rows s → Kept rows (step ts s x)
-  unfolding step rowNumber known
+  step-kept : (s : State) (x : Step) → WellFormedState rows s → Kept rows (step ts s x)
+  unfolding step rowRefusal known
   step-kept s x r =
       kept-answer rows _ _ (λ e.
       let a = unless-ok _ 9 _ (omega arith) e in
@@ -302,30 +302,30 @@ module _ (ts : List ℕ) where
       let c = unless-ok _ 11 _ (omega arith) (b .1) in
       step-by-kept (kindOf (x .step)) s x r (ltb→lt _ _ (and-l (ltb (x .term) (termRows ts)) _ (c .0))))
 
-  -- an allowed step leads from a reached state to a reached one
-  pub step-reached : (s s′ : State) (x : Step) → ReachedState rows s → step ts s x ≡ allowed s′ → ReachedState rows s′
-  step-reached s s′ x r e = subst (Kept rows) e (step-kept s x r)
+  -- an allowed step leads from a well-formed state to a well-formed one
+  pub step-well-formed : (s s′ : State) (x : Step) → WellFormedState rows s → step ts s x ≡ allowed s′ → WellFormedState rows s′
+  step-well-formed s s′ x r e = subst (Kept rows) e (step-kept s x r)
 
-  run-reached : (log : List ℕ) (s : State) (n k : ℕ) → ReachedState rows s → ReachedState rows (run ts log s n k .state)
+  run-well-formed : (log : List ℕ) (s : State) (n k : ℕ) → WellFormedState rows s → WellFormedState rows (run ts log s n k .state)
   unfolding run follow
-  run-reached log s n zero r = r
-  run-reached log s n (suc k) r = go (λ s′ q. run-reached log s′ (suc n) k q) (step ts s (stepAt log n)) (step-kept s (stepAt log n) r)
+  run-well-formed log s n zero r = r
+  run-well-formed log s n (suc k) r = go (λ s′ q. run-well-formed log s′ (suc n) k q) (step ts s (stepAt log n)) (step-kept s (stepAt log n) r)
     where
-      go : ((s′ : State) → ReachedState rows s′ → ReachedState rows (run ts log s′ (suc n) k .state)) → (a : Answer) → Kept rows a
-          → ReachedState rows (follow (λ s′. run ts log s′ (suc n) k) s n a .state)
+      go : ((s′ : State) → WellFormedState rows s′ → WellFormedState rows (run ts log s′ (suc n) k .state)) → (a : Answer) → Kept rows a
+          → WellFormedState rows (follow (λ s′. run ts log s′ (suc n) k) s n a .state)
       go f (allowed s′) q = f s′ q
       go f refuted q = r
       go f (refused c) q = r
 
-  -- the input's trail is reached where its rows are no trouble
-  pub input-reached : (is : List ℕ) (n : ℕ) → ((k : ℕ) → k < n → inputNumber ts is k ≡ 0) → Reached rows (inputTrail is n)
-  unfolding inputTrail inputNumber
-  input-reached is zero h = none-reached
-  input-reached is (suc n) h =
+  -- the input's trail is well-formed where its rows are no trouble
+  pub input-well-formed : (is : List ℕ) (n : ℕ) → ((k : ℕ) → k < n → inputRefusal ts is k ≡ 0) → WellFormed rows (inputTrail is n)
+  unfolding inputTrail inputRefusal
+  input-well-formed is zero h = none-well-formed
+  input-well-formed is (suc n) h =
       let a = unless-ok _ 6 _ (omega arith) (h n (omega arith)) in
       let b = unless-ok _ 7 _ (omega arith) (a .1) in
       let c = unless-ok _ 8 _ (omega arith) (b .1) in
-      push-reached (given (inputTerm is n) (inputValue is n))
+      push-well-formed (given (inputTerm is n) (inputValue is n))
       (record {
         new = T-false _ (c .0);
         row = ltb→lt _ _ (a .0);
@@ -333,26 +333,26 @@ module _ (ts : List ℕ) where
         low = λ t w. absurd (true-or-false w refl);
         level = sym (level-empty (inputTrail is n));
       })
-      (input-reached is n (λ k l. h k (omega arith)))
+      (input-well-formed is n (λ k l. h k (omega arith)))
 
--- the state that any call ends in, whatever its sheets hold, is reached
-pub call-reached : (x : Call) → ReachedState (termRows (x .terms)) (ending x .state)
-unfolding ending endingOf callNumber sheetsNumber inputsNumber ReachedState
-call-reached x = go (callNumber x) refl
+-- the state that any call ends in, whatever its sheets hold, is well-formed
+pub call-well-formed : (x : Call) → WellFormedState (termRows (x .terms)) (ending x .state)
+unfolding ending endingOf callRefusal sheetsRefusal inputsRefusal WellFormedState
+call-well-formed x = go (callRefusal x) refl
   where
-    go : (c : ℕ) → callNumber x ≡ c → ReachedState (termRows (x .terms)) (endingOf c x .state)
+    go : (c : ℕ) → callRefusal x ≡ c → WellFormedState (termRows (x .terms)) (endingOf c x .state)
     go zero e =
-        let a = orElse-ok (lengthNumber x) _ e in
-        let b = orElse-ok (sortsNumber (x .sorts)) _ (a .1) in
-        let c = orElse-ok (termsNumber (x .sorts) (x .terms)) _ (b .1) in
-        run-reached (x .terms) (x .steps) (start x) 0 (stepRows (x .steps))
-        (input-reached (x .terms) (x .inputs) (inputRows (x .inputs)) (λ k l. first-ok (inputRows (x .inputs)) (inputNumber (x .terms) (x .inputs)) k (c .1) l))
-    go (suc c) e = none-reached
+        let a = orElse-ok (lengthRefusal x) _ e in
+        let b = orElse-ok (sortsRefusal (x .sorts)) _ (a .1) in
+        let c = orElse-ok (termsRefusal (x .sorts) (x .terms)) _ (b .1) in
+        run-well-formed (x .terms) (x .steps) (start x) 0 (stepRows (x .steps))
+        (input-well-formed (x .terms) (x .inputs) (inputRows (x .inputs)) (λ k l. first-ok (inputRows (x .inputs)) (inputRefusal (x .terms) (x .inputs)) k (c .1) l))
+    go (suc c) e = none-well-formed
 
 -- ---- levels are small
 
 -- a trail's greatest level is at most its length
-pub top-length : {n : ℕ} (tr : Trail) → Reached n tr → topLevel tr ≤ length tr
+pub top-length : {n : ℕ} (tr : Trail) → WellFormed n tr → topLevel tr ≤ length tr
 unfolding levelOf
 top-length [] r = omega arith
 top-length (x ∷ older) r =
