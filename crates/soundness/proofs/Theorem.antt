@@ -1,7 +1,7 @@
 -- Demand 3: the claim holds of every call, whatever its sheets hold and whoever wrote the log.
 use mathlib.Core.Path.{_≡_, refl}
 use mathlib.Core.Logic.{inl}
-use mathlib.Core.Bool.{not}
+use mathlib.Core.Bool.{true, not}
 use mathlib.Core.List.{List, List·Memᴰ·not-nil}
 use Prim.Native.Nat.{ℕ, zero, suc, _≤_, _<_}
 use native.Mathlib.Omega.{arith}
@@ -10,21 +10,22 @@ use Rattle.calculus.specs.Sheets.{blank, Call, termRows, inputRows, stepRows, l
 use Rattle.calculus.specs.Sorts.{sortsRefusal}
 use Rattle.calculus.specs.Terms.{termsRefusal}
 use Rattle.calculus.specs.Inputs.{given, inputTerm, inputValue, inputTrail, inputRefusal, inputsRefusal}
-use Rattle.calculus.specs.Steps.{State, trailOf, Answer, allowed, refuted, refused, stepAt, step}
+use Rattle.calculus.specs.Steps.{State, trailOf, conflictOf, inConflict, Answer, allowed, refuted, refused, stepAt, step}
 use Rattle.calculus.specs.Run.{Ending, follow, run, sheetsRefusal, callRefusal, start, endingOf, ending, verdictNumber, outcome}
 use Rattle.calculus.specs.WellFormed.{WellFormedState}
-use Rattle.calculus.proofs.Facts.{and-r, unless-ok, orElse-ok, first-ok}
+use Rattle.calculus.proofs.Facts.{true-or-false, and-r, unless-ok, orElse-ok, first-ok}
 use Rattle.calculus.proofs.WellFormed.{step-well-formed, input-well-formed}
 use Rattle.soundness.specs.Interpretation.{Interpretation, Endorses}
 use Rattle.soundness.specs.Claim.{Given, Sound}
 use Rattle.calculus.proofs.WellSorted.{WellSorted, well-sorted}
-use Rattle.soundness.proofs.Invariant.{AllValid, push-valid}
+use Rattle.soundness.proofs.Invariant.{AllValid, Unendorsed, push-valid}
 use Rattle.soundness.proofs.Steps.{Good, GoodAnswer, good-search, step-good, value-small}
 
 -- what is to be shown of a run's end
 record SoundEnding (ss ts is : List ℕ) (e : Ending) : Type 1 where
   refutation : verdictNumber (e .verdict) ≡ 1 → (M : Interpretation ss ts) → Endorses M (Given is) → ⊥
   entries : AllValid ss ts (Given is) (trailOf (e .state))
+  conflicts : inConflict (e .state) ≡ true → Unendorsed ss ts (Given is) (trailOf (e .state)) (conflictOf (e .state))
 
 -- ---- the input
 
@@ -51,7 +52,7 @@ input-valid ss ts is (suc n) l h =
 module _ {ss ts : List ℕ} (W : WellSorted ss ts) (is log : List ℕ) where
   run-sound : (s : State) (n k : ℕ) → WellFormedState (termRows ts) s → Good W (Given is) s → SoundEnding ss ts is (run ts log s n k)
   unfolding run follow
-  run-sound s n zero r g = record { refutation = λ h. absurd (omega arith); entries = g .entries }
+  run-sound s n zero r g = record { refutation = λ h. absurd (omega arith); entries = g .entries; conflicts = g .conflicting }
   run-sound s n (suc k) r g =
       go (λ s′ q c. run-sound s′ (suc n) k q c) (step ts s (stepAt log n)) refl (step-good W (Given is) (termRows ts) s (stepAt log n) r g)
     where
@@ -59,8 +60,8 @@ module _ {ss ts : List ℕ} (W : WellSorted ss ts) (is log : List ℕ) where
           → (a : Answer) → step ts s (stepAt log n) ≡ a → GoodAnswer W (Given is) a
           → SoundEnding ss ts is (follow (λ s′. run ts log s′ (suc n) k) s n a)
       go f (allowed s′) e c = f s′ (step-well-formed ts s s′ (stepAt log n) r e) c
-      go f refuted e c = record { refutation = λ _. c; entries = g .entries }
-      go f (refused q) e c = record { refutation = λ h. absurd (omega arith); entries = g .entries }
+      go f refuted e c = record { refutation = λ _. c; entries = g .entries; conflicts = g .conflicting }
+      go f (refused q) e c = record { refutation = λ h. absurd (omega arith); entries = g .entries; conflicts = g .conflicting }
 
 -- ---- the call
 
@@ -79,10 +80,10 @@ ending-sound x = go (callRefusal x) refl
         run-sound W (x .inputs) (x .steps) (start x) 0 (stepRows (x .steps))
         (input-well-formed (x .terms) (x .inputs) (inputRows (x .inputs)) h)
         (good-search W (Given (x .inputs)) (input-valid (x .sorts) (x .terms) (x .inputs) (inputRows (x .inputs)) (omega arith) h))
-    go (suc c) e = record { refutation = λ h. absurd (omega arith); entries = λ y m. absurd (List·Memᴰ·not-nil m) }
+    go (suc c) e = record { refutation = λ h. absurd (omega arith); entries = λ y m. absurd (List·Memᴰ·not-nil m); conflicts = λ h. absurd (true-or-false h refl) }
 
 pub sound : (x : Call) → Sound x
 unfolding outcome
 sound x =
     let s = ending-sound x in
-    record { refutation = s .refutation; entries = λ e m d z M N. s .entries e m .entailed d z M N }
+    record { refutation = s .refutation; entries = λ e m d z M N. s .entries e m .entailed d z M N; conflicts = s .conflicts }
