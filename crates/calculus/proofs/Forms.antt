@@ -10,16 +10,21 @@ use lib.Dec.{eqb, leb, ltb}
 use borrow.Author.Tests.{lt-leb}
 use Rattle.calculus.specs.declared.Premise.{Premise}
 use Rattle.calculus.specs.declared.Head.the-variants.{Free, Unlisted}
+use Rattle.calculus.specs.declared.Rule.the-variants.{Congruence, Predicate}
 use Rattle.calculus.specs.Lists.{below, somewhere}
 use Rattle.calculus.specs.Sheets.{blank}
-use Rattle.calculus.specs.Terms.{head, cells, selectHead, storeHead, firstFree, heads, headOf, isFree, isFunction, twins}
-use Rattle.calculus.specs.Rules.{gives, others, allBut, isHead, unitAt}
+use Rattle.calculus.specs.Terms.{head, cells, args, arg, eqHead, selectHead, storeHead, firstFree, heads, headOf, isFree, isFunction, twins}
+use Rattle.calculus.specs.Rules.{leading, gives, others, allBut, unitAt, isHead, pairs, fits}
 
 -- ---- heads
 
 -- the number of a free head
 abbrev pub freeNumber : ℕ → Bool
 freeNumber h = leb firstFree h && ltb h blank
+
+-- the number of a function's head: select's, store's or a free one
+abbrev pub functionNumber : ℕ → Bool
+functionNumber h = leb selectHead h && leb h storeHead || freeNumber h
 
 -- past the listed heads
 pub head-past : (h : ℕ) → 6 ≤ h → headOf h ≡ cond (freeNumber h) Free Unlisted
@@ -33,7 +38,7 @@ is-function-past : (b : Bool) → isFunction (cond b Free Unlisted) ≡ b
 is-function-past true = refl
 is-function-past false = refl
 
--- a head is free just where its number is one of a free head
+-- a head is free, and a function's, just where its number is
 pub free-numbers : (h : ℕ) → isFree (headOf h) ≡ freeNumber h
 free-numbers zero = refl
 free-numbers (suc zero) = refl
@@ -43,8 +48,7 @@ free-numbers (suc (suc (suc (suc zero)))) = refl
 free-numbers (suc (suc (suc (suc (suc zero))))) = refl
 free-numbers (suc (suc (suc (suc (suc (suc n)))))) = is-free-past _
 
--- it is a function's just where its number is select's, store's or one of a free head
-pub function-numbers : (h : ℕ) → isFunction (headOf h) ≡ (leb selectHead h && leb h storeHead || freeNumber h)
+pub function-numbers : (h : ℕ) → isFunction (headOf h) ≡ functionNumber h
 function-numbers zero = refl
 function-numbers (suc zero) = refl
 function-numbers (suc (suc zero)) = refl
@@ -124,3 +128,24 @@ unit-front w l a xs p ps = somewhere-first (length xs) _ ∙ ap (λ b. unitHere 
 -- p is a term with head h and value w, and the value v that is given is x
 abbrev pub connected : List ℕ → ℕ → Premise → ℕ → ℕ → ℕ → Bool
 connected ts h p w v x = isHead ts (p .row) h && (eqb (p .value) w && eqb v x)
+
+-- ---- cong and pred, with the heads' numbers
+
+module _ (ts : List ℕ) (l v : ℕ) (ps : List Premise) where
+  pub cong-numbers : fits ts Congruence l v ps
+      ≡ (isHead ts l eqHead
+      && (eqb (head ts (arg ts l 0)) (head ts (arg ts l 1))
+      && (functionNumber (head ts (arg ts l 0))
+      && (pairs ts (args ts (arg ts l 0)) (args ts (arg ts l 1)) ps && eqb v 1))))
+  unfolding fits
+  cong-numbers = rw (function-numbers (head ts (arg ts l 0)))
+
+  pub pred-numbers : fits ts Predicate l v ps
+      ≡ leading ps (λ p qs.
+      freeNumber (head ts l)
+      && (eqb (head ts (p .row)) (head ts l)
+      && (eqb (p .value) v && pairs ts (args ts (p .row)) (args ts l) qs)))
+  unfolding fits
+  pred-numbers =
+      ap (λ (b : Bool). leading ps (λ p qs. b && (eqb (head ts (p .row)) (head ts l) && (eqb (p .value) v && pairs ts (args ts (p .row)) (args ts l) qs))))
+      (free-numbers (head ts l))
