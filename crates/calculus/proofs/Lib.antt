@@ -5,5 +5,7 @@ pub mod Entries
 pub mod WellSorted
 pub mod WellFormed
 pub mod Running
+pub mod Boards
 pub mod Runs
 pub mod Slips
+pub mod Order
