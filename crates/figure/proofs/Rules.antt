@@ -118,7 +118,8 @@ found w u o (y ∷ vs) s = go (found w u o vs (λ x m. s x (List·Memᴰ·tail m
         pick x (inl q) = q ∙ e
         pick x (inr k) = f x k
 
-    go : {w u : ℕ} → List·Memᴰ w vs ⊎ ((x : ℕ) → List·Memᴰ x vs → x ≡ u) → Opposite w u → (y : ℕ) → y ≤ 1 → List·Memᴰ w (y ∷ vs) ⊎ ((x : ℕ) → List·Memᴰ x (y ∷ vs) → x ≡ u)
+    go : {w u : ℕ} → List·Memᴰ w vs ⊎ ((x : ℕ) → List·Memᴰ x vs → x ≡ u) → Opposite w u → (y : ℕ) → y ≤ 1
+        → List·Memᴰ w (y ∷ vs) ⊎ ((x : ℕ) → List·Memᴰ x (y ∷ vs) → x ≡ u)
     go r oppositeOfTrue zero l = add 0 refl r
     go r oppositeOfTrue (suc zero) l = inl (List·Memᴰ·head refl)
     go r oppositeOfTrue (suc (suc y)) l = absurd (omega arith)
@@ -339,7 +340,8 @@ module _ {ss ts : List ℕ} (W : WellSorted ss ts) where
       let g : arg ts (p .row) 1 ≡ y = search facts in
       let w : p .value ≡ 1 = search facts in
       subst (λ v. Pointwise ts (x ∷ xs) (y ∷ ys) (assign v (p .row) ∷ ps)) (sym w)
-      (position (equation-from (p .row) x y (K p (List·Memᴰ·head refl)) e f g) (pairs-is xs ys ps (λ q m. K q (List·Memᴰ·tail m)) (and-r (equates ts x y 1 p) _ h)))
+      (position (equation-from (p .row) x y (K p (List·Memᴰ·head refl)) e f g)
+      (pairs-is xs ys ps (λ q m. K q (List·Memᴰ·tail m)) (and-r (equates ts x y 1 p) _ h)))
 
   module _ (l v : ℕ) (k : l < termRows ts) where
     abbrev Given : Rule → List Premise → Type 0
@@ -442,7 +444,8 @@ module _ {ss ts : List ℕ} (W : WellSorted ss ts) where
         with-first (Given Unit) ps _ h (λ p M t K N.
         go p M (or-cases (connected ts orHead p 1 v 1 && unitAt 0 l (args ts (p .row)) M) _ t))
       where
-        go : (p : Premise) (M : List Premise) → T (connected ts orHead p 1 v 1 && unitAt 0 l (args ts (p .row)) M) ⊎ T (connected ts andHead p 0 v 0 && unitAt 1 l (args ts (p .row)) M)
+        go : (p : Premise) (M : List Premise)
+            → T (connected ts orHead p 1 v 1 && unitAt 0 l (args ts (p .row)) M) ⊎ T (connected ts andHead p 0 v 0 && unitAt 1 l (args ts (p .row)) M)
             → Infers ts Unit (p ∷ M) l v
         go p M (inl t) =
             let e : head ts (p .row) ≡ orHead = search facts in
@@ -481,7 +484,8 @@ module _ {ss ts : List ℕ} (W : WellSorted ss ts) where
         done : (h : ℕ) → map rowOf ps ≡ args ts l → head ts l ≡ h → (w : ℕ) → v ≡ w → Evaluates h (map valueOf ps) w → Infers ts Evaluation ps l v
         done h e q w f x = into refl f (evaluation (record { headed = q; arguments = sym e }) x)
 
-        last : map rowOf ps ≡ args ts l → T (eqb (head ts l) andHead && eqb v (num (andOf (map valueOf ps)))) ⊎ T (eqb (head ts l) orHead && eqb v (num (orOf (map valueOf ps))))
+        last : map rowOf ps ≡ args ts l
+            → T (eqb (head ts l) andHead && eqb v (num (andOf (map valueOf ps)))) ⊎ T (eqb (head ts l) orHead && eqb v (num (orOf (map valueOf ps))))
             → Infers ts Evaluation ps l v
         last e (inl t) =
             let q : head ts l ≡ andHead = search facts in
