@@ -19,11 +19,11 @@ use Rattle.calculus.specs.declared.Outcome.{Outcome}
 
 -- ---- the small board
 
-abbrev sorts : List ℕ
+abbrev pub sorts : List ℕ
 sorts = blank ∷ blank ∷ []
 
 -- a, b, e: a = b, fa: F(a), fb: F(b), g: fa = fb, not(e), or(e, g)
-abbrev terms : List ℕ
+abbrev pub terms : List ℕ
 terms =
     16 ∷ 1 ∷ blank ∷ blank ∷ blank ∷ blank
     ∷ 17 ∷ 1 ∷ blank ∷ blank ∷ blank ∷ blank
@@ -35,16 +35,16 @@ terms =
     ∷ 3 ∷ 0 ∷ 2 ∷ 5 ∷ blank ∷ blank
     ∷ []
 
-abbrev a : ℕ
+abbrev pub a : ℕ
 a = 0
 
-abbrev b : ℕ
+abbrev pub b : ℕ
 b = 1
 
-abbrev e : ℕ
+abbrev pub e : ℕ
 e = 2
 
-abbrev g : ℕ
+abbrev pub g : ℕ
 g = 5
 
 abbrev not-e : ℕ
@@ -55,7 +55,7 @@ e-or-g = 7
 
 -- ---- step rows
 
-abbrev decide : ℕ → ℕ → List ℕ
+abbrev pub decide : ℕ → ℕ → List ℕ
 decide t v = 0 ∷ blank ∷ t ∷ v ∷ blank ∷ blank ∷ blank ∷ blank ∷ blank ∷ []
 
 -- deduce (1) or clash (2) by a rule from one premise
@@ -67,10 +67,10 @@ abbrev from2 : ℕ → ℕ → ℕ → ℕ → ℕ → ℕ → List ℕ
 from2 k r l v p q = k ∷ r ∷ l ∷ v ∷ p ∷ q ∷ blank ∷ blank ∷ blank ∷ []
 
 -- resolve (3), clear (4), jump (5)
-abbrev conflict : ℕ → ℕ → List ℕ
+abbrev pub conflict : ℕ → ℕ → List ℕ
 conflict k t = k ∷ blank ∷ t ∷ blank ∷ blank ∷ blank ∷ blank ∷ blank ∷ blank ∷ []
 
-abbrev clash-g : List ℕ
+abbrev pub clash-g : List ℕ
 clash-g = from1 2 9 g 1 e
 
 abbrev same-e : List ℕ
@@ -81,7 +81,7 @@ neg-e = decide a 7 ++ decide b 7 ++ from1 1 5 e 0 not-e ++ from2 2 0 e 1 a b
 
 -- ---- the table
 
-abbrev Example : Type 0
+abbrev pub Example : Type 0
 Example = record { input : List ℕ; log : List ℕ; result : List ℕ; left : List ℕ }
 
 -- each run's input and steps, its result (verdict, steps, number, entries), and the entries left: term, value, level, decision or not
@@ -102,7 +102,7 @@ table =
     ∷ []
 
 -- a run's call: workspace and trail buffer just long enough, full of old numbers
-abbrev call : Example → Call
+abbrev pub call : Example → Call
 call r =
     record {
       sorts = sorts;
