@@ -1,6 +1,7 @@
 -- Laws of the definitions, and what is proved of them.
 pub mod Facts
 pub mod Entries
+pub mod Columns
 pub mod WellSorted
 pub mod WellFormed
 pub mod Running
