@@ -15,7 +15,7 @@ use Rattle.calculus.specs.Run.{Ending, follow, run, sheetsRefusal, callRefusal,
 use Rattle.calculus.specs.WellFormed.{WellFormedState}
 use Rattle.calculus.proofs.Facts.{true-or-false, and-r, unless-ok, orElse-ok, first-ok}
 use Rattle.calculus.proofs.WellFormed.{step-well-formed, input-well-formed}
-use Rattle.soundness.specs.Interpretation.{Interpretation, Endorses}
+use Rattle.soundness.specs.Interpretation.{Unsatisfiable}
 use Rattle.soundness.specs.Claim.{Given, Sound}
 use Rattle.calculus.proofs.WellSorted.{WellSorted, well-sorted}
 use Rattle.soundness.proofs.Invariant.{AllValid, Unendorsed, push-valid}
@@ -23,7 +23,7 @@ use Rattle.soundness.proofs.Steps.{Good, GoodAnswer, good-search, step-
 
 -- what is to be shown of a run's end
 record SoundEnding (ss ts is : List ℕ) (e : Ending) : Type 1 where
-  refutation : verdictNumber (e .verdict) ≡ 1 → (M : Interpretation ss ts) → Endorses M (Given is) → ⊥
+  refutation : verdictNumber (e .verdict) ≡ 1 → Unsatisfiable ss ts (Given is)
   entries : AllValid ss ts (Given is) (trailOf (e .state))
   conflicts : inConflict (e .state) ≡ true → Unendorsed ss ts (Given is) (trailOf (e .state)) (conflictOf (e .state))
 
@@ -80,10 +80,20 @@ ending-sound x = go (callRefusal x) refl
         run-sound W (x .inputs) (x .steps) (start x) 0 (stepRows (x .steps))
         (input-well-formed (x .terms) (x .inputs) (inputRows (x .inputs)) h)
         (good-search W (Given (x .inputs)) (input-valid (x .sorts) (x .terms) (x .inputs) (inputRows (x .inputs)) (omega arith) h))
-    go (suc c) e = record { refutation = λ h. absurd (omega arith); entries = λ y m. absurd (List·Memᴰ·not-nil m); conflicts = λ h. absurd (true-or-false h refl) }
+    go (suc c) e =
+        record {
+          refutation = λ h. absurd (omega arith);
+          entries = λ y m. absurd (List·Memᴰ·not-nil m);
+          conflicts = λ h. absurd (true-or-false h refl);
+        }
 
 pub sound : (x : Call) → Sound x
 unfolding outcome
 sound x =
     let s = ending-sound x in
-    record { refutation = s .refutation; entries = λ e m d z M N. s .entries e m .entailed d z M N; conflicts = s .conflicts }
+    record {
+      refutation = s .refutation;
+      entries = λ e m. s .entries e m .entailed;
+      settled = λ e m. s .entries e m .base;
+      conflicts = s .conflicts;
+    }
