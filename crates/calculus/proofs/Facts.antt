@@ -7,7 +7,7 @@ use Prim.Native.Nat.{ℕ, zero, suc, _<_}
 use native.Mathlib.Omega.{arith}
 use native.Mathlib.Nat.{not-suc-le-zero, suc-ne-zero}
 use native.Mathlib.Decide.{decLt}
-use lib.Dec.{T, eqb, eqb→eq, leb→le, ltb→lt, eqb-refl, T-not}
+use lib.Dec.{T, eqb, eqb→eq, leb→le, ltb→lt, eqb-refl, T-not, not-T}
 use Rattle.calculus.specs.Lists.{all, any, has, below}
 use Rattle.calculus.specs.Numbers.{unless, orElse, firstRefusal}
 use Rattle.calculus.specs.Steps.{Answer, refused, answer}
@@ -38,8 +38,14 @@ pub or-r : (a b : Bool) → T b → T (a || b)
 or-r true b h = tt
 or-r false b h = h
 
+pub eqb-of : {m n : ℕ} → m ≡ n → T (eqb m n)
+eqb-of {m} e = subst (λ k. T (eqb m k)) e (eqb-refl m)
+
+pub neqb-of : {m n : ℕ} → m ≢ n → T (not (eqb m n))
+neqb-of {m} {n} h = not-T (eqb m n) (λ t. h (eqb→eq m n t))
+
 pub neq : (m n : ℕ) → T (not (eqb m n)) → m ≢ n
-neq m n h e = T-not (eqb m n) h (subst (λ k. T (eqb m k)) e (eqb-refl m))
+neq m n h e = T-not (eqb m n) h (eqb-of e)
 
 pub T-true : (b : Bool) → T b → b ≡ true
 T-true true h = refl

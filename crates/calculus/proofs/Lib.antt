@@ -5,6 +5,7 @@ pub mod Entries
 pub mod Columns
 pub mod WellSorted
 pub mod WellFormed
+pub mod Truths
 pub mod Running
 pub mod Boards
 pub mod Runs

@@ -18,17 +18,15 @@ use Rattle.calculus.specs.Terms.{prop, sort}
 use Rattle.calculus.specs.Trail.{Set, Trail, Entry, everything, remove, union, intersection, valueAt, levelAt, decidedAt, whyAt, assigned, holds, firstOrder, levelOf, topLevel, keptTo}
 use Rattle.calculus.specs.Inputs.{valueSuits}
 use Rattle.calculus.specs.Rules.{rowOf, ruleOf, ruleListed, fits}
-use Rattle.calculus.specs.WellFormed.{WellFormed, WellFormedState}
+use Rattle.calculus.specs.WellFormed.{WellFormed, WellFormedState, Truthful, Coherent}
 use Rattle.calculus.specs.Steps as steps
 use Rattle.calculus.specs.Steps.{State, searching, conflict, Answer, allowed, refuted, answer, premiseCells, premises, kindOf, isBlank, isFilled, inferenceShaped, termShaped, pairShaped, shaped, ready, known, clashed, inferenceRefusal, rowRefusal, stepBy, step}
-use Rattle.calculus.proofs.Facts.{and-both, T-true, T-false, true-T, false-T, all-of}
+use Rattle.calculus.proofs.Facts.{eqb-of, neqb-of, and-both, T-true, T-false, true-T, false-T, all-of}
 use Rattle.calculus.proofs.Entries.{level-kept, holds-at}
 use Rattle.figure.specs.Inferences.{Opposite, oppositeOfTrue, oppositeOfFalse}
 use Rattle.figure.specs.Transitions.{Boolean, Suits, Among, Assigned, Absent, FirstOrder, decisionAt, justifiedAt, Level, Restricted, Inferred, Action, Result, Transition, Decide, Deduce, Fail, Conflict, Resolve, Undo, Backjump, UndoDecide}
 use Rattle.figure.specs.Spelling.{Filled, Blank, FromLeft, filledColumn, Columns, Spells}
-use Rattle.figure.specs.Faithful.{answerOf, Coherent}
-use Rattle.figure.proofs.Truths.{Truthful}
-use Rattle.figure.proofs.Rows.{eqb-of, neqb-of}
+use Rattle.figure.specs.Faithful.{answerOf}
 use Rattle.figure.proofs.Rules.{opposite-sum, infers-fits, infers-listed}
 use Rattle.figure.proofs.Trails.{level-of, restricted-of, off-of, below-row, entry-of, assigned-of, assigned-is, premises-of, first-order-is, first-order-of, holds-of}
 use Rattle.figure.proofs.Spelling.{blanks-of, filled-of, left-of, listed}

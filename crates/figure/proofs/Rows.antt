@@ -1,12 +1,11 @@
 -- What a term sheet that gets no number says of its rows: how many arguments a head has, that they are earlier rows, and which are props.
 use mathlib.Core.Path.{_≡_, refl, sym, ap, subst, _∙_}
-use mathlib.Core.Logic.{_≢_}
-use mathlib.Core.Bool.{Bool, true, false, not, _&&_, cond}
+use mathlib.Core.Bool.{Bool, true, false, _&&_, cond}
 use mathlib.Core.List.{List, [], _∷_, List·Memᴰ}
 use Prim.Native.Nat.{ℕ, zero, suc, _≤_, _<_}
 use native.Mathlib.Omega.{arith}
 use lib.ListN.{length, getD}
-use lib.Dec.{T, eqb, leb, eqb→eq, leb→le, le→leb, ltb→lt, lt→ltb, eqb-refl, not-T}
+use lib.Dec.{T, eqb, leb, eqb→eq, leb→le, le→leb, ltb→lt, lt→ltb, eqb-refl}
 use Rattle.calculus.specs.declared.Head.the-variants.{Equality, Negation, Conjunction, Disjunction, Select, Store, Free, Unlisted}
 use Rattle.calculus.specs.Lists.{all, eqList}
 use Rattle.calculus.specs.Sheets.{blank, termRows}
@@ -16,14 +15,6 @@ use Rattle.calculus.proofs.Facts.{and-l, and-r, and-both, or-r, all-at, facts}
 use Rattle.calculus.proofs.Forms.{freeNumber, free-numbers, function-numbers}
 use Rattle.figure.specs.Inferences.{Applied, FreeHead, FunctionHead, isSelect, isStore, isFree}
 use Rattle.calculus.proofs.WellSorted.{arg-is, arg-mem, WellSorted, row-args, suits-as}
-
--- ---- tests of equal numbers
-
-pub eqb-of : {m n : ℕ} → m ≡ n → T (eqb m n)
-eqb-of {m} e = subst (λ k. T (eqb m k)) e (eqb-refl m)
-
-pub neqb-of : {m n : ℕ} → m ≢ n → T (not (eqb m n))
-neqb-of {m} {n} h = not-T (eqb m n) (λ t. h (eqb→eq m n t))
 
 -- ---- lists
 

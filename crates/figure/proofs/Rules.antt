@@ -15,11 +15,11 @@ use Rattle.calculus.specs.Sheets.{termRows}
 use Rattle.calculus.specs.Terms.{head, sort, args, arg, headOf, eqHead, notHead, andHead, orHead, selectHead, storeHead}
 use Rattle.calculus.specs.Terms as terms
 use Rattle.calculus.specs.Rules.{rowOf, valueOf, gives, bare, single, double, leading, notOf, andOf, orOf, evaluates, others, unitAt, isHead, isEq, equates, pairs, fits}
-use Rattle.calculus.proofs.Facts.{and-l, and-r, and-both, or-cases, or-l, or-r, facts, all-at, all-of, any-at, any-of, has-at, has-of}
+use Rattle.calculus.proofs.Facts.{eqb-of, neqb-of, and-l, and-r, and-both, or-cases, or-l, or-r, facts, all-at, all-of, any-at, any-of, has-at, has-of}
 use Rattle.calculus.proofs.Forms.{unitHere, unit-none, unit-last, unit-front, connected}
 use Rattle.figure.specs.Inferences.{assign, Opposite, oppositeOfTrue, oppositeOfFalse, Applied, Equation, orByTrue, andByFalse, Evaluates, negation, settled, unsettled, Pointwise, noPosition, position, Infers, same, differ, reflexivity, symmetry, transitivity, negated, part, unit, evaluation, congruence, predicate, read, skip}
 use Rattle.calculus.proofs.WellSorted.{eqList-eq, WellSorted}
-use Rattle.figure.proofs.Rows.{eqb-of, neqb-of, eqList-refl, args-short, column, function-head, free-head, function-test, free-test, equation-row, select-row, store-row, not-row, not-props, and-props, or-props}
+use Rattle.figure.proofs.Rows.{eqList-refl, args-short, column, function-head, free-head, function-test, free-test, equation-row, select-row, store-row, not-row, not-props, and-props, or-props}
 
 -- ---- truth values
 

@@ -16,9 +16,8 @@ use Rattle.calculus.specs.Sheets.{blank}
 use Rattle.calculus.specs.Terms.{filled, leftFilled}
 use Rattle.calculus.specs.Rules.{rules, ruleOf, ruleListed}
 use Rattle.calculus.specs.Steps.{premiseCells, isBlank}
-use Rattle.calculus.proofs.Facts.{and-l, and-r, and-both, T-true, T-false, true-T}
+use Rattle.calculus.proofs.Facts.{eqb-of, neqb-of, and-l, and-r, and-both, T-true, T-false, true-T}
 use Rattle.figure.specs.Spelling.{FromLeft, noColumn, blankColumn, filledColumn}
-use Rattle.figure.proofs.Rows.{eqb-of, neqb-of}
 
 -- ---- premises from the left
 

@@ -14,17 +14,17 @@ use Rattle.calculus.specs.Sorts.{sortsRefusal}
 use Rattle.calculus.specs.Terms.{termsRefusal}
 use Rattle.calculus.specs.Trail.{Trail}
 use Rattle.calculus.specs.Rules.{rowOf, ruleOf}
-use Rattle.calculus.specs.WellFormed.{WellFormed, WellFormedState}
+use Rattle.calculus.specs.WellFormed.{WellFormed, WellFormedState, Coherent}
 use Rattle.calculus.specs.Steps.{State, kindOf, step}
 use Rattle.calculus.specs.Run.{run, start, sheetsRefusal, callRefusal}
 use Rattle.calculus.proofs.Facts.{true-T, T-true, unless-ok, orElse-ok, facts}
 use Rattle.figure.specs.Transitions.{Inferred, Action, Result, Transition, Decide, Deduce, Fail, Conflict, Resolve, Undo, Backjump, UndoDecide}
 use Rattle.figure.specs.Spelling.{Filled, FromLeft, noColumn, blankColumn, filledColumn, Columns, Spells, SixteenBits, Writable}
-use Rattle.figure.specs.Faithful.{Coherent, RulesFaithful, Faithful}
+use Rattle.figure.specs.Faithful.{RulesFaithful, Faithful}
 use Rattle.calculus.proofs.WellSorted.{well-sorted}
+use Rattle.calculus.proofs.Truths.{run-coherent, start-coherent}
 use Rattle.figure.proofs.Rules.{fits-infers, infers-fits, infers-short, opposite-sum}
 use Rattle.figure.proofs.Trails.{below-row}
-use Rattle.figure.proofs.Truths.{run-coherent, start-coherent}
 use Rattle.figure.proofs.Spelling.{rule-number}
 use Rattle.figure.proofs.Forth.{forth, assigned-row, premise-rows}
 use Rattle.figure.proofs.Back.{back}
