@@ -4,6 +4,7 @@ pub mod Forms
 pub mod Entries
 pub mod Columns
 pub mod WellSorted
+pub mod Rows
 pub mod WellFormed
 pub mod Truths
 pub mod Running

@@ -5,16 +5,17 @@ use mathlib.Core.List.{List, [], _∷_, List·Memᴰ}
 use Prim.Native.Nat.{ℕ, zero, suc, _≤_, _<_}
 use native.Mathlib.Omega.{arith}
 use lib.ListN.{length, getD}
-use lib.Dec.{T, eqb, leb, eqb→eq, leb→le, le→leb, ltb→lt, lt→ltb, eqb-refl}
-use Rattle.calculus.specs.declared.Head.the-variants.{Equality, Negation, Conjunction, Disjunction, Select, Store, Free, Unlisted}
-use Rattle.calculus.specs.Lists.{all, eqList}
+use lib.Dec.{T, eqb, leb, leb→le, le→leb, ltb→lt, lt→ltb, eqb-refl}
+use Rattle.calculus.specs.declared.Head.the-variants.{Negation, Conjunction, Disjunction, Free, Unlisted}
+use Rattle.calculus.specs.Lists.{eqList}
 use Rattle.calculus.specs.Sheets.{blank, termRows}
-use Rattle.calculus.specs.Terms.{head, sort, cells, filled, args, arg, prop, headOf, eqHead, notHead, andHead, orHead, selectHead, storeHead, firstFree, suits}
+use Rattle.calculus.specs.Terms.{head, sort, cells, filled, args, arg, headOf, eqHead, notHead, andHead, orHead, selectHead, storeHead, firstFree}
 use Rattle.calculus.specs.Terms as terms
-use Rattle.calculus.proofs.Facts.{and-l, and-r, and-both, or-r, all-at, facts}
+use Rattle.calculus.proofs.Facts.{and-l, and-r, and-both, or-r}
 use Rattle.calculus.proofs.Forms.{freeNumber, free-numbers, function-numbers}
 use Rattle.figure.specs.Inferences.{Applied, FreeHead, FunctionHead, isSelect, isStore, isFree}
-use Rattle.calculus.proofs.WellSorted.{arg-is, arg-mem, WellSorted, row-args, suits-as}
+use Rattle.calculus.proofs.WellSorted.{arg-is, arg-mem, WellSorted, row-args}
+use Rattle.calculus.proofs.Rows.{is-equality, is-connective, not-count, is-select, is-store}
 
 -- ---- lists
 
@@ -116,43 +117,32 @@ module _ {ss ts : List ℕ} (W : WellSorted ss ts) where
       }
 
   pub equation-row : (t : ℕ) → t < termRows ts → head ts t ≡ eqHead → Two t eqHead
-  unfolding suits
-  equation-row t l e = let h = suits-as W t Equality l (ap headOf e) in two-args t eqHead l e (search facts)
+  equation-row t l e = two-args t eqHead l e (is-equality W t l (ap headOf e) .count)
 
   pub select-row : (t : ℕ) → t < termRows ts → head ts t ≡ selectHead → Two t selectHead
-  unfolding suits
-  select-row t l e = let h = suits-as W t Select l (ap headOf e) in two-args t selectHead l e (search facts)
+  select-row t l e = two-args t selectHead l e (is-select W t l (ap headOf e) .count)
 
   pub store-row : (t : ℕ) → t < termRows ts → head ts t ≡ storeHead → Applied ts t storeHead (arg ts t 0 ∷ arg ts t 1 ∷ arg ts t 2 ∷ [])
-  unfolding suits
   store-row t l e =
-      let h = suits-as W t Store l (ap headOf e) in
-      let n : length (args ts t) ≡ 3 = search facts in
+      let n = is-store W t l (ap headOf e) .count in
       let a = arg-is ts t 0 (omega arith) in
       let b = arg-is ts t 1 (omega arith) in
       let c = arg-is ts t 2 (omega arith) in
       record { headed = e; arguments = three-of (args ts t) blank n ∙ (λ i. a i ∷ b i ∷ c i ∷ []) }
 
   pub not-row : (t : ℕ) → t < termRows ts → head ts t ≡ notHead → Applied ts t notHead (arg ts t 0 ∷ [])
-  unfolding suits
   not-row t l e =
-      let h = suits-as W t Negation l (ap headOf e) in
-      let n : length (args ts t) ≡ 1 = search facts in
+      let n = not-count W t l (ap headOf e) in
       let a = arg-is ts t 0 (omega arith) in
       record { headed = e; arguments = one-of (args ts t) blank n ∙ (λ i. a i ∷ []) }
 
   -- the arguments of not, and, or are props
-  props-of : (t : ℕ) → T (all (prop ts) (args ts t)) → (a : ℕ) → List·Memᴰ a (args ts t) → sort ts a ≡ 0
-  props-of t q a m = eqb→eq (sort ts a) 0 (all-at (prop ts) (args ts t) q m)
 
   pub not-props : (t : ℕ) → t < termRows ts → head ts t ≡ notHead → (a : ℕ) → List·Memᴰ a (args ts t) → sort ts a ≡ 0
-  unfolding suits
-  not-props t l e = let h = suits-as W t Negation l (ap headOf e) in props-of t (search facts)
+  not-props t l e = is-connective W t Negation l (ap headOf e) tt .arguments
 
   pub and-props : (t : ℕ) → t < termRows ts → head ts t ≡ andHead → (a : ℕ) → List·Memᴰ a (args ts t) → sort ts a ≡ 0
-  unfolding suits
-  and-props t l e = let h = suits-as W t Conjunction l (ap headOf e) in props-of t (search facts)
+  and-props t l e = is-connective W t Conjunction l (ap headOf e) tt .arguments
 
   pub or-props : (t : ℕ) → t < termRows ts → head ts t ≡ orHead → (a : ℕ) → List·Memᴰ a (args ts t) → sort ts a ≡ 0
-  unfolding suits
-  or-props t l e = let h = suits-as W t Disjunction l (ap headOf e) in props-of t (search facts)
+  or-props t l e = is-connective W t Disjunction l (ap headOf e) tt .arguments

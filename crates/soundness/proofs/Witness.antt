@@ -13,7 +13,7 @@ use Rattle.calculus.proofs.Facts.{orElse-ok}
 use Rattle.calculus.proofs.WellSorted.{WellSorted, well-sorted}
 use Rattle.soundness.specs.Interpretation.{Elements, Function, Structure, Interpretation, Endorses}
 use Rattle.soundness.specs.Claim.{Given}
-use Rattle.soundness.proofs.Rows.{array-not-prop}
+use Rattle.calculus.proofs.Rows.{array-not-prop}
 use Rattle.soundness.proofs.Values.{has-values}
 use Rattle.soundness.proofs.Theorem.{sound}
 
