@@ -1,5 +1,5 @@
 -- What a term sheet that gets no number says of its rows: how many arguments a head has, that they are earlier rows, and which are props.
-use mathlib.Core.Path.{_≡_, refl, sym, ap, subst, _∙_}
+use mathlib.Core.Path.{_≡_, sym, ap, subst, _∙_}
 use mathlib.Core.Bool.{Bool, true, false, _&&_, cond}
 use mathlib.Core.List.{List, [], _∷_, List·Memᴰ}
 use Prim.Native.Nat.{ℕ, zero, suc, _≤_, _<_}
@@ -15,31 +15,13 @@ use Rattle.calculus.proofs.Facts.{and-l, and-r, and-both, or-r}
 use Rattle.calculus.proofs.Forms.{freeNumber, free-numbers, function-numbers}
 use Rattle.figure.specs.Inferences.{Applied, FreeHead, FunctionHead, isSelect, isStore, isFree}
 use Rattle.calculus.proofs.WellSorted.{arg-is, arg-mem, WellSorted, row-args}
-use Rattle.calculus.proofs.Rows.{is-equality, is-connective, not-count, is-select, is-store}
+use Rattle.calculus.proofs.Rows.{one-arg, two-args, three-args, is-equality, is-connective, not-count, is-select, is-store}
 
 -- ---- lists
 
 pub eqList-refl : (xs : List ℕ) → T (eqList xs xs)
 eqList-refl [] = tt
 eqList-refl (x ∷ xs) = and-both (eqb x x) _ (eqb-refl x) (eqList-refl xs)
-
-one-of : (xs : List ℕ) (d : ℕ) → length xs ≡ 1 → xs ≡ getD xs 0 d ∷ []
-one-of [] d e = absurd (omega arith)
-one-of (x ∷ []) d e = refl
-one-of (x ∷ y ∷ xs) d e = absurd (omega arith)
-
-two-of : (xs : List ℕ) (d : ℕ) → length xs ≡ 2 → xs ≡ getD xs 0 d ∷ getD xs 1 d ∷ []
-two-of [] d e = absurd (omega arith)
-two-of (x ∷ []) d e = absurd (omega arith)
-two-of (x ∷ y ∷ []) d e = refl
-two-of (x ∷ y ∷ z ∷ xs) d e = absurd (omega arith)
-
-three-of : (xs : List ℕ) (d : ℕ) → length xs ≡ 3 → xs ≡ getD xs 0 d ∷ getD xs 1 d ∷ getD xs 2 d ∷ []
-three-of [] d e = absurd (omega arith)
-three-of (x ∷ []) d e = absurd (omega arith)
-three-of (x ∷ y ∷ []) d e = absurd (omega arith)
-three-of (x ∷ y ∷ z ∷ []) d e = refl
-three-of (x ∷ y ∷ z ∷ w ∷ xs) d e = absurd (omega arith)
 
 -- ---- the arguments of a row
 
@@ -106,35 +88,25 @@ module _ {ss ts : List ℕ} (W : WellSorted ss ts) where
     pub first : arg ts t 0 < termRows ts
     pub second : arg ts t 1 < termRows ts
 
-  two-args : (t h : ℕ) → t < termRows ts → head ts t ≡ h → length (args ts t) ≡ 2 → Two t h
-  two-args t h l e n =
-      let a = arg-is ts t 0 (omega arith) in
-      let b = arg-is ts t 1 (omega arith) in
+  two-arguments : (t h : ℕ) → t < termRows ts → head ts t ≡ h → length (args ts t) ≡ 2 → Two t h
+  two-arguments t h l e n =
       record {
-        shape = record { headed = e; arguments = two-of (args ts t) blank n ∙ (λ i. a i ∷ b i ∷ []) };
+        shape = record { headed = e; arguments = two-args ts t n };
         first = arg-row t 0 l (omega arith);
         second = arg-row t 1 l (omega arith);
       }
 
   pub equation-row : (t : ℕ) → t < termRows ts → head ts t ≡ eqHead → Two t eqHead
-  equation-row t l e = two-args t eqHead l e (is-equality W t l (ap headOf e) .count)
+  equation-row t l e = two-arguments t eqHead l e (is-equality W t l (ap headOf e) .count)
 
   pub select-row : (t : ℕ) → t < termRows ts → head ts t ≡ selectHead → Two t selectHead
-  select-row t l e = two-args t selectHead l e (is-select W t l (ap headOf e) .count)
+  select-row t l e = two-arguments t selectHead l e (is-select W t l (ap headOf e) .count)
 
   pub store-row : (t : ℕ) → t < termRows ts → head ts t ≡ storeHead → Applied ts t storeHead (arg ts t 0 ∷ arg ts t 1 ∷ arg ts t 2 ∷ [])
-  store-row t l e =
-      let n = is-store W t l (ap headOf e) .count in
-      let a = arg-is ts t 0 (omega arith) in
-      let b = arg-is ts t 1 (omega arith) in
-      let c = arg-is ts t 2 (omega arith) in
-      record { headed = e; arguments = three-of (args ts t) blank n ∙ (λ i. a i ∷ b i ∷ c i ∷ []) }
+  store-row t l e = record { headed = e; arguments = three-args ts t (is-store W t l (ap headOf e) .count) }
 
   pub not-row : (t : ℕ) → t < termRows ts → head ts t ≡ notHead → Applied ts t notHead (arg ts t 0 ∷ [])
-  not-row t l e =
-      let n = not-count W t l (ap headOf e) in
-      let a = arg-is ts t 0 (omega arith) in
-      record { headed = e; arguments = one-of (args ts t) blank n ∙ (λ i. a i ∷ []) }
+  not-row t l e = record { headed = e; arguments = one-arg ts t (not-count W t l (ap headOf e)) }
 
   -- the arguments of not, and, or are props
 

@@ -1,7 +1,7 @@
 -- A rule's test passes exactly where the relation has an inference by that rule.
 use mathlib.Core.Path.{_≡_, refl, sym, ap, subst, subst₂, _∙_}
 use mathlib.Core.Logic.{_≢_, _⊎_, inl, inr}
-use mathlib.Core.Bool.{Bool, true, false, not, _&&_, _||_}
+use mathlib.Core.Bool.{Bool, not, _&&_, _||_}
 use mathlib.Core.List.{List, [], _∷_, _++_, map, List·Memᴰ, List·Memᴰ·head, List·Memᴰ·tail, List·Memᴰ·cases-cons, List·Memᴰ·not-nil, Memᴰ·map, Memᴰ·of-map}
 use Prim.Native.Nat.{ℕ, zero, suc, _+_, _≤_, _<_}
 use native.Mathlib.Omega.{arith}
@@ -15,7 +15,7 @@ use Rattle.calculus.specs.Sheets.{termRows}
 use Rattle.calculus.specs.Terms.{head, sort, args, arg, headOf, eqHead, notHead, andHead, orHead, selectHead, storeHead}
 use Rattle.calculus.specs.Terms as terms
 use Rattle.calculus.specs.Rules.{rowOf, valueOf, gives, bare, single, double, leading, notOf, andOf, orOf, evaluates, others, unitAt, isHead, isEq, equates, pairs, fits}
-use Rattle.calculus.proofs.Facts.{eqb-of, neqb-of, and-l, and-r, and-both, or-cases, or-l, or-r, facts, all-at, all-of, any-at, any-of, has-at, has-of}
+use Rattle.calculus.proofs.Facts.{num-true, num-false, eqb-of, neqb-of, and-l, and-r, and-both, or-cases, or-l, or-r, facts, all-at, all-of, any-at, any-of, has-at, has-of}
 use Rattle.calculus.proofs.Forms.{unitHere, unit-none, unit-last, unit-front, connected}
 use Rattle.figure.specs.Inferences.{assign, Opposite, oppositeOfTrue, oppositeOfFalse, Applied, Equation, orByTrue, andByFalse, Evaluates, negation, settled, unsettled, Pointwise, noPosition, position, Infers, same, differ, reflexivity, symmetry, transitivity, negated, part, unit, evaluation, congruence, predicate, read, skip}
 use Rattle.calculus.proofs.WellSorted.{eqList-eq, WellSorted}
@@ -92,14 +92,6 @@ unit-of w l (x ∷ xs) ys =
     (and-both (gives x w (assign w x)) _ (gives-of x w) (unit-of w l xs ys)))
 
 -- ---- values of not, and, or
-
-num-true : (b : Bool) → T b → num b ≡ 1
-num-true true h = refl
-num-true false h = absurd h
-
-num-false : (b : Bool) → (T b → ⊥) → num b ≡ 0
-num-false true h = absurd (h tt)
-num-false false h = refl
 
 -- each of vs is a truth value
 abbrev Small : List ℕ → Type 0
