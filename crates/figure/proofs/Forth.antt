@@ -1,7 +1,7 @@
 -- A row that spells an action with a transition is answered with the transition's result.
 use mathlib.Core.Path.{_≡_, refl, sym, ap, subst, subst₂, _∙_}
 use mathlib.Core.Logic.{_≢_, _⊎_, inl, inr}
-use mathlib.Core.Bool.{Bool, true, false, not, _||_}
+use mathlib.Core.Bool.{Bool, true, false, not, _&&_, _||_}
 use mathlib.Core.List.{List, [], _∷_, map, List·Memᴰ, List·Memᴰ·not-nil, List·Memᴰ·eq-of-singleton, Memᴰ·of-map}
 use Prim.Native.Nat.{ℕ, zero, suc, _+_, _-_, _≤_, _<_}
 use native.Mathlib.Omega.{arith}
@@ -20,13 +20,14 @@ use Rattle.calculus.specs.Inputs.{valueSuits}
 use Rattle.calculus.specs.Rules.{rowOf, ruleOf, ruleListed, fits}
 use Rattle.calculus.specs.WellFormed.{WellFormed, WellFormedState}
 use Rattle.calculus.specs.Steps as steps
-use Rattle.calculus.specs.Steps.{State, searching, conflict, Answer, allowed, refuted, answer, premiseCells, premises, kindOf, isBlank, isFilled, inferenceShaped, conflictShaped, shaped, ready, known, clashed, inferenceRefusal, rowRefusal, stepBy, step}
-use Rattle.calculus.proofs.Facts.{and-l, and-r, and-both, T-true, T-false, true-T, false-T, all-of, facts}
+use Rattle.calculus.specs.Steps.{State, searching, conflict, Answer, allowed, refuted, answer, premiseCells, premises, kindOf, isBlank, isFilled, inferenceShaped, termShaped, pairShaped, shaped, ready, known, clashed, inferenceRefusal, rowRefusal, stepBy, step}
+use Rattle.calculus.proofs.Facts.{and-both, T-true, T-false, true-T, false-T, all-of}
 use Rattle.calculus.proofs.Entries.{level-kept, holds-at}
 use Rattle.figure.specs.Inferences.{Opposite, oppositeOfTrue, oppositeOfFalse}
-use Rattle.figure.specs.Transitions.{_∈_, Boolean, Suits, Among, Assigned, Absent, FirstOrder, decisionAt, justifiedAt, Level, Restricted, Inferred, Action, Result, Transition, Decide, Deduce, Fail, Conflict, Resolve, Undo, Backjump, UndoDecide}
+use Rattle.figure.specs.Transitions.{Boolean, Suits, Among, Assigned, Absent, FirstOrder, decisionAt, justifiedAt, Level, Restricted, Inferred, Action, Result, Transition, Decide, Deduce, Fail, Conflict, Resolve, Undo, Backjump, UndoDecide}
 use Rattle.figure.specs.Spelling.{Filled, Blank, FromLeft, filledColumn, Columns, Spells}
 use Rattle.figure.specs.Faithful.{answerOf, Coherent}
+use Rattle.figure.proofs.Truths.{Truthful}
 use Rattle.figure.proofs.Rows.{eqb-of, neqb-of}
 use Rattle.figure.proofs.Rules.{opposite-sum, infers-fits, infers-listed}
 use Rattle.figure.proofs.Trails.{level-of, restricted-of, off-of, below-row, entry-of, assigned-of, assigned-is, premises-of, first-order-is, first-order-of, holds-of}
@@ -48,22 +49,22 @@ answer-of c a e = ap (λ n. answer n a) e
 filled-test : {c n : ℕ} → Filled c n → T (isFilled c)
 filled-test f = neqb-of (λ q. f .1 (sym (f .0) ∙ q))
 
--- the term alone, and beside it p or nothing
-conflict-shaped : (x : Step) (b : Bool) {t : ℕ} → Filled (x .term) t → Blank (x .rule) → Blank (x .value) → T b → T (all isBlank (x .q ∷ x .r ∷ x .s ∷ x .t ∷ []))
-    → T (conflictShaped x b)
-conflict-shaped x b f u v h k =
+-- the term is filled, rule and value are blank, and the premises pass the test b
+term-shaped : (x : Step) (b : Bool) {t : ℕ} → Filled (x .term) t → Blank (x .rule) → Blank (x .value) → T b
+    → T (isBlank (x .rule) && (isFilled (x .term) && (isBlank (x .value) && b)))
+term-shaped x b f u v h =
     and-both (isBlank (x .rule)) _ (eqb-of u)
     (and-both (isFilled (x .term)) _ (filled-test f)
-    (and-both (isBlank (x .value)) _ (eqb-of v)
-    (and-both b _ h
-    (and-both (isBlank (x .q)) _ (search facts)
-    (and-both (isBlank (x .r)) _ (search facts)
-    (and-both (isBlank (x .s)) _ (search facts depth 8) (search facts depth 8)))))))
+    (and-both (isBlank (x .value)) _ (eqb-of v) h))
 
-alone-shaped : (x : Step) {t : ℕ} → Filled (x .term) t → Blank (x .rule) → Blank (x .value) → FromLeft (premiseCells x) [] → T (conflictShaped x (isBlank (x .p)))
-alone-shaped x f u v r =
-    let h = blanks-of r in
-    conflict-shaped x (isBlank (x .p)) f u v (and-l (isBlank (x .p)) _ h) (and-r (isBlank (x .p)) _ h)
+alone-shaped : (x : Step) {t : ℕ} → Filled (x .term) t → Blank (x .rule) → Blank (x .value) → FromLeft (premiseCells x) [] → T (termShaped x)
+alone-shaped x f u v r = term-shaped x (all isBlank (premiseCells x)) f u v (blanks-of r)
+
+pair-shaped : (x : Step) {t p : ℕ} → Filled (x .term) t → Blank (x .rule) → Blank (x .value)
+    → Filled (x .p) p → FromLeft (x .q ∷ x .r ∷ x .s ∷ x .t ∷ []) [] → T (pairShaped x)
+pair-shaped x f u v h r =
+    let rest = all isBlank (x .q ∷ x .r ∷ x .s ∷ x .t ∷ []) in
+    term-shaped x (isFilled (x .p) && rest) f u v (and-both (isFilled (x .p)) rest (filled-test h) (blanks-of r))
 
 first-column : {c p : ℕ} {cs ps : List ℕ} → FromLeft (c ∷ cs) (p ∷ ps) → Filled c p × FromLeft cs ps
 first-column (filledColumn e r) = (e, r)
@@ -107,7 +108,7 @@ module _ (ts : List ℕ) where
       and-both (ltb (x .term) (termRows ts)) _ (lt→ltb _ _ (subst (λ t. t < termRows ts) (sym (c .subject .0)) l))
       (subst (λ qs. T (all (λ p. ltb p (termRows ts)) qs)) (sym (premises-as c)) (all-of (λ p. ltb p (termRows ts)) ps (λ p m. lt→ltb _ _ (f p m))))
 
-  module _ {tr : Trail} (R : WellFormed (termRows ts) tr) (N : (e : Entry) → e ∈ tr → Suits ts (e .term) (e .value)) where
+  module _ {tr : Trail} (R : WellFormed (termRows ts) tr) (N : Truthful ts tr) where
     -- ---- search rules
 
     decide-answer : {t v m : ℕ} → Suits ts t v → Absent tr t → Level tr everything m
@@ -142,7 +143,8 @@ module _ (ts : List ℕ) where
         go (inl a) = i .new (e, m, q, a)
         go (inr b) = n (e, m, q, b)
 
-    deduce-answer : {r : Rule} {J : List Premise} {l v w m : ℕ} (n : ℕ) → Inferred ts tr r J l v w → ruleOf n ≡ r → ¬ Assigned tr l w → Level tr (has (map rowOf J)) m
+    deduce-answer : {r : Rule} {J : List Premise} {l v w m : ℕ} (n : ℕ) → Inferred ts tr r J l v w → ruleOf n ≡ r → ¬ Assigned tr l w
+        → Level tr (has (map rowOf J)) m
         → steps.deduce ts tr n l v (map rowOf J) ≡ allowed (searching (justifiedAt l v m (has (map rowOf J)) ∷ tr))
     unfolding steps.deduce steps.deduceRefusal
     deduce-answer {J = ps} {l} {v} n i e o z =
@@ -170,7 +172,8 @@ module _ (ts : List ℕ) where
     -- ---- conflict resolution rules
 
     module _ (E : Set) where
-      resolve-answer : {a : Entry} {m : ℕ} → Among tr E a → a .decided ≡ false → Level tr E m → ((d : Entry) → Among tr (a .why) d → FirstOrder ts d → d .level ≢ m)
+      resolve-answer : {a : Entry} {m : ℕ} → Among tr E a → a .decided ≡ false → Level tr E m
+          → ((d : Entry) → Among tr (a .why) d → FirstOrder ts d → d .level ≢ m)
           → steps.resolve ts tr E (a .term) ≡ allowed (conflict tr (union (remove E (a .term)) (a .why)))
       unfolding steps.resolve steps.resolveRefusal
       resolve-answer {a} {m} h j z f =
@@ -180,7 +183,9 @@ module _ (ts : List ℕ) where
           answer-of _ _
           (unless-of _ 17 _ (true-T _ (h .1))
           (unless-of _ 18 _ (false-T _ d)
-          (unless-of _ 19 _ (not-T (holds tr (whyAt tr (a .term)) (firstOrder ts (levelOf tr E))) (λ t. barred (subst (λ H. T (holds tr H (firstOrder ts (levelOf tr E)))) w t))) refl)))
+          (unless-of _ 19 _
+          (not-T (holds tr (whyAt tr (a .term)) (firstOrder ts (levelOf tr E))) (λ t.
+          barred (subst (λ H. T (holds tr H (firstOrder ts (levelOf tr E)))) w t))) refl)))
           ∙ (λ i. allowed (conflict tr (union (remove E (a .term)) (w i))))
         where
           barred : T (holds tr (a .why) (firstOrder ts (levelOf tr E))) → ⊥
@@ -189,7 +194,8 @@ module _ (ts : List ℕ) where
               let o = first-order-is ts (levelOf tr E) (y .0) (y .3) in
               f (y .0) (y .1, T-true _ (y .2)) (o .0) (o .1 ∙ level-of z)
 
-      clear-answer : {rest : Trail} {a : Entry} {m n : ℕ} → Among tr E a → FirstOrder ts a → a .level ≡ 1 + m → Level tr (remove E (a .term)) n → n < a .level → Restricted m tr rest
+      clear-answer : {rest : Trail} {a : Entry} {m n : ℕ} → Among tr E a → FirstOrder ts a → a .level ≡ 1 + m → Level tr (remove E (a .term)) n
+          → n < a .level → Restricted m tr rest
           → steps.clear ts tr E (a .term) ≡ allowed (searching rest)
       unfolding steps.clear steps.clearRefusal
       clear-answer {a = a} {m} {n} h o e z l r =
@@ -205,7 +211,8 @@ module _ (ts : List ℕ) where
           ∙ (λ i. allowed (searching (keptTo (c i) tr)))
           ∙ (λ i. allowed (searching (restricted-of r i)))
 
-      jump-answer : {rest : Trail} {l : Entry} {m w : ℕ} → Among tr E l → Boolean ts (l .term) → Opposite (l .value) w → Level tr (remove E (l .term)) m → m < l .level → Restricted m tr rest
+      jump-answer : {rest : Trail} {l : Entry} {m w : ℕ} → Among tr E l → Boolean ts (l .term) → Opposite (l .value) w
+          → Level tr (remove E (l .term)) m → m < l .level → Restricted m tr rest
           → steps.jump ts tr E (l .term) ≡ allowed (searching (justifiedAt (l .term) w m (remove E (l .term)) ∷ rest))
       unfolding steps.jump steps.jumpRefusal
       jump-answer {rest} {l} {m} {w} h b o z k r =
@@ -248,7 +255,8 @@ module _ (ts : List ℕ) where
           (unless-of _ 18 _ (and-both (not (decidedAt tr (l .term))) _ (false-T _ sl) (false-T _ sk))
           (unless-of _ 23 _
           (and-both (not (eqb (l .term) (k .term))) _ (neqb-of ne)
-          (holds-of tr (intersection (whyAt tr (l .term)) (whyAt tr (k .term))) (firstOrder ts (levelOf tr E)) d (dl .0, both) (first-order-of ts (levelOf tr E) d fo (e ∙ sym c)))) refl))))
+          (holds-of tr (intersection (whyAt tr (l .term)) (whyAt tr (k .term))) (firstOrder ts (levelOf tr E)) d (dl .0, both)
+          (first-order-of ts (levelOf tr E) d fo (e ∙ sym c)))) refl))))
           ∙ (λ i. allowed (searching (decisionAt (l .term) (v i) (1 + g i) ∷ t i)))
 
   -- ---- rows of the sheet
@@ -323,7 +331,7 @@ module _ (ts : List ℕ) where
       let c = p .0 in
       let R = h .wellFormed .0 in
       let f = first-column (c .rows) in
-      step-of (conflict tr E) x kinds.Flip (c .kind) (conflict-shaped x (isFilled (x .p)) (c .subject) (p .1) (p .2) (filled-test (f .0)) (blanks-of (f .1))) tt
+      step-of (conflict tr E) x kinds.Flip (c .kind) (pair-shaped x (c .subject) (p .1) (p .2) (f .0) (f .1)) tt
       (known-of c (below-row tr _ R (hl .0)) (λ t m. subst (λ t. t < termRows ts) (sym (List·Memᴰ·eq-of-singleton m)) (below-row tr _ R (hk .0))))
       ∙ (λ i. steps.flip ts tr E (c .subject .0 i) (f .0 .0 i))
       ∙ flip-answer R (h .truths) E hl (search) (search) (search) hk (search) (omega arith) dl dk (search) (omega arith) z r y

@@ -30,7 +30,8 @@ pub from-left : (cs : List ℕ) → T (leftFilled cs) → FromLeft cs (filled cs
 from-left [] h = noColumn
 from-left (c ∷ cs) h = go (λ k. from-left cs k) (eqb c blank) refl h
   where
-    go : (T (leftFilled cs) → FromLeft cs (filled cs)) → (b : Bool) → eqb c blank ≡ b → T (cond b (all isBlank cs) (leftFilled cs)) → FromLeft (c ∷ cs) (cond b [] (c ∷ filled cs))
+    go : (T (leftFilled cs) → FromLeft cs (filled cs)) → (b : Bool) → eqb c blank ≡ b → T (cond b (all isBlank cs) (leftFilled cs))
+        → FromLeft (c ∷ cs) (cond b [] (c ∷ filled cs))
     go f true e h = blankColumn (eqb→eq c blank (true-T _ e)) (all-blank cs h)
     go f false e h = filledColumn (refl, λ q. subst T e (eqb-of q)) (f h)
 

@@ -94,14 +94,16 @@ module _ (ts : List ℕ) (short : termRows ts ≤ 256) where
   alone : (k t : ℕ) → k ≤ 6 → t < termRows ts → Written (kindOf k) blank t blank []
   alone k t i l = write k blank t blank [] i (omega arith) (omega arith) (omega arith) (omega arith) no-premises
 
-  inference-row : {tr : Trail} {r : Rule} {J : List Premise} {l v w : ℕ} (k : ℕ) → k ≤ 6 → WellFormed (termRows ts) tr → l < termRows ts → Inferred ts tr r J l v w
+  inference-row : {tr : Trail} {r : Rule} {J : List Premise} {l v w : ℕ} (k : ℕ) → k ≤ 6 → WellFormed (termRows ts) tr → l < termRows ts
+      → Inferred ts tr r J l v w
       → Written (kindOf k) (rule-number r .0) l v (map rowOf J)
   inference-row {r = r} {J = ps} {l} {v} k i R b h =
       let s = infers-short (h .inference) in
       let m = length-map ps rowOf in
       let o = opposite-sum (h .other) in
       let n = rule-number r .2 in
-      write k (rule-number r .0) l v (map rowOf ps) i (omega arith) (omega arith) (omega arith) (omega arith) (λ p q. let z = premise-rows ts R h p q in omega arith)
+      write k (rule-number r .0) l v (map rowOf ps) i (omega arith) (omega arith) (omega arith) (omega arith)
+      (λ p q. let z = premise-rows ts R h p q in omega arith)
 
   row-of : {s : State} {a : Action} {r : Result} → Coherent ts s → Writable a → Transition ts s a r → Row a
   unfolding WellFormedState kindOf

@@ -24,7 +24,8 @@ use Rattle.figure.specs.Faithful.{Coherent}
 use Rattle.figure.proofs.Rows.{eqb-of}
 
 module _ (ts : List ℕ) where
-  abbrev Truthful : Trail → Type 0
+  -- every prop on the trail has a truth value
+  abbrev pub Truthful : Trail → Type 0
   Truthful tr = (e : Entry) → e ∈ tr → Suits ts (e .term) (e .value)
 
   pub value-suits : (t v : ℕ) → T (valueSuits ts t v) → Suits ts t v
