@@ -99,3 +99,24 @@ terms =
     ++ row 0 0 (3 ∷ 4 ∷ [])
     ++ row 1 0 (2 ∷ [])
     ++ row 3 0 (2 ∷ 5 ∷ [])
+
+abbrev pub a : ℕ
+a = 0
+
+abbrev pub b : ℕ
+b = 1
+
+abbrev pub e : ℕ
+e = 2
+
+abbrev pub g : ℕ
+g = 5
+
+abbrev pub not-e : ℕ
+not-e = 6
+
+abbrev pub e-or-g : ℕ
+e-or-g = 7
+
+abbrev pub clash-g : List ℕ
+clash-g = clash cong g 1 (e ∷ [])

@@ -16,32 +16,9 @@ use Rattle.calculus.specs.Rules
 use Rattle.calculus.specs.Steps
 use Rattle.calculus.specs.Run
 use Rattle.calculus.specs.Run.{callRefusal, outcome, trailAfter, workAfter}
-use Rattle.calculus.proofs.Boards.{same, neg, unit, cong, decide, deduce, clash, resolve, clear, jump, remains, refutes, refuses, shown, sorts, terms}
-
--- ---- rows of the board
-
-abbrev pub a : ℕ
-a = 0
-
-abbrev pub b : ℕ
-b = 1
-
-abbrev pub e : ℕ
-e = 2
-
-abbrev pub g : ℕ
-g = 5
-
-abbrev not-e : ℕ
-not-e = 6
-
-abbrev e-or-g : ℕ
-e-or-g = 7
+use Rattle.calculus.proofs.Boards.{same, neg, unit, decide, deduce, clash, resolve, clear, jump, remains, refutes, refuses, shown, sorts, terms, a, b, e, g, not-e, e-or-g, clash-g}
 
 -- ---- logs
-
-abbrev pub clash-g : List ℕ
-clash-g = clash cong g 1 (e ∷ [])
 
 abbrev same-e : List ℕ
 same-e = decide a 7 ++ decide b 7 ++ deduce same e 1 (a ∷ b ∷ []) ++ clash-g
