@@ -1,8 +1,7 @@
 -- The claim is not empty: every sort sheet and every term sheet has an interpretation, so that no log refutes the empty input.
 use mathlib.Core.Path.{_≡_, refl, sym, _∙_}
 use mathlib.Core.Logic.{_≢_, ∥∥₁-elim}
-use mathlib.Core.Bool.{true}
-use mathlib.Core.List.{List, [], map}
+use mathlib.Core.List.{List, []}
 use Prim.Native.Nat.{ℕ, zero, suc, _≤_, _<_}
 use native.Mathlib.Omega.{arith}
 use Rattle.calculus.specs.Sheets.{Call, lengthRefusal}
