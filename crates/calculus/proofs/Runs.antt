@@ -88,5 +88,5 @@ module _ (log : List ℕ) (whole : length log % 9 ≡ 0) (few : length log / 9 �
   lengths-pass = rw (whole, le-leb (length log / 9) 65535 few)
 
   pub starred-any : seen (call (e ∷ 2 ∷ []) log) ≡ asked (refuses 0 7 0) []
-  unfolding Lists.firstWhere Numbers.unless Numbers.orElse Numbers.firstRefusal Sorts.isArray Sorts.isPlain Sorts.sortRefusal Sorts.sortsRefusal Terms.cells Terms.args Terms.arg Terms.earlier Terms.sameUse Terms.firstUse Terms.suits Terms.twins Terms.fresh Terms.termRefusal Terms.termsRefusal Trail.on Trail.entry Trail.holds Trail.levelOf Trail.keptTo Trail.trailNumbersOf Inputs.inputTrail Inputs.inputRefusal Inputs.inputsRefusal Rules.ruleOf Rules.bare Rules.single Rules.double Rules.leading Rules.unitAt Rules.fits Steps.answer Steps.premises Steps.kindOf Steps.shaped Steps.ready Steps.known Steps.decideRefusal Steps.decide Steps.inferenceRefusal Steps.deduceRefusal Steps.deduce Steps.clashRefusal Steps.clashed Steps.clash Steps.resolveRefusal Steps.resolve Steps.clearRefusal Steps.clear Steps.jumpRefusal Steps.jump Steps.flipRefusal Steps.flip Steps.rowRefusal Steps.stepBy Steps.step Run.follow Run.run Run.sheetsRefusal Run.callRefusal Run.endingOf Run.ending Run.outcome Run.trailAfter Run.workAfter
+  unfolding Lists.firstWhere Numbers.unless Numbers.orElse Numbers.firstRefusal Sorts.isArray Sorts.isPlain Sorts.sortRefusal Sorts.sortsRefusal Terms.cells Terms.args Terms.arg Terms.earlier Terms.sameUse Terms.firstUse Terms.suits Terms.twins Terms.fresh Terms.termRefusal Terms.termsRefusal Trail.on Trail.trailNumbersOf Inputs.inputTrail Inputs.inputRefusal Inputs.inputsRefusal Run.sheetsRefusal Run.callRefusal Run.endingOf Run.ending Run.outcome Run.trailAfter Run.workAfter
   starred-any = rw lengths-pass
