@@ -1,8 +1,10 @@
--- Rows for the tables, written out in document 01's numbers, 65535 where nothing is filled in; and the small board.
+-- Rows and calls for the tables, written out in document 01's numbers, 65535 where nothing is filled in; and the small board.
 use mathlib.Core.List.{List, [], _∷_, _++_}
-use Prim.Native.Nat.{ℕ, _-_}
+use Prim.Native.Nat.{ℕ, _+_, _-_, _*_, _/_}
 use lib.ListN.{length, replicate}
 use Rattle.calculus.specs.declared.Outcome.{Outcome}
+use Rattle.calculus.specs.Sheets.{Call}
+use Rattle.calculus.specs.Run.{outcome}
 
 abbrev pub nothing : ℕ → List ℕ
 nothing n = replicate n 65535
@@ -16,7 +18,7 @@ plain = 65535 ∷ 65535 ∷ []
 abbrev pub row : ℕ → ℕ → List ℕ → List ℕ
 row h s xs = h ∷ s ∷ xs ++ nothing (4 - length xs)
 
--- ---- rules
+-- ---- rules, by number
 
 abbrev pub same : ℕ
 same = 0
@@ -27,8 +29,17 @@ differ = 1
 abbrev pub refl-rule : ℕ
 refl-rule = 2
 
+abbrev pub sym : ℕ
+sym = 3
+
+abbrev pub trans : ℕ
+trans = 4
+
 abbrev pub neg : ℕ
 neg = 5
+
+abbrev pub part : ℕ
+part = 6
 
 abbrev pub unit : ℕ
 unit = 7
@@ -41,6 +52,9 @@ cong = 9
 
 abbrev pub pred : ℕ
 pred = 10
+
+abbrev pub read : ℕ
+read = 11
 
 abbrev pub skip : ℕ
 skip = 12
@@ -82,6 +96,41 @@ refuses steps number entries = 2 ∷ steps ∷ number ∷ entries ∷ []
 
 abbrev pub shown : Outcome → List ℕ
 shown o = o .verdict ∷ o .steps ∷ o .number ∷ o .entries ∷ []
+
+-- ---- a call and its result
+
+-- the sheets, the lengths of workspace and trail buffer, and the result: verdict, steps, number, entries
+abbrev pub Case : Type 0
+Case = record { sorts : List ℕ; terms : List ℕ; inputs : List ℕ; log : List ℕ; work : ℕ; trail : ℕ; result : List ℕ }
+
+-- workspace and trail buffer of these lengths
+abbrev pub lent : ℕ → ℕ → List ℕ → List ℕ → List ℕ → List ℕ → List ℕ → Case
+lent w t ss ts is log r = record { sorts = ss; terms = ts; inputs = is; log = log; work = w; trail = t; result = r }
+
+-- 8N+12 words and 4N numbers
+abbrev pub sheets : List ℕ → List ℕ → List ℕ → List ℕ → List ℕ → Case
+sheets ss ts is log r = lent (8 * (length ts / 6) + 12) (4 * (length ts / 6)) ss ts is log r
+
+abbrev pub callOf : Case → Call
+callOf x =
+    record {
+      sorts = x .sorts;
+      terms = x .terms;
+      inputs = x .inputs;
+      steps = x .log;
+      work = replicate (x .work) 0;
+      trail = replicate (x .trail) 0;
+    }
+
+abbrev pub given : Case → List ℕ
+given x = shown (outcome (callOf x))
+
+abbrev pub asked : Case → List ℕ
+asked x = x .result
+
+-- refused before any step
+abbrev pub away : ℕ → List ℕ
+away c = refuses 0 c 0
 
 -- ---- the small board
 

@@ -3,12 +3,11 @@
 use mathlib.Core.Path.{_≡_, refl}
 use mathlib.Core.Bool.{true, false}
 use mathlib.Core.List.{List, [], _∷_, _++_, map}
-use Prim.Native.Nat.{ℕ, _+_, _*_, _/_}
-use lib.ListN.{length, replicate}
+use Prim.Native.Nat.{ℕ, _+_}
+use lib.ListN.{length}
 use Rattle.calculus.specs.Lists
 use Rattle.calculus.specs.Numbers
 use Rattle.calculus.specs.Sheets
-use Rattle.calculus.specs.Sheets.{Call}
 use Rattle.calculus.specs.Sorts
 use Rattle.calculus.specs.Terms
 use Rattle.calculus.specs.Trail
@@ -20,39 +19,7 @@ use Rattle.calculus.specs.Run
 use Rattle.calculus.specs.Run.{outcome}
 use Rattle.calculus.specs.declared.Premise.{Premise}
 use Rattle.calculus.specs.declared.Rule.the-variants.{Congruence, Predicate}
-use Rattle.calculus.proofs.Boards.{nothing, plain, row, same, differ, refl-rule, neg, unit, eval, cong, pred, decide, deduce, clash, resolve, clear, jump, flip, remains, refutes, refuses, shown}
-
--- ---- a call and its result
-
--- the sheets, the lengths of workspace and trail buffer, and the result: verdict, steps, number, entries
-abbrev Case : Type 0
-Case = record { sorts : List ℕ; terms : List ℕ; inputs : List ℕ; log : List ℕ; work : ℕ; trail : ℕ; result : List ℕ }
-
--- the lengths of the sheets' buffers as they are lent
-abbrev lent : ℕ → ℕ → List ℕ → List ℕ → List ℕ → List ℕ → List ℕ → Case
-lent w t ss ts is log r = record { sorts = ss; terms = ts; inputs = is; log = log; work = w; trail = t; result = r }
-
--- 8N+12 words and 4N numbers
-abbrev sheets : List ℕ → List ℕ → List ℕ → List ℕ → List ℕ → Case
-sheets ss ts is log r = lent (8 * (length ts / 6) + 12) (4 * (length ts / 6)) ss ts is log r
-
-abbrev call : Case → Call
-call x =
-    record {
-      sorts = x .sorts;
-      terms = x .terms;
-      inputs = x .inputs;
-      steps = x .log;
-      work = replicate (x .work) 0;
-      trail = replicate (x .trail) 0;
-    }
-
-abbrev given : Case → List ℕ
-given x = shown (outcome (call x))
-
--- refused before any step
-abbrev away : ℕ → List ℕ
-away c = refuses 0 c 0
+use Rattle.calculus.proofs.Boards.{Case, lent, sheets, given, asked, away, nothing, plain, row, same, differ, refl-rule, neg, unit, eval, cong, pred, decide, deduce, clash, resolve, clear, jump, flip, remains, refutes, refuses}
 
 -- ---- 31, 30, 32, in this order
 
@@ -378,6 +345,11 @@ conflict-steps =
     ∷ of-e (resolve not-e) (remains 7 6)
     -- its decisions are below the conflict's level
     ∷ decided-d (resolve e) (remains 6 5)
+    -- by a decision on a prop it is not barred
+    ∷ steps (unequal ++ (e-or-d ∷ 1 ∷ [])) (decide d 0 ++ deduce unit e 1 (e-or-d ∷ d ∷ []) ++ clash differ e 0 (a ∷ b ∷ []) ++ resolve e) (remains 4 5)
+    -- what is resolved is out, its justification is in
+    ∷ of-e (resolve not-e ++ resolve not-e) (refuses 7 17 6)
+    ∷ decided-d (resolve e ++ resolve a) (refuses 6 18 5)
     -- clear: d is no decision and outside; not(e) no decision, and not above the rest
     ∷ of-e (clear d) (refuses 6 17 6)
     ∷ in-conflict (clear c) 17
@@ -385,6 +357,8 @@ conflict-steps =
     ∷ decided-d (clear d) (refuses 5 20 5)
     ∷ in-conflict (clear a) 21
     ∷ steps (e ∷ 1 ∷ []) (unlike ++ clear b) (remains 5 2)
+    -- what is below its level stays, c too
+    ∷ steps (e ∷ 1 ∷ []) (decide a 7 ++ decide c 9 ++ decide b 8 ++ clash differ e 0 (a ∷ b ∷ []) ++ clear b) (remains 5 3)
     -- jump: c is outside and no prop; a no prop, and not above the rest
     ∷ in-conflict (jump c) 17
     ∷ in-conflict (jump a) 22
@@ -496,7 +470,7 @@ abbrev table : List Case
 table =
     lengths ++ sort-rows ++ term-rows ++ input-rows ++ columns ++ search-steps ++ conflict-steps ++ units ++ congs
 
-pub ordered : map given table ≡ map (λ (x : Case). x .result) table
+pub ordered : map given table ≡ map asked table
 unfolding Lists.firstWhere Numbers.unless Numbers.orElse Numbers.firstRefusal Sheets.lengthRefusal Sorts.isArray Sorts.isPlain Sorts.sortRefusal Sorts.sortsRefusal Terms.cells Terms.args Terms.arg Terms.earlier Terms.sameUse Terms.firstUse Terms.suits Terms.twins Terms.fresh Terms.termRefusal Terms.termsRefusal Trail.on Trail.entry Trail.holds Trail.levelOf Trail.keptTo Inputs.inputTrail Inputs.inputRefusal Inputs.inputsRefusal Rules.ruleOf Rules.bare Rules.single Rules.double Rules.leading Rules.unitAt Rules.fits Steps.answer Steps.premises Steps.kindOf Steps.shaped Steps.ready Steps.known Steps.decideRefusal Steps.decide Steps.inferenceRefusal Steps.deduceRefusal Steps.deduce Steps.clashRefusal Steps.clashed Steps.clash Steps.resolveRefusal Steps.resolve Steps.clearRefusal Steps.clear Steps.jumpRefusal Steps.jump Steps.flipRefusal Steps.flip Steps.rowRefusal Steps.stepBy Steps.step Run.follow Run.run Run.sheetsRefusal Run.callRefusal Run.endingOf Run.ending Run.outcome
 ordered = refl
 
