@@ -20,30 +20,29 @@ pub fn level_of(work: &[u64], w: usize, terms: usize, n: usize, e: usize) -> Lev
     requires { ⌜ Laid w terms (now work) n × (e + w ≤ length (now work)) × Within (setAt (now work) e w) (trailIn w terms (now work) n) ⌝ }
     ensures { λ r. ⌜ r .0 ≡ levelOf (trailIn w terms (now (work .entry)) n) (setAt (now (work .entry)) e w) ⌝ }
 {
-    let mut top: u64 = 0;
+    let mut top = Level(0);
     let mut from: usize = 0;
     while from < 64 * w {
         let found = bitset::next_member(work, e, w, from);
         let Found::At(t) = found else {
-            return Level(top);
+            return top;
         };
         let level = trail::level(work, w, terms, n, t);
-        top = trail::larger(top, level.0);
+        top = trail::larger(top, level);
         from = t.0 as usize + 1;
     }
-    Level(top)
+    top
 }
 
 // The level of term t, which is on the trail; 0 where t is the row a.
-pub fn level_unless(work: &[u64], w: usize, terms: usize, n: usize, t: Row, a: Row) -> u64
+pub fn level_unless(work: &[u64], w: usize, terms: usize, n: usize, t: Row, a: Row) -> Level
     requires { ⌜ Laid w terms (now work) n × (t .0 < terms) × (on (trailIn w terms (now work) n) (t .0) ≡ true) ⌝ }
-    ensures { λ r. ⌜ r ≡ cond (eqb (t .0) (a .0)) 0 (levelAt (trailIn w terms (now (work .entry)) n) (t .0)) ⌝ }
+    ensures { λ r. ⌜ r .0 ≡ cond (eqb (t .0) (a .0)) 0 (levelAt (trailIn w terms (now (work .entry)) n) (t .0)) ⌝ }
 {
     if t.0 == a.0 {
-        return 0;
+        return Level(0);
     }
-    let level = trail::level(work, w, terms, n, t);
-    level.0
+    trail::level(work, w, terms, n, t)
 }
 
 // The level of the set at e without the row a.
@@ -51,18 +50,18 @@ pub fn level_without(work: &[u64], w: usize, terms: usize, n: usize, e: usize, a
     requires { ⌜ Laid w terms (now work) n × (e + w ≤ length (now work)) × Within (setAt (now work) e w) (trailIn w terms (now work) n) ⌝ }
     ensures { λ r. ⌜ r .0 ≡ levelOf (trailIn w terms (now (work .entry)) n) (remove (setAt (now (work .entry)) e w) (a .0)) ⌝ }
 {
-    let mut top: u64 = 0;
+    let mut top = Level(0);
     let mut from: usize = 0;
     while from < 64 * w {
         let found = bitset::next_member(work, e, w, from);
         let Found::At(t) = found else {
-            return Level(top);
+            return top;
         };
-        let level = level_unless(work, w, terms, n, t, a);
-        top = trail::larger(top, level);
+        let other = level_unless(work, w, terms, n, t, a);
+        top = trail::larger(top, other);
         from = t.0 as usize + 1;
     }
-    Level(top)
+    top
 }
 
 // Whether term t, which is on the trail, is a decision of level m and not of sort prop.

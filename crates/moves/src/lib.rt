@@ -86,10 +86,10 @@ pub fn propagate(
     let b = t.0 as usize * w;
     gather(work, b, w, ps);
     trail::push(work, w, terms, n, t, v, level, false);
-    let l = trail::larger(top.0, level.0);
+    let l = trail::larger(top, level);
     Kept {
         count: n + 1,
-        top: Level(l),
+        top: l,
     }
 }
 
@@ -135,10 +135,10 @@ pub fn land(work: &mut [u64], w: usize, terms: usize, n: usize, t: Row, v: u16, 
     bitset::copy(work, b, e, w);
     bitset::remove(work, b, w, t);
     trail::push(work, w, terms, k, t, v, m, false);
-    let l = trail::larger(kept.top.0, m.0);
+    let l = trail::larger(kept.top, m);
     Kept {
         count: k + 1,
-        top: Level(l),
+        top: l,
     }
 }
 

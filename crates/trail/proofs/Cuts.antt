@@ -17,11 +17,14 @@ use Rattle.bitset.specs.Windows.{Only}
 use Rattle.trail.specs.Words.{levels, kinds, order, entryFor, trailIn, kindAt, Laid, Cut}
 use Rattle.trail.specs.Bases.{Base}
 use Rattle.trail.proofs.Abstract.{off-parts, on-older, kind-here, kind-older, kind-off, kind-on, kept-more, kept-less, kept-distinct, kept-below, top-more}
-use Rattle.trail.proofs.Laws.{why-in, trail-more, below-at, off-at, on-at, distinct-at, below-first, entry-same, trail-set, entry-at}
+use Rattle.trail.proofs.Laws.{why-in, trail-more, below-at, off-at, on-at, distinct-at, below-first, entry-same, trail-set, entry-at, room-all}
 use Rattle.trail.proofs.Bases.{base-low, kept-all, kind-first}
 
--- after i of the entries of ws₀, j of them left, whose greatest level is top
-pub record Cutting (w N : ℕ) (ws₀ ws : List ℕ) (m j i top : ℕ) : Type 0 where
+-- after i of the n entries of ws₀, j of them left, whose greatest level is top
+pub record Cutting (w N : ℕ) (ws₀ ws : List ℕ) (n m j i top : ℕ) : Type 0 where
+  pub laid : Laid w N ws₀ n
+  pub room : n ≤ N
+  pub so-far : i ≤ n
   pub within : j ≤ i
   pub only : Only ws₀ ws (kinds w N) (N + j)
   pub kept : trailIn w N ws j ≡ keptTo m (trailIn w N ws₀ i)
@@ -30,11 +33,15 @@ pub record Cutting (w N : ℕ) (ws₀ ws : List ℕ) (m j i top : ℕ) : Type 0 
   pub greatest : top ≡ topLevel (keptTo m (trailIn w N ws₀ i))
 
 -- the base is kept as it stands
-pub cut-base : (w N : ℕ) (ws : List ℕ) (n m i top : ℕ) → Laid w N ws n → WellFormed N (trailIn w N ws n) → Base w N ws n m i top → Cutting w N ws ws m i i top
-cut-base w N ws n m i top laid r b =
+pub cut-base : {w N : ℕ} {ws : List ℕ} {n m i top : ℕ}
+    → Laid w N ws n → WellFormed N (trailIn w N ws n) → Base w N ws n m i top → Cutting w N ws ws n m i i top
+cut-base {w} {N} {ws} {n} {m} {i} {top} laid r b =
     let low : topLevel (trailIn w N ws i) ≤ m = rw (b .trail) (base-low m (trailIn w N ws n) r) in
     let all = kept-all m (trailIn w N ws i) low in
     record {
+      laid = laid;
+      room = room-all w N ws n laid;
+      so-far = b .within;
       within = omega arith;
       only = record { long = refl; rest = λ k o. refl };
       kept = sym all;
@@ -43,8 +50,8 @@ cut-base w N ws n m i top laid r b =
       greatest = b .greatest ∙ sym (ap topLevel all);
     }
 
-module _ (w N : ℕ) (ws₀ ws : List ℕ) (n m j i top : ℕ) (laid : Laid w N ws₀ n) (less : i < n) (room : n ≤ N) (u : Cutting w N ws₀ ws m j i top)
-    (t : ℕ) (now : getD ws (order w N + i) 0 ≡ t) where
+module _ {w N : ℕ} {ws₀ ws : List ℕ} {n m j i top : ℕ} (u : Cutting w N ws₀ ws n m j i top) (less : i < n)
+    {t : ℕ} (now : getD ws (order w N + i) 0 ≡ t) where
   abbrev done : Trail
   done = trailIn w N ws₀ i
 
@@ -53,13 +60,13 @@ module _ (w N : ℕ) (ws₀ ws : List ℕ) (n m j i top : ℕ) (laid : Laid w N 
   still = u .only .rest
 
   was : getD ws₀ (order w N + i) 0 ≡ t
-  was = sym (still (order w N + i) (inr (omega (arith, u .within)))) ∙ now
+  was = sym (still (order w N + i) (inr (omega (arith, u .within, u .room)))) ∙ now
 
   pub small : t < N
-  small = rw was at (below-at N w N ws₀ n i (laid .below) less)
+  small = rw was at (below-at N w N ws₀ n i (u .laid .below) less)
 
   new : on done t ≡ false
-  new = rw was at (distinct-at w N ws₀ n i (laid .distinct) less)
+  new = rw was at (distinct-at w N ws₀ n i (u .laid .distinct) less)
 
   there : on (trailIn w N ws₀ n) t ≡ true
   there = rw was at (on-at w N ws₀ n i less)
@@ -74,13 +81,13 @@ module _ (w N : ℕ) (ws₀ ws : List ℕ) (n m j i top : ℕ) (laid : Laid w N 
       (still _ (inl (omega (arith, small)))) same-level (u .passed t small new) (λ k l. still _ (inl (omega arith)))
 
   same-kind : getD ws₀ (kinds w N + t) 0 ≡ cond (eqb (getD ws₀ (kinds w N + t) 0) 2) 2 1
-  same-kind = laid .marked t small ∙ kind-on t (trailIn w N ws₀ n) there ∙ ap (λ (e : Entry). cond (e .decided) 2 1) (entry-at w N ws₀ n t there)
+  same-kind = u .laid .marked t small ∙ kind-on t (trailIn w N ws₀ n) there ∙ ap (λ (e : Entry). cond (e .decided) 2 1) (entry-at w N ws₀ n t there)
 
   next : trailIn w N ws₀ (i + 1) ≡ entryFor w N ws₀ t ∷ done
   next = trail-more w N ws₀ i ∙ ap (λ (x : ℕ). entryFor w N ws₀ x ∷ done) was
 
   below-kept : Below N (trailIn w N ws j)
-  below-kept = rw (u .kept) (kept-below N m done (below-first N w N ws₀ n i (laid .below) (omega arith)))
+  below-kept = rw (u .kept) (kept-below N m done (below-first N w N ws₀ n i (u .laid .below) (omega arith)))
 
   -- a term that was there before this turn
   earlier : (v : ℕ) → eqb t v ≡ false → on (entryFor w N ws₀ t ∷ done) v ≡ true → on done v ≡ true
@@ -106,9 +113,12 @@ module _ (w N : ℕ) (ws₀ ws : List ℕ) (n m j i top : ℕ) (laid : Laid w N 
         (keep-kind t s)
         (λ k l. getD-set-other ws (order w N + j) _ t 0 (λ e. omega arith))
 
-    pub cut-keep : Cutting w N ws₀ keep m (j + 1) (i + 1) (max top (getD ws (levels w N + t) 0))
+    pub cut-keep : Cutting w N ws₀ keep n m (j + 1) (i + 1) (max top (getD ws (levels w N + t) 0))
     cut-keep =
         record {
+          laid = u .laid;
+          room = u .room;
+          so-far = omega arith;
           within = omega (arith, u .within);
           only =
               record {
@@ -120,7 +130,7 @@ module _ (w N : ℕ) (ws₀ ws : List ℕ) (n m j i top : ℕ) (laid : Laid w N 
           kept =
               trail-more w N keep j
               ∙ ap₂ (λ (x : Entry) (s : Trail). x ∷ s)
-              (ap (entryFor w N keep) (getD-set-same ws (order w N + j) t 0 (omega (arith, u .only .long, u .within, laid .enough))) ∙ keep-entry ∙ same-entry)
+              (ap (entryFor w N keep) (getD-set-same ws (order w N + j) t 0 (omega (arith, u .only .long, u .within, u .laid .enough))) ∙ keep-entry ∙ same-entry)
               (trail-set w N ws j (order w N + j) t below-kept (omega arith) (λ p l e. omega arith)
               (λ p l e. omega (arith, below-at N w N ws j p below-kept l))
               ∙ u .kept)
@@ -149,10 +159,13 @@ module _ (w N : ℕ) (ws₀ ws : List ℕ) (n m j i top : ℕ) (laid : Laid w N 
     gone : on (keptTo m done) t ≡ false
     gone = kept-off m done t new
 
-    pub cut-drop : Cutting w N ws₀ drop m j (i + 1) top
+    pub cut-drop : Cutting w N ws₀ drop n m j (i + 1) top
     cut-drop =
         let s = small in
         record {
+          laid = u .laid;
+          room = u .room;
+          so-far = omega arith;
           within = omega (arith, u .within);
           only =
               record {
@@ -172,7 +185,7 @@ module _ (w N : ℕ) (ws₀ ws : List ℕ) (n m j i top : ℕ) (laid : Laid w N 
           marks = λ v l o.
               ⊎-elim
               (λ q. let e : t ≡ v = eqb-true t v q in
-              rw (← e) (getD-set-same ws (kinds w N + t) 0 0 (omega (arith, u .only .long, laid .enough)) ∙ sym (kind-off t (keptTo m done) gone)))
+              rw (← e) (getD-set-same ws (kinds w N + t) 0 0 (omega (arith, u .only .long, u .laid .enough)) ∙ sym (kind-off t (keptTo m done) gone)))
               (λ q. let ne : t ≡ v → ⊥ = eqb-false t v q in
               getD-set-other ws (kinds w N + t) (kinds w N + v) 0 0 (λ e. ne (omega arith)) ∙ u .marks v l (earlier v q (rw next at o)))
               (is-or-not (eqb t v))
@@ -180,11 +193,20 @@ module _ (w N : ℕ) (ws₀ ws : List ℕ) (n m j i top : ℕ) (laid : Laid w N 
           greatest = u .greatest ∙ sym (ap topLevel goes);
         }
 
-pub cut-all : (w N : ℕ) (ws₀ ws : List ℕ) (n m j top : ℕ) → Laid w N ws₀ n → n ≤ N → Cutting w N ws₀ ws m j n top → Cut w N ws₀ ws n m j top
-cut-all w N ws₀ ws n m j top laid room u =
+pub cut-all : {w N : ℕ} {ws₀ ws : List ℕ} {n m j i top : ℕ} → Cutting w N ws₀ ws n m j i top → n ≤ i → Cut w N ws₀ ws n m j top
+cut-all {w} {N} {ws₀} {ws} {n} {m} {j} {i} u over =
+    let e : i ≡ n = omega (arith, u .so-far) in
+    let laid = u .laid in
+    let room = u .room in
+    let kept : trailIn w N ws j ≡ keptTo m (trailIn w N ws₀ n) = rw e at (u .kept) in
     record {
-      only = record { long = u .only .long; rest = λ k o. u .only .rest k (⊎-elim (λ (l : k < N * w). inl (omega arith)) (λ (l : N * w + 4 * N ≤ k). inr (omega (arith, u .within))) o) };
-      trail = u .kept;
+      only =
+          record {
+            long = u .only .long;
+            rest = λ k o.
+                u .only .rest k (⊎-elim (λ (l : k < N * w). inl (omega arith)) (λ (l : N * w + 4 * N ≤ k). inr (omega (arith, u .within))) o);
+          };
+      trail = kept;
       laid =
           record {
             enough = omega (arith, u .only .long, laid .enough);
@@ -192,12 +214,14 @@ cut-all w N ws₀ ws n m j top laid room u =
             narrow = laid .narrow;
             marked = λ t l.
                 ⊎-elim
-                (λ q. u .marks t l q)
-                (λ o. u .passed t l o ∙ laid .marked t l ∙ kind-off t (trailIn w N ws₀ n) o ∙ sym (kind-off t (keptTo m (trailIn w N ws₀ n)) (kept-off m (trailIn w N ws₀ n) t o)))
+                (λ q. rw e at (u .marks) t l q)
+                (λ o.
+                rw e at (u .passed) t l o ∙ laid .marked t l ∙ kind-off t (trailIn w N ws₀ n) o
+                ∙ sym (kind-off t (keptTo m (trailIn w N ws₀ n)) (kept-off m (trailIn w N ws₀ n) t o)))
                 (is-or-not (on (trailIn w N ws₀ n) t))
-                ∙ sym (ap (λ (s : Trail). kindAt s t) (u .kept));
-            distinct = rw (u .kept) (kept-distinct m (trailIn w N ws₀ n) (laid .distinct));
-            below = rw (u .kept) (kept-below N m (trailIn w N ws₀ n) (laid .below));
+                ∙ sym (ap (λ (s : Trail). kindAt s t) kept);
+            distinct = rw kept (kept-distinct m (trailIn w N ws₀ n) (laid .distinct));
+            below = rw kept (kept-below N m (trailIn w N ws₀ n) (laid .below));
           };
-      greatest = u .greatest ∙ sym (ap topLevel (u .kept));
+      greatest = u .greatest ∙ ap (λ (k : ℕ). topLevel (keptTo m (trailIn w N ws₀ k))) e ∙ sym (ap topLevel kept);
     }

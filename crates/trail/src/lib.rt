@@ -102,10 +102,10 @@ pub fn push(
 }
 
 // The greater of two levels.
-pub fn larger(a: u64, b: u64) -> u64
-    ensures { λ r. ⌜ r ≡ max a b ⌝ }
+pub fn larger(a: Level, b: Level) -> Level
+    ensures { λ r. ⌜ r .0 ≡ max (a .0) (b .0) ⌝ }
 {
-    if a < b { b } else { a }
+    if a.0 < b.0 { b } else { a }
 }
 
 // One level below m; 0 below 0.
@@ -153,20 +153,17 @@ pub fn cut(work: &mut [u64], w: usize, terms: usize, n: usize, m: Level) -> Kept
     let b = terms * w;
     let most = m.0;
     let mut j = first.count;
-    let mut top = first.top.0;
+    let mut top = first.top;
     for i in first.count..n {
         let t = work[b + 3 * terms + i] as usize;
         let level = work[b + terms + t];
         if level <= most {
             work[b + 3 * terms + j] = t as u64;
-            top = larger(top, level);
+            top = larger(top, Level(level));
             j += 1;
         } else {
             work[b + 2 * terms + t] = 0;
         }
     }
-    Kept {
-        count: j,
-        top: Level(top),
-    }
+    Kept { count: j, top: top }
 }

@@ -13,7 +13,7 @@ use Rattle.levels.proofs.level_of.Statement.{statement}
 use Rattle.levels.proofs.level_of.Tie as tie
 
 abbrev Inv-loop : tie.InvT-loop
-Inv-loop work w terms n e top₀ from₀ top from = top ≡ levelOf (trailIn w terms work n) (firsts (setAt work e w) from)
+Inv-loop work w terms n e top₀ from₀ top from = top .0 ≡ levelOf (trailIn w terms work n) (firsts (setAt work e w) from)
 
 abbrev μ-loop : tie.MeasureT-loop
 μ-loop work w terms n e top₀ from₀ top from = 64 * w - from

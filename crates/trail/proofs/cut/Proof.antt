@@ -1,16 +1,15 @@
 -- `trail::cut` meets its contract. The entries passed are kept to the level, and the kinds of the others among them are 0. Assumes nothing.
-use Prim.Native.Nat.{_-_, _≤_}
-use mathlib.Core.Path.{_≡_, refl}
+use Prim.Native.Nat.{_-_}
+use mathlib.Core.Path.{refl}
 use mathlib.Core.Logic.{⊎-elim}
 use native.Mathlib.Omega.{arith}
 use borrow.Author.Needs.{needs}
-use Rattle.trail.proofs.Laws.{room-all}
 use Rattle.trail.proofs.Cuts.{Cutting, small, cut-base, cut-keep, cut-drop, cut-all}
 use Rattle.trail.proofs.cut.Statement.{statement}
 use Rattle.trail.proofs.cut.Tie as tie
 
 abbrev Inv-loop : tie.InvT-loop
-Inv-loop work₀ w terms n b most j₀ top₀ i₀ work j top i = (i ≤ n) × (n ≤ terms) × Cutting w terms work₀ work most j i top
+Inv-loop work₀ w terms n b most j₀ top₀ i₀ work j top i = Cutting w terms work₀ work n most j i (top .0)
 
 abbrev μ-loop : tie.MeasureT-loop
 μ-loop work₀ w terms n b most j₀ top₀ i₀ work j top i = n - i
@@ -22,7 +21,7 @@ mul-b : tie.Need-mul-b Inv-loop μ-loop
 mul-b c = search needs
 
 loop-holds : tie.Need-loop-holds Inv-loop μ-loop
-loop-holds c = (c .base .ensures .within, room-all _ _ _ _ (c .before .before .before .pre .0), cut-base _ _ _ _ _ _ _ (c .before .before .before .pre .0) (c .before .before .before .pre .1) (c .base .ensures))
+loop-holds c = let start = c .before .before .before .before in cut-base (start .pre .0) (start .pre .1) (c .before .base .ensures)
 
 mul-t : tie.Need-mul-t Inv-loop μ-loop
 mul-t c = search needs
@@ -43,13 +42,13 @@ add-level : tie.Need-add-level Inv-loop μ-loop
 add-level c = search needs
 
 add-level-2 : tie.Need-add-level-2 Inv-loop μ-loop
-add-level-2 c = omega (arith, small _ _ _ _ _ _ _ _ _ (c .before .before .before .before .before .before .pre .0) (c .before .loop-test .taken) (c .before .before .loop .inv .1) (c .before .before .loop .inv .2) _ refl)
+add-level-2 c = let now = c .before in omega (arith, small (now .before .loop .inv) (now .loop-test .taken) refl)
 
 mul-level : tie.Need-mul-level Inv-loop μ-loop
-mul-level c = omega (arith, small _ _ _ _ _ _ _ _ _ (c .before .before .before .before .before .before .pre .0) (c .before .loop-test .taken) (c .before .before .loop .inv .1) (c .before .before .loop .inv .2) _ refl)
+mul-level c = let now = c .before in omega (arith, small (now .before .loop .inv) (now .loop-test .taken) refl)
 
 slice-read-level : tie.Need-slice-read-level Inv-loop μ-loop
-slice-read-level c = omega (arith, small _ _ _ _ _ _ _ _ _ (c .before .before .before .before .before .before .before .pre .0) (c .before .before .loop-test .taken) (c .before .before .before .loop .inv .1) (c .before .before .before .loop .inv .2) _ refl)
+slice-read-level c = let now = c .before .before in omega (arith, small (now .before .loop .inv) (now .loop-test .taken) refl)
 
 mul-work : tie.Need-mul-work Inv-loop μ-loop
 mul-work c = search needs
@@ -79,13 +78,13 @@ add-work-3 : tie.Need-add-work-3 Inv-loop μ-loop
 add-work-3 c = search needs
 
 add-work-4 : tie.Need-add-work-4 Inv-loop μ-loop
-add-work-4 c = omega (arith, small _ _ _ _ _ _ _ _ _ (c .before .before .before .before .before .before .before .before .pre .0) (c .before .before .before .loop-test .taken) (c .before .before .before .before .loop .inv .1) (c .before .before .before .before .loop .inv .2) _ refl)
+add-work-4 c = let now = c .before .before .before in omega (arith, small (now .before .loop .inv) (now .loop-test .taken) refl)
 
 mul-work-4 : tie.Need-mul-work-4 Inv-loop μ-loop
-mul-work-4 c = omega (arith, small _ _ _ _ _ _ _ _ _ (c .before .before .before .before .before .before .before .before .pre .0) (c .before .before .before .loop-test .taken) (c .before .before .before .before .loop .inv .1) (c .before .before .before .before .loop .inv .2) _ refl)
+mul-work-4 c = let now = c .before .before .before in omega (arith, small (now .before .loop .inv) (now .loop-test .taken) refl)
 
 slice-write-work-2 : tie.Need-slice-write-work-2 Inv-loop μ-loop
-slice-write-work-2 c = omega (arith, small _ _ _ _ _ _ _ _ _ (c .before .before .before .before .before .before .before .before .pre .0) (c .before .before .before .loop-test .taken) (c .before .before .before .before .loop .inv .1) (c .before .before .before .before .loop .inv .2) _ refl)
+slice-write-work-2 c = let now = c .before .before .before in omega (arith, small (now .before .loop .inv) (now .loop-test .taken) refl)
 
 add-i : tie.Need-add-i Inv-loop μ-loop
 add-i c = search needs
@@ -94,17 +93,19 @@ loop-less : tie.Need-loop-less Inv-loop μ-loop
 loop-less c = search needs
 
 loop-again : tie.Need-loop-again Inv-loop μ-loop
-loop-again c = let inv = c .before .before .before .before .loop .inv in
+loop-again c =
+    let now = c .before .before .before in
+    let inv = now .before .loop .inv in
     ⊎-elim
-    (λ w. (search needs, inv .1, rw (w .2, w .3, w .4, w .1 .ensures) (cut-keep _ _ _ _ _ _ _ _ _ (c .before .before .before .before .before .before .before .before .pre .0) (c .before .before .before .loop-test .taken) (inv .1) (inv .2) _ refl (w .0 .taken))))
-    (λ w. (search needs, inv .1, rw (w .1, w .2, w .3) (cut-drop _ _ _ _ _ _ _ _ _ (c .before .before .before .before .before .before .before .before .pre .0) (c .before .before .before .loop-test .taken) (inv .1) (inv .2) _ refl (w .0 .left))))
+    (λ w. rw (w .2, w .3, w .4, w .1 .ensures) (cut-keep inv (now .loop-test .taken) refl (w .0 .taken)))
+    (λ w. rw (w .1, w .2, w .3) (cut-drop inv (now .loop-test .taken) refl (w .0 .left)))
     (c .if1 .came)
 
 same-length : tie.Need-same-length Inv-loop μ-loop
 same-length c = search needs
 
 returns : tie.Need-returns Inv-loop μ-loop
-returns c = let e : c .before .loop .i ≡ c .before .before .before .before .before .args .n = omega arith in cut-all _ _ _ _ _ _ _ _ (c .before .before .before .before .before .pre .0) (c .before .loop .inv .1) (rw e at (c .before .loop .inv .2))
+returns c = cut-all (c .before .loop .inv) (omega arith)
 
 pub cut-spec : {M : Type 1} → statement M
 cut-spec =
