@@ -79,11 +79,11 @@ fn barred(terms: &[u16], work: &[u64], w: usize, n: usize, count: usize, a: Row)
     ensures { λ r. ⌜ r ≡ holds (trailIn w n (now (work .entry)) count) (whyAt (trailIn w n (now (work .entry)) count) (a .0)) (firstOrder (now (terms .entry)) (levelOf (trailIn w n (now (work .entry)) count) (conflictIn w n (now (work .entry))))) ⌝ }
 {
     let b = a.0 as usize * w;
-    if !levels::holds_first_order_any(work, w, n, count, terms, b) {
+    if !decisions::holds_first_order_any(work, w, n, count, terms, b) {
         return false;
     }
     let m = conflict_level(terms, work, w, n, count);
-    levels::holds_first_order(work, w, n, count, terms, b, m)
+    decisions::holds_first_order(work, w, n, count, terms, b, m)
 }
 
 // Whether the justifications of rows l and k share a first-order decision of the conflict's level, which is m.
@@ -100,7 +100,7 @@ fn share(
     requires { ⌜ Found w n (now terms) (now work) count × (l .0 < n) × (k .0 < n) × (on (trailIn w n (now work) count) (l .0) ≡ true) × (on (trailIn w n (now work) count) (k .0) ≡ true) × (decidedAt (trailIn w n (now work) count) (l .0) ≡ false) × (decidedAt (trailIn w n (now work) count) (k .0) ≡ false) × (m .0 ≡ levelOf (trailIn w n (now work) count) (conflictIn w n (now work))) ⌝ }
     ensures { λ r. ⌜ r ≡ holds (trailIn w n (now (work .entry)) count) (intersection (whyAt (trailIn w n (now (work .entry)) count) (l .0)) (whyAt (trailIn w n (now (work .entry)) count) (k .0))) (firstOrder (now (terms .entry)) (levelOf (trailIn w n (now (work .entry)) count) (conflictIn w n (now (work .entry))))) ⌝ }
 {
-    levels::share_first_order(
+    decisions::share_first_order(
         work,
         w,
         n,
