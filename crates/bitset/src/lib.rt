@@ -62,8 +62,8 @@ pub fn copy(work: &mut [u64], to: usize, from: usize, w: usize)
     requires { ⌜ (to ≤ from) × (from + w ≤ length (now work)) ⌝ }
     ensures { λ r. ⌜ Copied (now (work .entry)) (now (work .exit)) to from w ⌝ }
 {
-    for k in 0..w {
-        work[to + k] = work[from + k];
+    for j in 0..w {
+        work[to + j] = work[from + j];
     }
 }
 

@@ -238,7 +238,7 @@ pub fn resolve(terms: &[u16], work: &mut [u64], w: usize, n: usize, st: Status, 
     if c != 0 {
         return Answer::Refused(c);
     }
-    moves::resolve(work, w, n, count, a);
+    conflict_moves::resolve(work, w, n, count, a);
     let top = st.top;
     Answer::Allowed(Status {
         count,
@@ -257,7 +257,7 @@ pub fn clear(terms: &[u16], work: &mut [u64], w: usize, n: usize, st: Status, a:
     if c != 0 {
         return Answer::Refused(c);
     }
-    searching(moves::clear(work, w, n, count, a))
+    searching(conflict_moves::clear(work, w, n, count, a))
 }
 
 // Back to the level of the rest of the conflict, which justifies the opposite of l.
@@ -271,7 +271,7 @@ pub fn jump(terms: &[u16], work: &mut [u64], w: usize, n: usize, st: Status, l: 
     if c != 0 {
         return Answer::Refused(c);
     }
-    searching(moves::jump(work, w, n, count, l, m))
+    searching(conflict_moves::jump(work, w, n, count, l, m))
 }
 
 // Below the level of the conflict, the opposite of l is decided.
@@ -293,5 +293,5 @@ pub fn flip(
     if c != 0 {
         return Answer::Refused(c);
     }
-    searching(moves::flip(work, w, n, count, l, m))
+    searching(conflict_moves::flip(work, w, n, count, l, m))
 }

@@ -5,7 +5,7 @@ use mathlib.Core.List.{List}
 use lib.Dec.{eqb}
 use lib.ListN.{length}
 use Rattle.calculus.specs.Terms.{prop}
-use Rattle.calculus.specs.Trail.{Entry}
+use Rattle.calculus.specs.Trail.{Set, Entry, intersection}
 use Rattle.calculus.specs.WellFormed.{Within}
 use Rattle.bitset.specs.Windows.{setAt}
 use Rattle.trail.specs.Words.{trailIn, Laid}
@@ -17,6 +17,10 @@ firstOrderAny ts e = e .decided && not (prop ts (e .term))
 -- such a decision, of any level or of level m
 abbrev pub firstOrderIf : List ℕ → Bool → ℕ → Entry → Bool
 firstOrderIf ts any m e = e .decided && (not (prop ts (e .term)) && (any || eqb (e .level) m))
+
+-- what the sets at e and f share
+abbrev pub sharedAt : List ℕ → ℕ → ℕ → ℕ → Set
+sharedAt ws e f w = intersection (setAt ws e w) (setAt ws f w)
 
 -- the words are a trail of the sheet's rows, on which all members of the set at e stand
 abbrev pub Searchable : ℕ → ℕ → List ℕ → ℕ → List ℕ → ℕ → Type 0

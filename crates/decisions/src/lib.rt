@@ -3,12 +3,12 @@ ghost use mathlib.Core.Path.{_≡_};
 ghost use mathlib.Core.Bool.{true};
 ghost use Prim.Native.Nat.{_*_, _<_, _≤_};
 ghost use lib.ListN.{length};
-ghost use Rattle.calculus.specs.Trail.{intersection, on, entry, holds, firstOrder};
+ghost use Rattle.calculus.specs.Trail.{on, entry, holds, firstOrder};
 ghost use Rattle.calculus.specs.WellFormed.{Within};
 ghost use Rattle.bitset.specs.Windows.{setAt};
 ghost use Rattle.bitset.specs.Members.{wordOf};
 ghost use Rattle.trail.specs.Words.{trailIn, Laid};
-ghost use Rattle.decisions.specs.Decisions.{firstOrderAny, firstOrderIf, Searchable, Shareable};
+ghost use Rattle.decisions.specs.Decisions.{firstOrderAny, firstOrderIf, sharedAt, Searchable, Shareable};
 use calculus::Level;
 use calculus::Row;
 
@@ -126,7 +126,7 @@ pub fn share_first_order(
     m: Level,
 ) -> bool
     requires { ⌜ Shareable w terms (now work) n (now sheet) e f ⌝ }
-    ensures { λ r. ⌜ r ≡ holds (trailIn w terms (now (work .entry)) n) (intersection (setAt (now (work .entry)) e w) (setAt (now (work .entry)) f w)) (firstOrder (now (sheet .entry)) (m .0)) ⌝ }
+    ensures { λ r. ⌜ r ≡ holds (trailIn w terms (now (work .entry)) n) (sharedAt (now (work .entry)) e f w) (firstOrder (now (sheet .entry)) (m .0)) ⌝ }
 {
     for k in 0..w {
         let x = work[e + k] & work[f + k];

@@ -44,10 +44,10 @@ pub fn level_without(work: &[u64], w: usize, terms: usize, n: usize, e: usize, a
     requires { ⌜ SetOn w terms (now work) n e ⌝ }
     ensures { λ r. ⌜ r .0 ≡ levelOf (trailIn w terms (now (work .entry)) n) (remove (setAt (now (work .entry)) e w) (a .0)) ⌝ }
 {
-    let mut top = Level(0);
+    let mut most = Level(0);
     for k in 0..w {
         let x = bitset::word_without(k, work[e + k], a);
-        top = word_level(work, w, terms, n, k, x, top);
+        most = word_level(work, w, terms, n, k, x, most);
     }
-    top
+    most
 }

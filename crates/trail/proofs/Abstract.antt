@@ -240,7 +240,8 @@ holds-no s p (e ∷ older) d h =
           (is-or-not (eqb (e .term) t))),
       or-false (s (e .term) && p e),
     )
-    (neither (s (e .term)) (p e) (λ m. sym (ap p (entry-here e older (e .term) (eq-eqb (e .term) (e .term) refl))) ∙ h (e .term) m (on-here (e .term) e older refl)))
+    (neither (s (e .term)) (p e)
+    (λ m. sym (ap p (entry-here e older (e .term) (eq-eqb (e .term) (e .term) refl))) ∙ h (e .term) m (on-here (e .term) e older refl)))
 
 either : (a b p x y : Bool) → (a || b) && p || (x || y) ≡ (a && p || x) || (b && p || y)
 either true b true x y = refl

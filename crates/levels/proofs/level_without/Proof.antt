@@ -9,10 +9,10 @@ use Rattle.levels.proofs.level_without.Statement.{statement}
 use Rattle.levels.proofs.level_without.Tie as tie
 
 abbrev Inv-loop : tie.InvT-loop
-Inv-loop work w terms n e a top₀ k₀ top k = Levels (trailIn w terms work n) (remove (setAt work e w) (a .0)) w k (top .0)
+Inv-loop work w terms n e a most₀ k₀ most k = Levels (trailIn w terms work n) (remove (setAt work e w) (a .0)) w k (most .0)
 
 abbrev μ-loop : tie.MeasureT-loop
-μ-loop work w terms n e a top₀ k₀ top k = w - k
+μ-loop work w terms n e a most₀ k₀ most k = w - k
 
 loop-holds : tie.Need-loop-holds Inv-loop μ-loop
 loop-holds c = levels-start _ _ _
