@@ -56,11 +56,11 @@ holds-twice ws us vs b w s r one two = record { only = only-twice ws us vs b w (
 -- ---- a word with one bit changed
 
 -- the code's 1 << (t % 64)
-mask : (t : ℕ) → 1 * 2 ^ (t % 64) % 2 ^ 64 ≡ 2 ^ (t % 64)
+pub mask : (t : ℕ) → 1 * 2 ^ (t % 64) % 2 ^ 64 ≡ 2 ^ (t % 64)
 mask t = let l : t % 64 < 64 = omega arith in rw (one-mul, mod-eq-of-lt (pow-lt l))
 
 -- u is t where its word and its bit are
-same-row : (u t : ℕ) → u / 64 ≡ t / 64 → eqb (u % 64) (t % 64) ≡ eqb u t
+pub same-row : (u t : ℕ) → u / 64 ≡ t / 64 → eqb (u % 64) (t % 64) ≡ eqb u t
 same-row u t e =
     ⊎-elim
     (λ b. let q : u % 64 ≡ t % 64 = eqb-true _ _ b in b ∙ sym (eq-eqb u t (omega arith)))
@@ -95,17 +95,22 @@ module _ (op : Bool → Bool → Bool) (keeps : (b : Bool) → op b false ≡ b)
       }
 
 module _ (ws : List ℕ) (b w t : ℕ) (h : t / 64 < w) (f : b + w ≤ length ws) where
-  pub insert-at : Holds ws (set ws (b + t / 64) (bitOr (getD ws (b + t / 64) 0) (1 * 2 ^ (t % 64) % 2 ^ 64))) b w (insert (setAt ws b w) t)
-  insert-at =
-      changed _||_ or-false ws b w t _ h f
-      (λ k. bit-or _ _ k ∙ ap (λ (m : ℕ). bitAt (getD ws (b + t / 64) 0) k || bitAt m k) (mask t) ∙ ap (λ (x : Bool). bitAt (getD ws (b + t / 64) 0) k || x) (bit-pow k (t % 64)))
-      _ (λ u. refl)
+  abbrev old : ℕ
+  old = getD ws (b + t / 64) 0
 
-  pub remove-at : Holds ws (set ws (b + t / 64) (bitXor (getD ws (b + t / 64) 0) (bitAnd (getD ws (b + t / 64) 0) (1 * 2 ^ (t % 64) % 2 ^ 64)))) b w (remove (setAt ws b w) t)
+  abbrev bit : ℕ
+  bit = 1 * 2 ^ (t % 64) % 2 ^ 64
+
+  bit-is : (k : ℕ) → bitAt bit k ≡ eqb k (t % 64)
+  bit-is k = ap (λ (m : ℕ). bitAt m k) (mask t) ∙ bit-pow k (t % 64)
+
+  pub insert-at : Holds ws (set ws (b + t / 64) (bitOr old bit)) b w (insert (setAt ws b w) t)
+  insert-at = changed _||_ or-false ws b w t _ h f (λ k. bit-or old bit k ∙ ap (_||_ (bitAt old k)) (bit-is k)) _ (λ u. refl)
+
+  pub remove-at : Holds ws (set ws (b + t / 64) (bitXor old (bitAnd old bit))) b w (remove (setAt ws b w) t)
   remove-at =
       changed (λ x y. x && not y) and-true ws b w t _ h f
-      (λ k. bit-less _ _ k ∙ ap (λ (m : ℕ). bitAt (getD ws (b + t / 64) 0) k && not (bitAt m k)) (mask t) ∙ ap (λ (x : Bool). bitAt (getD ws (b + t / 64) 0) k && not x) (bit-pow k (t % 64)))
-      _ (λ u. refl)
+      (λ k. bit-less old bit k ∙ ap (λ (x : Bool). bitAt old k && not x) (bit-is k)) _ (λ u. refl)
 
 -- ---- a run of stores: after i of them the words at b are as f says
 
@@ -116,7 +121,8 @@ pub record Filled (ws₀ ws : List ℕ) (b i : ℕ) (f : ℕ → ℕ) : Type 0 w
 pub filled-none : (ws : List ℕ) (b : ℕ) (f : ℕ → ℕ) → Filled ws ws b 0 f
 filled-none ws b f = record { only = record { long = refl; rest = λ k o. refl }; done = λ k h. absurd (omega arith) }
 
-pub filled-more : (ws₀ ws : List ℕ) (b i : ℕ) (f : ℕ → ℕ) (v : ℕ) → b + i < length ws₀ → Filled ws₀ ws b i f → v ≡ f i → Filled ws₀ (set ws (b + i) v) b (i + 1) f
+pub filled-more : (ws₀ ws : List ℕ) (b i : ℕ) (f : ℕ → ℕ) (v : ℕ) → b + i < length ws₀ → Filled ws₀ ws b i f → v ≡ f i
+    → Filled ws₀ (set ws (b + i) v) b (i + 1) f
 filled-more ws₀ ws b i f v h u e =
     record {
       only =

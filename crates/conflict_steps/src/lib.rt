@@ -79,11 +79,11 @@ fn barred(terms: &[u16], work: &[u64], w: usize, n: usize, count: usize, a: Row)
     ensures { λ r. ⌜ r ≡ holds (trailIn w n (now (work .entry)) count) (whyAt (trailIn w n (now (work .entry)) count) (a .0)) (firstOrder (now (terms .entry)) (levelOf (trailIn w n (now (work .entry)) count) (conflictIn w n (now (work .entry))))) ⌝ }
 {
     let b = a.0 as usize * w;
-    if !levels::holds_first_order_any(work, w, n, count, terms, b) {
+    if !decisions::holds_first_order_any(work, w, n, count, terms, b) {
         return false;
     }
     let m = conflict_level(terms, work, w, n, count);
-    levels::holds_first_order(work, w, n, count, terms, b, m)
+    decisions::holds_first_order(work, w, n, count, terms, b, m)
 }
 
 // Whether the justifications of rows l and k share a first-order decision of the conflict's level, which is m.
@@ -100,7 +100,7 @@ fn share(
     requires { ⌜ Found w n (now terms) (now work) count × (l .0 < n) × (k .0 < n) × (on (trailIn w n (now work) count) (l .0) ≡ true) × (on (trailIn w n (now work) count) (k .0) ≡ true) × (decidedAt (trailIn w n (now work) count) (l .0) ≡ false) × (decidedAt (trailIn w n (now work) count) (k .0) ≡ false) × (m .0 ≡ levelOf (trailIn w n (now work) count) (conflictIn w n (now work))) ⌝ }
     ensures { λ r. ⌜ r ≡ holds (trailIn w n (now (work .entry)) count) (intersection (whyAt (trailIn w n (now (work .entry)) count) (l .0)) (whyAt (trailIn w n (now (work .entry)) count) (k .0))) (firstOrder (now (terms .entry)) (levelOf (trailIn w n (now (work .entry)) count) (conflictIn w n (now (work .entry))))) ⌝ }
 {
-    levels::share_first_order(
+    decisions::share_first_order(
         work,
         w,
         n,
@@ -238,7 +238,7 @@ pub fn resolve(terms: &[u16], work: &mut [u64], w: usize, n: usize, st: Status, 
     if c != 0 {
         return Answer::Refused(c);
     }
-    moves::resolve(work, w, n, count, a);
+    conflict_moves::resolve(work, w, n, count, a);
     let top = st.top;
     Answer::Allowed(Status {
         count,
@@ -257,7 +257,7 @@ pub fn clear(terms: &[u16], work: &mut [u64], w: usize, n: usize, st: Status, a:
     if c != 0 {
         return Answer::Refused(c);
     }
-    searching(moves::clear(work, w, n, count, a))
+    searching(conflict_moves::clear(work, w, n, count, a))
 }
 
 // Back to the level of the rest of the conflict, which justifies the opposite of l.
@@ -271,7 +271,7 @@ pub fn jump(terms: &[u16], work: &mut [u64], w: usize, n: usize, st: Status, l: 
     if c != 0 {
         return Answer::Refused(c);
     }
-    searching(moves::jump(work, w, n, count, l, m))
+    searching(conflict_moves::jump(work, w, n, count, l, m))
 }
 
 // Below the level of the conflict, the opposite of l is decided.
@@ -293,5 +293,5 @@ pub fn flip(
     if c != 0 {
         return Answer::Refused(c);
     }
-    searching(moves::flip(work, w, n, count, l, m))
+    searching(conflict_moves::flip(work, w, n, count, l, m))
 }

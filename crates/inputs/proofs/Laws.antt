@@ -42,7 +42,8 @@ module _ (w n : ℕ) (ts ws vs : List ℕ) (k t v : ℕ) where
     row-given c g q = subst (RowLoaded w n ts ws vs k t v) (sym q) (ap checkOf number-8 ∙ sym g ∙ q)
 
     -- one entry more
-    pub row-loaded : {g : Check} → g ≡ checkOf (givenRefusal b) → g ≡ Passed → Stands w n vs (k + 1) 0 (given t v ∷ trailIn w n ws k) → RowLoaded w n ts ws vs k t v Passed
+    pub row-loaded : {g : Check} → g ≡ checkOf (givenRefusal b) → g ≡ Passed → Stands w n vs (k + 1) 0 (given t v ∷ trailIn w n ws k)
+        → RowLoaded w n ts ws vs k t v Passed
     unfolding RowLoaded
     row-loaded g q s = (number-8 ∙ passed-zero _ (sym g ∙ q), s)
 

@@ -31,7 +31,7 @@ pub fn load(terms: &[u16], inputs: &[u16], work: &mut [u64], w: usize, n: usize)
     requires { ⌜ (conflict w n + w ≤ length (now work)) × (n ≤ 64 * w) × (w ≤ 1024) × (n ≡ termRows (now terms)) ⌝ }
     ensures { λ r. ⌜ Loaded w n (now (terms .entry)) (now (inputs .entry)) (now (work .exit)) r ⌝ }
 {
-    trail::start(work, w, n);
+    trail_changes::start(work, w, n);
     let count = inputs.len() / 2;
     let mut k: usize = 0;
     while k < count {

@@ -38,12 +38,15 @@ module _ (ws₀ ws : List ℕ) (b w : ℕ) (ps : List ℕ) (k : ℕ) (h : k < le
   -- a blank ends it
   pub gather-blank : getD ps k 0 ≡ blank → Holds ws₀ ws b w (has (filled ps))
   gather-blank q =
-      let e : filled ps ≡ take k ps = u .split ∙ ap (λ (l : List ℕ). take k ps ++ l) (next ∙ ap (λ (x : Bool). cond x [] (getD ps k 0 ∷ filled (drop (suc k) ps))) (eq-eqb (getD ps k 0) blank q)) ∙ append-nil (take k ps) in
+      let none : filled (drop k ps) ≡ [] = next ∙ ap (λ (x : Bool). cond x [] (getD ps k 0 ∷ filled (drop (suc k) ps))) (eq-eqb (getD ps k 0) blank q) in
+      let e : filled ps ≡ take k ps = u .split ∙ ap (λ (l : List ℕ). take k ps ++ l) none ∙ append-nil (take k ps) in
       record { only = u .holds .only; set = u .holds .set ∙ sym (ap has e) }
 
   module _ (ne : getD ps k 0 ≡ blank → ⊥) where
     opened : filled ps ≡ take k ps ++ (getD ps k 0 ∷ filled (drop (suc k) ps))
-    opened = u .split ∙ ap (λ (l : List ℕ). take k ps ++ l) (next ∙ ap (λ (x : Bool). cond x [] (getD ps k 0 ∷ filled (drop (suc k) ps))) (ne-eqb (getD ps k 0) blank ne))
+    opened =
+        u .split
+        ∙ ap (λ (l : List ℕ). take k ps ++ l) (next ∙ ap (λ (x : Bool). cond x [] (getD ps k 0 ∷ filled (drop (suc k) ps))) (ne-eqb (getD ps k 0) blank ne))
 
     pub gather-in : has (filled ps) (getD ps k 0) ≡ true
     gather-in =
@@ -56,7 +59,9 @@ module _ (ws₀ ws : List ℕ) (b w : ℕ) (ps : List ℕ) (k : ℕ) (h : k < le
     gather-more vs two =
         rw add-one
         (record {
-          split = opened ∙ sym (append-snoc (take k ps) (getD ps k 0) (filled (drop (suc k) ps))) ∙ ap (λ (l : List ℕ). l ++ filled (drop (suc k) ps)) (sym (take-suc ps k 0 h));
+          split =
+              opened ∙ sym (append-snoc (take k ps) (getD ps k 0) (filled (drop (suc k) ps)))
+              ∙ ap (λ (l : List ℕ). l ++ filled (drop (suc k) ps)) (sym (take-suc ps k 0 h));
           holds =
               record {
                 only = only-twice ws₀ ws vs b w (u .holds .only) (two .only);
@@ -73,7 +78,8 @@ module _ (ws₀ ws : List ℕ) (b w : ℕ) (ps : List ℕ) (k : ℕ) (h : k < le
 
 pub gather-all : (ws₀ ws : List ℕ) (b w : ℕ) (ps : List ℕ) (k : ℕ) → k ≡ length ps → Gathering ws₀ ws b w ps k → Holds ws₀ ws b w (has (filled ps))
 gather-all ws₀ ws b w ps k q u =
-    let e : filled ps ≡ take k ps = u .split ∙ ap (λ (l : List ℕ). take k ps ++ filled l) (ap (λ (i : ℕ). drop i ps) q ∙ drop-length ps) ∙ append-nil (take k ps) in
+    let e : filled ps ≡ take k ps =
+    u .split ∙ ap (λ (l : List ℕ). take k ps ++ filled l) (ap (λ (i : ℕ). drop i ps) q ∙ drop-length ps) ∙ append-nil (take k ps) in
     record { only = u .holds .only; set = u .holds .set ∙ sym (ap has e) }
 
 -- one more in front

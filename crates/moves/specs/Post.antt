@@ -1,9 +1,9 @@
 -- What a step finds in the workspace, and what it leaves there.
 use Prim.Native.Nat.{ℕ, _-_, _<_}
 use mathlib.Core.Path.{_≡_}
-use mathlib.Core.Bool.{true}
-use mathlib.Core.List.{List}
-use Rattle.calculus.specs.Trail.{Set, Trail, remove, levelAt, levelOf, topLevel}
+use mathlib.Core.Bool.{true, false}
+use mathlib.Core.List.{List, _∷_}
+use Rattle.calculus.specs.Trail.{Set, Trail, remove, on, levelAt, levelOf, topLevel, decision, justified}
 use Rattle.calculus.specs.Steps.{jumped, flipped}
 use Rattle.calculus.specs.WellFormed.{Within, WellFormed}
 use Rattle.bitset.specs.Windows.{setAt}
@@ -12,6 +12,26 @@ use Rattle.trail.specs.Words.{conflict, trailIn, Laid}
 -- the set in the conflict's window
 abbrev pub conflictIn : ℕ → ℕ → List ℕ → Set
 conflictIn w N ws = setAt ws (conflict w N) w
+
+-- what is found before an entry of the input, a decide and a deduce of term t, which is not on the trail
+abbrev pub ToGive : ℕ → ℕ → List ℕ → ℕ → ℕ → Type 0
+ToGive w N ws n t = Laid w N ws n × (t < N) × (on (trailIn w N ws n) t ≡ false) × (topLevel (trailIn w N ws n) ≡ 0)
+
+abbrev pub ToDecide : ℕ → ℕ → List ℕ → ℕ → ℕ → ℕ → Type 0
+ToDecide w N ws n top t =
+    Laid w N ws n × (t < N) × (on (trailIn w N ws n) t ≡ false) × (top ≡ topLevel (trailIn w N ws n)) × (top < 65536)
+
+abbrev pub ToDeduce : ℕ → ℕ → List ℕ → ℕ → ℕ → ℕ → Set → ℕ → Type 0
+ToDeduce w N ws n top t s level =
+    Laid w N ws n × (t < N) × (on (trailIn w N ws n) t ≡ false) × (top ≡ topLevel (trailIn w N ws n)) × Within s (trailIn w N ws n)
+    × (level ≡ levelOf (trailIn w N ws n) s)
+
+-- the trails that decide and deduce make
+abbrev pub decidedIn : ℕ → ℕ → List ℕ → ℕ → ℕ → ℕ → Trail
+decidedIn w N ws n t v = decision (trailIn w N ws n) t v ∷ trailIn w N ws n
+
+abbrev pub deducedIn : ℕ → ℕ → List ℕ → ℕ → ℕ → ℕ → Set → Trail
+deducedIn w N ws n t v s = justified (trailIn w N ws n) t v s ∷ trailIn w N ws n
 
 -- the trail tr of r entries, whose greatest level is top; the conflict is left open
 pub record Stands (w N : ℕ) (ws : List ℕ) (r top : ℕ) (tr : Trail) : Type 0 where

@@ -76,7 +76,7 @@ fn more_level(work: &[u64], w: usize, n: usize, count: usize, p: u16, rest: u64)
         return 0;
     }
     let l = state::level_at(work, w, n, count, Row(p));
-    trail::larger(l.0, rest)
+    trail::larger(l, Level(rest)).0
 }
 
 // The level of the premises from column r on.
@@ -109,7 +109,7 @@ fn clash_level(work: &[u64], w: usize, n: usize, count: usize, x: Step) -> u64
 {
     let l = state::level_at(work, w, n, count, Row(x.term));
     let p = premises_level(work, w, n, count, x);
-    trail::larger(l.0, p.0)
+    trail::larger(l, p).0
 }
 
 // A premise column with its value, where it stands on the trail.

@@ -16,7 +16,7 @@ use Rattle.calculus.proofs.Facts.{is-or-not, true-or-false}
 use Rattle.calculus.proofs.Entries.{entry-off}
 use Rattle.bitset.specs.Windows.{setAt, Only}
 use Rattle.bitset.proofs.Windows.{Filled}
-use Rattle.trail.specs.Words.{values, kinds, order, conflict, trailIn, kindAt, Laid, Still}
+use Rattle.trail.specs.Words.{values, kinds, order, conflict, trailIn, kindAt, Laid, Started, Still}
 use Rattle.trail.proofs.Abstract.{kind-off, kind-on}
 use Rattle.trail.proofs.Laws.{why-in, below-at, on-at, entry-same, trail-same, room-all, entry-at}
 
@@ -74,10 +74,14 @@ still-twice w N ws us vs n p q = record { trail = q .trail ∙ p .trail; laid = 
 
 -- ---- nothing on the trail, and nothing in the workspace
 
-pub started : (w N : ℕ) (ws vs : List ℕ) → conflict w N + w ≤ length ws → N ≤ 64 * w → w ≤ 1024 → Filled ws vs (kinds w N) N (λ k. 0) → Laid w N vs 0
+pub started : {w N : ℕ} {ws vs : List ℕ} → conflict w N + w ≤ length ws → N ≤ 64 * w → w ≤ 1024 → Filled ws vs (kinds w N) N (λ k. 0)
+    → Started w N ws vs
 unfolding trailIn Distinct Below on kindAt
-started w N ws vs h wide narrow f =
-    record { enough = omega (arith, f .only .long); wide = wide; narrow = narrow; marked = f .done; distinct = tt; below = tt }
+started h wide narrow f =
+    record {
+      only = f .only;
+      laid = record { enough = omega (arith, f .only .long); wide = wide; narrow = narrow; marked = f .done; distinct = tt; below = tt };
+    }
 
 zeros-at : (n k : ℕ) → _≡_ {A = ℕ} (getD (replicate n 0) k 0) 0
 zeros-at zero k = refl

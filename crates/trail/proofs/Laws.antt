@@ -63,7 +63,8 @@ on-at w N ws n i l = ⊎-elim (λ q. q) (λ q. absurd (off-at w N ws n _ i q l r
 -- ---- words that are the same
 
 pub entry-same : (w N : ℕ) (ws vs : List ℕ) (t : ℕ)
-    → getD ws (values w N + t) 0 ≡ getD vs (values w N + t) 0 → getD ws (levels w N + t) 0 ≡ getD vs (levels w N + t) 0 → getD ws (kinds w N + t) 0 ≡ getD vs (kinds w N + t) 0
+    → getD ws (values w N + t) 0 ≡ getD vs (values w N + t) 0 → getD ws (levels w N + t) 0 ≡ getD vs (levels w N + t) 0
+    → getD ws (kinds w N + t) 0 ≡ getD vs (kinds w N + t) 0
     → ((k : ℕ) → k < w → getD ws (t * w + k) 0 ≡ getD vs (t * w + k) 0) → entryFor w N ws t ≡ entryFor w N vs t
 entry-same w N ws vs t v l k h x =
     record {

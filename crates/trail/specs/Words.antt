@@ -31,6 +31,10 @@ conflict w N = N * w + 4 * N
 abbrev pub entryOf : ℕ → ℕ → ℕ → Bool → Set → Entry
 entryOf t v l d s = record { term = t; value = v; level = l; decided = d; why = cond d empty s }
 
+-- one more entry of term t, whose justification stands in the term's own words
+abbrev pub entryNew : ℕ → List ℕ → ℕ → ℕ → ℕ → Bool → Entry
+entryNew w ws t v l d = entryOf t v l d (setAt ws (t * w) w)
+
 -- the entry that the words of term t say
 abbrev pub entryFor : ℕ → ℕ → List ℕ → ℕ → Entry
 entryFor w N ws t =
@@ -53,6 +57,11 @@ pub record Laid (w N : ℕ) (ws : List ℕ) (n : ℕ) : Type 0 where
   pub marked : (t : ℕ) → t < N → getD ws (kinds w N + t) 0 ≡ kindAt (trailIn w N ws n) t
   pub distinct : Distinct (trailIn w N ws n)
   pub below : Below N (trailIn w N ws n)
+
+-- no entry: the kinds are 0, and no other word has changed
+pub record Started (w N : ℕ) (ws vs : List ℕ) : Type 0 where
+  pub only : Only ws vs (kinds w N) N
+  pub laid : Laid w N vs 0
 
 -- one entry more; justifications and conflict are as they were
 pub record Pushed (w N : ℕ) (ws vs : List ℕ) (n : ℕ) (e : Entry) : Type 0 where

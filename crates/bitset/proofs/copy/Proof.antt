@@ -10,10 +10,10 @@ use Rattle.bitset.proofs.copy.Statement.{statement}
 use Rattle.bitset.proofs.copy.Tie as tie
 
 abbrev Inv-loop : tie.InvT-loop
-Inv-loop work₀ to from w k₀ work k = (k ≤ w) × Filled work₀ work to k (λ j. getD work₀ (from + j) 0)
+Inv-loop work₀ to from w j₀ work j = (j ≤ w) × Filled work₀ work to j (λ k. getD work₀ (from + k) 0)
 
 abbrev μ-loop : tie.MeasureT-loop
-μ-loop work₀ to from w k₀ work k = w - k
+μ-loop work₀ to from w j₀ work j = w - j
 
 loop-holds : tie.Need-loop-holds Inv-loop μ-loop
 loop-holds c = (search needs, filled-none _ _ _)
@@ -36,20 +36,25 @@ mul-work-2 c = search needs
 slice-write-work : tie.Need-slice-write-work Inv-loop μ-loop
 slice-write-work c = search needs
 
-add-k : tie.Need-add-k Inv-loop μ-loop
-add-k c = search needs
+add-j : tie.Need-add-j Inv-loop μ-loop
+add-j c = search needs
 
 loop-less : tie.Need-loop-less Inv-loop μ-loop
 loop-less c = search needs
 
 loop-again : tie.Need-loop-again Inv-loop μ-loop
-loop-again c = (search needs, filled-more _ _ _ _ _ _ (omega arith) (c .before .before .loop .inv .1) (still _ _ _ _ _ (c .before .before .loop .inv .1) _ (inr (omega arith))))
+loop-again c =
+    let u = c .before .before .loop .inv .1 in
+    (search needs, filled-more _ _ _ _ _ _ (omega arith) u (still _ _ _ _ _ u _ (inr (omega arith))))
 
 same-length : tie.Need-same-length Inv-loop μ-loop
 same-length c = search needs
 
 returns : tie.Need-returns Inv-loop μ-loop
-returns c = let e : c .before .loop .k ≡ c .before .before .args .w = omega arith in let u = rw e at (c .before .loop .inv .1) in record { only = u .only; same = u .done }
+returns c =
+    let e : c .before .loop .j ≡ c .before .before .args .w = omega arith in
+    let u = rw e at (c .before .loop .inv .1) in
+    record { only = u .only; same = u .done }
 
 pub copy-spec : {M : Type 1} → statement M
 copy-spec =
@@ -64,7 +69,7 @@ copy-spec =
     add-work-2
     mul-work-2
     slice-write-work
-    add-k
+    add-j
     loop-less
     loop-again
     same-length

@@ -53,7 +53,12 @@ loop-less : tie.Need-loop-less Inv-loop μ-loop
 loop-less c = search needs
 
 loop-again : tie.Need-loop-again Inv-loop μ-loop
-loop-again c = let u = c .before .before .before .loop .inv .1 in (search needs, filled-more _ _ _ _ _ _ (omega arith) u (ap₂ bitOr (still _ _ _ _ _ u _ (inr (omega arith))) (still _ _ _ _ _ u _ (inl (omega arith)))))
+loop-again c =
+    let u = c .before .before .before .loop .inv .1 in (
+      search needs,
+      filled-more _ _ _ _ _ _ (omega arith) u
+          (ap₂ bitOr (still _ _ _ _ _ u _ (inr (omega arith))) (still _ _ _ _ _ u _ (inl (omega arith)))),
+    )
 
 same-length : tie.Need-same-length Inv-loop μ-loop
 same-length c = search needs

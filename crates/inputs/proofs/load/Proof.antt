@@ -20,7 +20,7 @@ start-requires : tie.Need-start-requires Inv-loop μ-loop
 start-requires c κs = search needs
 
 loop-holds : tie.Need-loop-holds Inv-loop μ-loop
-loop-holds c = (omega arith, refl, loading-none _ _ _ _ _ (c .before .before .start .ensures))
+loop-holds c = (omega arith, refl, loading-none _ _ _ _ _ (c .before .before .start .ensures .laid))
 
 mul-v : tie.Need-mul-v Inv-loop μ-loop
 mul-v c = omega arith
@@ -44,7 +44,9 @@ shared-slice-read-v-2 : tie.Need-shared-slice-read-v-2 Inv-loop μ-loop
 shared-slice-read-v-2 c = omega arith
 
 load-row-requires : tie.Need-load-row-requires Inv-loop μ-loop
-load-row-requires c κs = (c .before .before .before .before .loop .inv .2 .stands .laid, search needs, ap topLevel (c .before .before .before .before .loop .inv .2 .stands .trail) ∙ sym (c .before .before .before .before .loop .inv .2 .stands .greatest))
+load-row-requires c κs =
+    let stands = c .before .before .before .before .loop .inv .2 .stands in
+    (stands .laid, search needs, ap topLevel (stands .trail) ∙ sym (stands .greatest))
 
 enum-known-c : tie.Need-enum-known-c Inv-loop μ-loop
 enum-known-c c = search needs
@@ -53,7 +55,11 @@ same-length : tie.Need-same-length Inv-loop μ-loop
 same-length c = omega arith
 
 returns : tie.Need-returns Inv-loop μ-loop
-returns c = loading-stop _ _ _ _ _ _ (c .before .before .before .before .before .before .before .before .before .before .loop .k) (c .before .before .before .before .before .before .before .before .before .before .loop .inv .2) _ (omega arith) (subst (RowLoaded _ _ _ _ _ _ _ _) (c .before .c .given .1) (c .before .before .before .before .before .load-row .ensures))
+returns c =
+    let loaded = c .before .before .before .before .before in
+    let loop = loaded .before .before .before .before .before .loop in
+    let refused = subst (RowLoaded _ _ _ _ _ _ _ _) (c .before .c .given .1) (loaded .load-row .ensures) in
+    loading-stop _ _ _ _ _ _ (loop .k) (loop .inv .2) _ (omega arith) refused
 
 enum-told : tie.Need-enum-told Inv-loop μ-loop
 enum-told c = search needs
@@ -65,7 +71,11 @@ loop-less : tie.Need-loop-less Inv-loop μ-loop
 loop-less c = omega arith
 
 loop-again : tie.Need-loop-again Inv-loop μ-loop
-loop-again c = (omega arith, omega arith, loading-more _ _ _ _ _ _ (c .before .before .before .before .before .before .before .before .before .loop .k) (c .before .before .before .before .before .before .before .before .before .loop .inv .2) (subst (RowLoaded _ _ _ _ _ _ _ _) (c .enum-told .given .1) (c .before .before .before .before .load-row .ensures)))
+loop-again c =
+    let loaded = c .before .before .before .before in
+    let loop = loaded .before .before .before .before .before .loop in
+    let passed = subst (RowLoaded _ _ _ _ _ _ _ _) (c .enum-told .given .1) (loaded .load-row .ensures) in
+    (omega arith, omega arith, loading-more _ _ _ _ _ _ (loop .k) (loop .inv .2) passed)
 
 same-length-2 : tie.Need-same-length-2 Inv-loop μ-loop
 same-length-2 c = omega arith

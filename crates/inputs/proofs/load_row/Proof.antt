@@ -20,7 +20,11 @@ returns : tie.Need-returns
 returns c = row-refused _ _ _ _ _ _ _ _ _ (c .before .before .check-input .ensures) (c .enum-told2 .given .1)
 
 present-requires : tie.Need-present-requires
-present-requires c κs = (search needs, let h = fit-term _ _ (c .before .before .before .before .before .before .args .v) (sym (c .before .before .before .check-input .ensures) ∙ c .before .enum-told .given .1) in omega (arith, c .before .before .before .before .before .before .pre .1))
+present-requires c κs =
+    let checked = c .before .before .before in
+    let start = checked .before .before .before in
+    let fit = fit-term _ _ (start .args .v) (sym (checked .check-input .ensures) ∙ c .before .enum-told .given .1) in
+    (search needs, omega (arith, start .pre .1))
 
 check-given-requires : tie.Need-check-given-requires
 check-given-requires c κs = search needs
@@ -35,16 +39,38 @@ same-length : tie.Need-same-length
 same-length c = search needs
 
 returns-2 : tie.Need-returns-2
-returns-2 c = row-given _ _ _ _ _ _ _ (c .before .before .before .before .before .before .before .before .before .before .args .v) (c .before .before .before .before .before .before .before .check-input .ensures) (c .before .before .before .before .before .enum-told .given .1) (c .before .before .before .present .ensures) _ (c .before .before .check-given .ensures) (c .enum-told4 .given .1)
+returns-2 c =
+    let given = c .before .before in
+    let told = given .before .before .before in
+    let checked = told .before .before in
+    let start = checked .before .before .before in
+    row-given _ _ _ _ _ _ _ (start .args .v) (checked .check-input .ensures) (told .enum-told .given .1)
+    (given .before .present .ensures) _ (given .check-given .ensures) (c .enum-told4 .given .1)
 
 give-requires : tie.Need-give-requires
-give-requires c κs = (search needs, (let h = fit-term _ _ (c .before .before .before .before .before .before .before .before .before .before .before .args .v) (sym (c .before .before .before .before .before .before .before .before .check-input .ensures) ∙ c .before .before .before .before .before .before .enum-told .given .1) in omega (arith, c .before .before .before .before .before .before .before .before .before .before .before .pre .1)), sym (c .before .before .before .before .present .ensures) ∙ not-given (c .before .before .before .check-given .ensures) (c .before .enum-told3 .given .1), c .before .before .before .before .before .before .before .before .before .before .before .pre .2)
+give-requires c κs =
+    let given = c .before .before .before in
+    let told = given .before .before .before in
+    let checked = told .before .before in
+    let start = checked .before .before .before in
+    let fit = fit-term _ _ (start .args .v) (sym (checked .check-input .ensures) ∙ told .enum-told .given .1) in (
+      search needs,
+      omega (arith, start .pre .1),
+      sym (given .before .present .ensures) ∙ not-given (given .check-given .ensures) (c .before .enum-told3 .given .1),
+      start .pre .2,
+    )
 
 same-length-2 : tie.Need-same-length-2
 same-length-2 c = search needs
 
 returns-3 : tie.Need-returns-3
-returns-3 c = row-loaded _ _ _ _ _ _ _ (c .before .before .before .before .before .before .before .before .before .before .before .before .before .before .args .v) (c .before .before .before .before .before .before .before .before .before .before .before .check-input .ensures) (c .before .before .before .before .before .before .before .before .before .enum-told .given .1) (c .before .before .before .before .before .before .before .present .ensures) (c .before .before .before .before .before .before .check-given .ensures) (c .before .before .before .before .enum-told3 .given .1) (c .before .before .give .ensures)
+returns-3 c =
+    let passed = c .before .before .before .before in
+    let given = passed .before .before in
+    let told = given .before .before .before in
+    let checked = told .before .before in
+    row-loaded _ _ _ _ _ _ _ (checked .before .before .before .args .v) (checked .check-input .ensures) (told .enum-told .given .1)
+    (given .before .present .ensures) (given .check-given .ensures) (passed .enum-told3 .given .1) (c .before .before .give .ensures)
 
 pub load-row-spec : {M : Type 1} → statement M
 load-row-spec =

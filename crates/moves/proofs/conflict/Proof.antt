@@ -16,7 +16,9 @@ add-e : tie.Need-add-e
 add-e c = search needs
 
 gather-requires : tie.Need-gather-requires
-gather-requires c κs = (omega (arith, c .before .before .before .pre .0 .enough), rows-in _ _ _ _ _ (c .before .before .before .pre .0) (c .before .before .before .pre .2))
+gather-requires c κs =
+    let start = c .before .before .before in
+    (omega (arith, start .pre .0 .enough), rows-in _ _ _ _ _ (start .pre .0) (start .pre .2))
 
 insert-requires : tie.Need-insert-requires
 insert-requires c κs = search needs
@@ -25,7 +27,11 @@ same-length : tie.Need-same-length
 same-length c = search needs
 
 returns : tie.Need-returns
-returns c = conflict-clash _ _ _ _ _ _ _ (filled (c .before .before .before .before .before .before .before .before .before .before .args .ps .now)) (c .before .before .before .before .before .before .before .before .before .before .pre .0) (c .before .before .before .before .before .before .gather .ensures) (c .before .before .insert .ensures)
+returns c =
+    let inserted = c .before .before in
+    let gathered = inserted .before .before .before .before in
+    let start = gathered .before .before .before .before in
+    conflict-clash _ _ _ _ _ _ _ (filled (start .args .ps .now)) (start .pre .0) (gathered .gather .ensures) (inserted .insert .ensures)
 
 pub conflict-spec : {M : Type 1} → statement M
 conflict-spec =

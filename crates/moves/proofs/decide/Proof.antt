@@ -14,7 +14,9 @@ push-requires : tie.Need-push-requires
 push-requires c κs = search needs
 
 add-t13 : tie.Need-add-t13
-add-t13 c = omega (arith, room-one _ _ _ _ _ (c .before .before .before .before .before .before .pre .0) (c .before .before .before .before .before .before .pre .1) (c .before .before .before .before .before .before .pre .2))
+add-t13 c =
+    let p = c .before .before .before .before .before .before .pre in
+    omega (arith, room-one _ _ _ _ _ (p .0) (p .1) (p .2))
 
 same-length : tie.Need-same-length
 same-length c = search needs

@@ -31,10 +31,21 @@ same-length : tie.Need-same-length Inv-loop μ-loop
 same-length c = search needs
 
 returns : tie.Need-returns Inv-loop μ-loop
-returns c = holds-twice _ _ _ _ _ _ _ (c .before .before .before .before .before .before .clear .ensures) (gather-blank _ _ _ _ _ _ (c .before .before .loop-test .taken) (c .before .before .before .loop .inv .1) (c .if1 .taken))
+returns c =
+    let inside = c .before .before in
+    let cleared = inside .before .before .before .before in
+    holds-twice _ _ _ _ _ _ _ (cleared .clear .ensures)
+    (gather-blank _ _ _ _ _ _ (inside .loop-test .taken) (inside .before .loop .inv .1) (c .if1 .taken))
 
 insert-requires : tie.Need-insert-requires Inv-loop μ-loop
-insert-requires c κs = (c .before .before .before .before .before .before .before .before .before .before .before .pre .1 _ (gather-in _ _ _ _ _ _ (c .before .before .before .loop-test .taken) (c .before .before .before .before .loop .inv .1) (c .before .if1 .left)), omega (arith, c .before .before .before .before .before .before .before .before .before .before .before .pre .0, c .before .before .before .before .loop .inv .1 .holds .only .long, c .before .before .before .before .before .before .before .clear .ensures .only .long))
+insert-requires c κs =
+    let inside = c .before .before .before in
+    let inv = inside .before .loop .inv .1 in
+    let cleared = inside .before .before .before .before in
+    let start = cleared .before .before .before .before in (
+      start .pre .1 _ (gather-in _ _ _ _ _ _ (inside .loop-test .taken) inv (c .before .if1 .left)),
+      omega (arith, start .pre .0, inv .holds .only .long, cleared .clear .ensures .only .long),
+    )
 
 add-k : tie.Need-add-k Inv-loop μ-loop
 add-k c = search needs
@@ -49,7 +60,11 @@ same-length-2 : tie.Need-same-length-2 Inv-loop μ-loop
 same-length-2 c = search needs
 
 returns-2 : tie.Need-returns-2 Inv-loop μ-loop
-returns-2 c = let e : c .before .loop .k ≡ length (c .before .before .before .before .before .before .before .before .args .ps .now) = omega arith in holds-twice _ _ _ _ _ _ _ (c .before .before .before .before .clear .ensures) (gather-all _ _ _ _ _ _ e (c .before .loop .inv .1))
+returns-2 c =
+    let cleared = c .before .before .before .before in
+    let start = cleared .before .before .before .before in
+    let e : c .before .loop .k ≡ length (start .args .ps .now) = omega arith in
+    holds-twice _ _ _ _ _ _ _ (cleared .clear .ensures) (gather-all _ _ _ _ _ _ e (c .before .loop .inv .1))
 
 pub gather-spec : {M : Type 1} → statement M
 gather-spec =

@@ -1,0 +1,69 @@
+// What the allowed steps of a conflict do to the trail and the conflict in the workspace: resolve, clear, jump, flip.
+// Whether a step is allowed is tested before.
+ghost use Rattle.trail.specs.Words.{trailIn};
+ghost use Rattle.moves.specs.Post.{jumpedIn, flippedIn, Stands, Conflicts};
+ghost use Rattle.conflict_moves.specs.Back.{resolvedIn, clearedIn, landedIn, ToResolve, ToClear, ToLand, ToJump, ToFlip};
+use calculus::Level;
+use calculus::Row;
+use trail::Kept;
+
+// resolve: the conflict loses a, which is justified, and takes in its justification.
+pub fn resolve(work: &mut [u64], w: usize, terms: usize, n: usize, a: Row)
+    requires { ⌜ ToResolve w terms (now work) n (a .0) ⌝ }
+    ensures { λ r. ⌜ Conflicts w terms (now (work .exit)) n (trailIn w terms (now (work .entry)) n) (resolvedIn w terms (now (work .entry)) n (a .0)) ⌝ }
+{
+    let e = terms * w + 4 * terms;
+    bitset::remove(work, e, w, a);
+    bitset::union_into(work, e, a.0 as usize * w, w);
+}
+
+// clear: the trail kept below the level of a, which is on it.
+pub fn clear(work: &mut [u64], w: usize, terms: usize, n: usize, a: Row) -> Kept
+    requires { ⌜ ToClear w terms (now work) n (a .0) ⌝ }
+    ensures { λ r. ⌜ Stands w terms (now (work .exit)) (r .count) (r .top .0) (clearedIn w terms (now (work .entry)) n (a .0)) ⌝ }
+{
+    let level = trail::level(work, w, terms, n, a);
+    let m = trail::lower(level);
+    trail_changes::cut(work, w, terms, n, m)
+}
+
+// The trail kept to m, the level of the conflict without t and below t's own; then t with value v, justified by that rest.
+fn land(work: &mut [u64], w: usize, terms: usize, n: usize, t: Row, v: u16, m: Level) -> Kept
+    requires { ⌜ ToLand w terms (now work) n (t .0) (m .0) ⌝ }
+    ensures { λ r. ⌜ Stands w terms (now (work .exit)) (r .count) (r .top .0) (landedIn w terms (now (work .entry)) n (t .0) v (m .0)) ⌝ }
+{
+    let e = terms * w + 4 * terms;
+    let b = t.0 as usize * w;
+    let kept = trail_changes::cut(work, w, terms, n, m);
+    let k = kept.count;
+    bitset::copy(work, b, e, w);
+    bitset::remove(work, b, w, t);
+    trail_changes::push(work, w, terms, k, t, v, m, false);
+    let l = trail::larger(kept.top, m);
+    Kept {
+        count: k + 1,
+        top: l,
+    }
+}
+
+// jump: back to m, the level of the rest of the conflict, which justifies the opposite of l.
+pub fn jump(work: &mut [u64], w: usize, terms: usize, n: usize, l: Row, m: Level) -> Kept
+    requires { ⌜ ToJump w terms (now work) n (l .0) (m .0) ⌝ }
+    ensures { λ r. ⌜ Stands w terms (now (work .exit)) (r .count) (r .top .0) (jumpedIn w terms (now (work .entry)) n (l .0)) ⌝ }
+{
+    let v = trail::value(work, w, terms, n, l);
+    land(work, w, terms, n, l, moves::other(v), m)
+}
+
+// flip: the trail kept below `level`, the level of the conflict, then the opposite of l as a decision.
+pub fn flip(work: &mut [u64], w: usize, terms: usize, n: usize, l: Row, level: Level) -> Kept
+    requires { ⌜ ToFlip w terms (now work) n (l .0) (level .0) ⌝ }
+    ensures { λ r. ⌜ Stands w terms (now (work .exit)) (r .count) (r .top .0) (flippedIn w terms (now (work .entry)) n (l .0)) ⌝ }
+{
+    let old = trail::value(work, w, terms, n, l);
+    let m = trail::lower(level);
+    let kept = trail_changes::cut(work, w, terms, n, m);
+    let k = kept.count;
+    let top = kept.top;
+    moves::decide(work, w, terms, k, top, l, moves::other(old))
+}
