@@ -1,6 +1,6 @@
 -- `search_steps::clash` meets its contract.
 use Rattle.search_steps.proofs.Answers.{clash-refused, clash-premised, clash-on, clash-within, clash-refutes, clash-opens}
-use Rattle.calculus.specs.Steps.{premises, clash}
+use Rattle.calculus.specs.Steps.{premises}
 use borrow.Author.Needs.{needs}
 use Rattle.search_steps.proofs.clash.Statement.{statement}
 use Rattle.search_steps.proofs.clash.Tie as tie

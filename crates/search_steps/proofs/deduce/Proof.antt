@@ -1,6 +1,6 @@
 -- `search_steps::deduce` meets its contract.
 use Rattle.search_steps.proofs.Answers.{deduce-refused, deduce-premised, deduce-off, deduce-within, deduce-done}
-use Rattle.calculus.specs.Steps.{premises, deduce}
+use Rattle.calculus.specs.Steps.{premises}
 use borrow.Author.Needs.{needs}
 use Rattle.search_steps.proofs.deduce.Statement.{statement}
 use Rattle.search_steps.proofs.deduce.Tie as tie
