@@ -1,12 +1,12 @@
 -- The bits of a word: of two words or-ed, of a word less another, of a power of 2, and the lowest bit that is set. Assumes nothing.
 use Prim.Native.Nat.{ℕ, zero, suc, _+_, _-_, _/_, _%_, _^_, _≤_, _<_, min, max}
-use native.Mathlib.Nat.{pow-suc, mul-div-cancel, mul-mod-left, div-one, div-eq-of-lt, div-self, eq-or-lt-of-le, zero-div, lt-of-lt-of-le}
+use native.Mathlib.Nat.{pow-suc, mul-div-cancel, mul-mod-left, div-one, div-eq-of-lt, div-self, eq-or-lt-of-le, zero-div, lt-of-lt-of-le, add-div-right}
 use native.Mathlib.Omega.{arith}
 use mathlib.Core.Path.{_≡_, refl, sym, ap, _∙_}
 use mathlib.Core.Logic.{⊎-elim}
-use mathlib.Core.Bool.{true, false, _&&_, _||_, not}
+use mathlib.Core.Bool.{Bool, true, false, _&&_, _||_, not, and-self, or-false, or-true}
 use lib.Dec.{eqb, ltb}
-use lib.Pow.{pow-add, pow-pos, pow-lt, pow-mono, shr-shr, shr-lt}
+use lib.Pow.{pow-add, pow-pos, pow-lt, pow-mono, shr-shr, shr-lt, shr-mono}
 use lib.Count.{trailingZeros, under}
 use lib.Bits.{bitAnd, bitOr, bitXor, differ, and-step, or-step, xor-step, and-shr, or-shr, xor-shr}
 use borrow.Author.Tests.{eq-eqb, ne-eqb, ltb-true, ltb-false}
@@ -23,6 +23,15 @@ or-digit (suc zero) (suc zero) p q = refl
 or-digit zero (suc (suc y)) p q = absurd (omega arith)
 or-digit (suc zero) (suc (suc y)) p q = absurd (omega arith)
 or-digit (suc (suc x)) y p q = absurd (omega arith)
+
+and-digit : (x y : ℕ) → x < 2 → y < 2 → eqb (min x y) 1 ≡ eqb x 1 && eqb y 1
+and-digit zero zero p q = refl
+and-digit zero (suc zero) p q = refl
+and-digit (suc zero) zero p q = refl
+and-digit (suc zero) (suc zero) p q = refl
+and-digit zero (suc (suc y)) p q = absurd (omega arith)
+and-digit (suc zero) (suc (suc y)) p q = absurd (omega arith)
+and-digit (suc (suc x)) y p q = absurd (omega arith)
 
 -- x less what it shares with y
 less-digit : (x y : ℕ) → x < 2 → y < 2 → eqb (differ x (min x y)) 1 ≡ eqb x 1 && not (eqb y 1)
@@ -49,6 +58,13 @@ bit-or a b k =
     ap (λ (x : ℕ). eqb (x % 2) 1) (or-shr a b k)
     ∙ ap (λ (x : ℕ). eqb x 1) (or-last (a / 2 ^ k) (b / 2 ^ k))
     ∙ or-digit (a / 2 ^ k % 2) (b / 2 ^ k % 2) (digit-lt (a / 2 ^ k)) (digit-lt (b / 2 ^ k))
+
+pub bit-and : (a b k : ℕ) → bitAt (bitAnd a b) k ≡ bitAt a k && bitAt b k
+unfolding bitAt
+bit-and a b k =
+    ap (λ (x : ℕ). eqb (x % 2) 1) (and-shr a b k)
+    ∙ ap (λ (x : ℕ). eqb x 1) (and-last (a / 2 ^ k) (b / 2 ^ k))
+    ∙ and-digit (a / 2 ^ k % 2) (b / 2 ^ k % 2) (digit-lt (a / 2 ^ k)) (digit-lt (b / 2 ^ k))
 
 differ-lt : (x y : ℕ) → x < 2 → y < 2 → differ x y < 2
 differ-lt zero y p q = q
@@ -142,6 +158,45 @@ bit-below x j h = ap (λ (d : ℕ). eqb d 1) (zeros-below 64 x j h)
 pub bit-first : (x : ℕ) → 0 < x → x < 2 ^ 64 → bitAt x (trailingZeros 64 x) ≡ true
 unfolding bitAt
 bit-first x p h = eq-eqb _ 1 (one-at 64 x (zeros-less 64 x p h))
+
+-- ---- the lowest bit taken off
+
+-- one less: at most one less shifted
+shift-pred : (x j : ℕ) → 0 < x → (x / 2 ^ j ≤ (x - 1) / 2 ^ j + 1) × ((x - 1) / 2 ^ j ≤ x / 2 ^ j)
+shift-pred x j p =
+    let u : x / 2 ^ j ≤ (x - 1 + 2 ^ j) / 2 ^ j = shr-mono j (omega (arith, pow-pos j)) in
+    (rw (add-div-right (x - 1) (pow-pos j)) at u, shr-mono j (omega arith))
+
+-- above its lowest bit, a number one less has the same bits
+pred-above : (x z j : ℕ) → 0 < x → x / 2 ^ z % 2 ≡ 1 → (x - 1) / 2 ^ (z + (1 + j)) ≡ x / 2 ^ (z + (1 + j))
+pred-above x z j p h =
+    let s = shift-pred x z p in
+    let half : (x - 1) / 2 ^ z / 2 ≡ x / 2 ^ z / 2 = omega (arith, s .0, s .1) in
+    sym (shr-shr (x - 1) z (1 + j)) ∙ sym (shr-shr ((x - 1) / 2 ^ z) 1 j)
+    ∙ ap (λ (y : ℕ). y / 2 ^ j) half
+    ∙ shr-shr (x / 2 ^ z) 1 j ∙ shr-shr x z (1 + j)
+
+-- x is what is left without its lowest bit, and that bit
+module _ (x : ℕ) (p : 0 < x) (h : x < 2 ^ 64) where
+  abbrev z : ℕ
+  z = trailingZeros 64 x
+
+  above : (i : ℕ) → z < i → bitAt (x - 1) i ≡ bitAt x i
+  unfolding bitAt
+  above i l =
+      let e : z + (1 + (i - (z + 1))) ≡ i = omega arith in
+      ap (λ (y : ℕ). eqb (y % 2) 1) (rw e at (pred-above x z (i - (z + 1)) p (one-at 64 x (zeros-less 64 x p h))))
+
+  pub bit-rest : (i : ℕ) → bitAt x i ≡ bitAt (bitAnd x (x - 1)) i || eqb i z
+  bit-rest i =
+      sym (ap (λ (b : Bool). b || eqb i z) (bit-and x (x - 1) i) ∙ ⊎-elim
+      (λ b. let l : i < z = ltb-true i z b in rw (bit-below x i l, ne-eqb i z (λ e. omega arith)))
+      (λ b. let g : z ≤ i = ltb-false i z b in ⊎-elim
+      (λ (e : z ≡ i). rw (eq-eqb i z (sym e)) (or-true (bitAt x i && bitAt (x - 1) i) ∙ sym (ap (bitAt x) (sym e) ∙ bit-first x p h)))
+      (λ (l : z < i).
+      rw (ne-eqb i z (λ e. omega arith), or-false (bitAt x i && bitAt (x - 1) i), above i l) (and-self (bitAt x i)))
+      (eq-or-lt-of-le g))
+      (is-or-not (ltb i z)))
 
 pub bit-shift : (x j k : ℕ) → bitAt (x / 2 ^ j) k ≡ bitAt x (j + k)
 unfolding bitAt

@@ -56,11 +56,11 @@ holds-twice ws us vs b w s r one two = record { only = only-twice ws us vs b w (
 -- ---- a word with one bit changed
 
 -- the code's 1 << (t % 64)
-mask : (t : ℕ) → 1 * 2 ^ (t % 64) % 2 ^ 64 ≡ 2 ^ (t % 64)
+pub mask : (t : ℕ) → 1 * 2 ^ (t % 64) % 2 ^ 64 ≡ 2 ^ (t % 64)
 mask t = let l : t % 64 < 64 = omega arith in rw (one-mul, mod-eq-of-lt (pow-lt l))
 
 -- u is t where its word and its bit are
-same-row : (u t : ℕ) → u / 64 ≡ t / 64 → eqb (u % 64) (t % 64) ≡ eqb u t
+pub same-row : (u t : ℕ) → u / 64 ≡ t / 64 → eqb (u % 64) (t % 64) ≡ eqb u t
 same-row u t e =
     ⊎-elim
     (λ b. let q : u % 64 ≡ t % 64 = eqb-true _ _ b in b ∙ sym (eq-eqb u t (omega arith)))

@@ -1,22 +1,20 @@
--- The members of a set in row order.
-use Prim.Native.Nat.{ℕ, _≤_, _<_}
+-- The members of a set word by word.
+use Prim.Native.Nat.{ℕ, _+_, _*_, _/_, _%_}
 use mathlib.Core.Path.{_≡_}
-use mathlib.Core.Bool.{true, false}
+use mathlib.Core.Bool.{_&&_}
+use lib.Dec.{eqb}
+use lib.Count.{trailingZeros}
 use Rattle.calculus.specs.Trail.{Set}
-use Rattle.bitset.specs.declared.Found.{Found}
-use Rattle.bitset.specs.declared.Found.the-variants.{At, Nothing}
+use Rattle.bitset.specs.Windows.{bitAt}
 
--- none of the rows from a to b - 1 is in s
-abbrev pub Clear : Set → ℕ → ℕ → Type 0
-Clear s a b = (u : ℕ) → a ≤ u → u < b → s u ≡ false
+-- the rows that x stands for as word k of a set
+unfoldable pub wordOf : ℕ → ℕ → Set
+wordOf k x = λ u. eqb (u / 64) k && bitAt x (u % 64)
 
--- r is the least member of s at or after `from`
-pub record Least (s : Set) (from r : ℕ) : Type 0 where
-  pub since : from ≤ r
-  pub member : s r ≡ true
-  pub none : Clear s from r
+-- the first of them, where x is not 0
+abbrev pub firstOf : ℕ → ℕ → ℕ
+firstOf k x = 64 * k + trailingZeros 64 x
 
--- what is found at or after `from` among the rows below `bound`
-unfoldable pub Answers : Set → ℕ → ℕ → Found → Type 0
-Answers s bound from (At r) = (r .0 < bound) × Least s from (r .0)
-Answers s bound from Nothing = Clear s from bound
+-- x is word k of the set s
+abbrev pub IsWord : Set → ℕ → ℕ → Type 0
+IsWord s k x = (u : ℕ) → u / 64 ≡ k → s u ≡ bitAt x (u % 64)

@@ -1,17 +1,11 @@
 // Sets of term rows in one workspace: a window of w words at an offset holds a set, row t as bit t % 64 of the window's word t / 64.
 ghost use mathlib.Core.Path.{_≡_};
-ghost use Prim.Native.Nat.{_+_, _*_, _/_, _<_, _≤_};
+ghost use Prim.Native.Nat.{_+_, _/_, _<_, _≤_};
 ghost use lib.ListN.{length};
 ghost use Rattle.calculus.specs.Trail.{empty, insert, remove, union};
 ghost use Rattle.bitset.specs.Windows.{setAt, Holds, Copied};
-ghost use Rattle.bitset.specs.Members.{Answers};
+ghost use Rattle.bitset.specs.Members.{wordOf, firstOf};
 use calculus::Row;
-
-// A member, or that there is none.
-pub enum Found {
-    At(Row),
-    Nothing,
-}
 
 // Whether row t is in the set at b.
 pub fn member(work: &[u64], b: usize, w: usize, t: Row) -> bool
@@ -73,34 +67,21 @@ pub fn copy(work: &mut [u64], to: usize, from: usize, w: usize)
     }
 }
 
-// The least member in word i of the window at b, or after that word. Words that are 0 are passed.
-pub fn next_word(work: &[u64], b: usize, w: usize, i: usize) -> Found
-    requires { ⌜ (b + w ≤ length (now work)) × (w ≤ 1024) ⌝ }
-    ensures { λ r. ⌜ Answers (setAt (now (work .entry)) b w) (64 * w) (64 * i) r ⌝ }
+// The first row that x stands for as word k of a set.
+pub fn first_member(k: usize, x: u64) -> Row
+    requires { ⌜ firstOf k x < 65536 ⌝ }
+    ensures { λ r. ⌜ r .0 ≡ firstOf k x ⌝ }
 {
-    let mut k = i;
-    while k < w {
-        let x = work[b + k];
-        if 0 < x {
-            return Found::At(Row((64 * k + u64::trailing_zeros(x) as usize) as u16));
-        }
-        k += 1;
-    }
-    Found::Nothing
+    Row((64 * k + u64::trailing_zeros(x) as usize) as u16)
 }
 
-// The least member at or after row `from`.
-pub fn next_member(work: &[u64], b: usize, w: usize, from: usize) -> Found
-    requires { ⌜ (b + w ≤ length (now work)) × (w ≤ 1024) ⌝ }
-    ensures { λ r. ⌜ Answers (setAt (now (work .entry)) b w) (64 * w) from r ⌝ }
+// Word k of a set, which is x, without row a.
+pub fn word_without(k: usize, x: u64, a: Row) -> u64
+    ensures { λ r. ⌜ wordOf k r ≡ remove (wordOf k x) (a .0) ⌝ }
 {
-    let i = from / 64;
-    if w <= i {
-        return Found::Nothing;
+    let u = a.0 as usize;
+    if u / 64 == k {
+        return x ^ x & 1u64 << (u % 64) as u64;
     }
-    let x = work[b + i] >> (from % 64) as u64;
-    if 0 < x {
-        return Found::At(Row((from + u64::trailing_zeros(x) as usize) as u16));
-    }
-    next_word(work, b, w, i + 1)
+    x
 }

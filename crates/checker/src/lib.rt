@@ -78,7 +78,7 @@ fn run_log(
 {
     let e = run::run_steps(terms, steps, work, w, n, st);
     let count = e.status.count;
-    levels::write(work, w, n, count, trail);
+    trail_sheet::write(work, w, n, count, trail);
     let v = e.verdict;
     Outcome {
         verdict: verdict_number(v),

@@ -16,8 +16,8 @@ use Rattle.bitset.specs.Windows.{setAt}
 use Rattle.trail.specs.Words.{trailIn}
 use Rattle.trail.proofs.Laws.{why-in, trail-length, room-all}
 use Rattle.trail.proofs.Frames.{why-words}
-use Rattle.levels.specs.Decisions.{firstOrderAny}
-use Rattle.levels.proofs.Laws.{none-of-level}
+use Rattle.decisions.specs.Decisions.{firstOrderAny}
+use Rattle.decisions.proofs.Laws.{none-of-level}
 use Rattle.moves.specs.Post.{conflictIn}
 use Rattle.state.specs.declared.Status.{Status}
 use Rattle.state.proofs.States.{trail-well-formed, conflict-within}

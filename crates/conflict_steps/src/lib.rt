@@ -78,11 +78,11 @@ fn barred(terms: &[u16], work: &[u64], w: usize, n: usize, count: usize, a: Row)
     ensures { λ r. ⌜ r ≡ holdsFirstOrder w n (now (terms .entry)) (now (work .entry)) count (whyIn w n (now (work .entry)) count (a .0)) ⌝ }
 {
     let b = a.0 as usize * w;
-    if !levels::holds_first_order_any(work, w, n, count, terms, b) {
+    if !decisions::holds_first_order_any(work, w, n, count, terms, b) {
         return false;
     }
     let m = conflict_level(terms, work, w, n, count);
-    levels::holds_first_order(work, w, n, count, terms, b, m)
+    decisions::holds_first_order(work, w, n, count, terms, b, m)
 }
 
 // Whether the justifications of rows l and k share a first-order decision of the conflict's level, which is m.
@@ -101,7 +101,7 @@ fn share(
     ensures { λ r. ⌜ r ≡ holdsFirstOrder w n (now (terms .entry)) (now (work .entry)) count
         (intersection (whyIn w n (now (work .entry)) count (l .0)) (whyIn w n (now (work .entry)) count (k .0))) ⌝ }
 {
-    levels::share_first_order(
+    decisions::share_first_order(
         work,
         w,
         n,

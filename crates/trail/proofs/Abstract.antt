@@ -8,9 +8,9 @@ use mathlib.Core.List.{[], _∷_}
 use lib.Dec.{eqb, leb}
 use lib.ListN.{length}
 use borrow.Author.Tests.{eqb-true, eqb-false, eq-eqb, le-leb, lt-leb}
-use Rattle.calculus.specs.Trail.{Set, Trail, Entry, empty, insert, on, entry, levelAt, decidedAt, holds, levelOf, topLevel, keptTo}
+use Rattle.calculus.specs.Trail.{Set, Trail, Entry, empty, insert, union, on, entry, levelAt, decidedAt, holds, levelOf, topLevel, keptTo}
 use Rattle.calculus.specs.WellFormed.{Distinct, Below}
-use Rattle.calculus.proofs.Facts.{is-or-not, true-or-false, none-true, cond-case}
+use Rattle.calculus.proofs.Facts.{is-or-not, true-or-false, none-true, both-true, one-true, cond-case}
 use Rattle.calculus.proofs.Entries.{entry-here, entry-older, kept-off}
 use Rattle.trail.specs.Words.{kindAt}
 
@@ -198,6 +198,20 @@ unfolding levelOf
 level-none s [] h = refl
 level-none s (e ∷ older) h = rw (h (e .term)) (let r = level-none s older h in omega arith)
 
+max-cases : (b c : Bool) (x y l : ℕ) → max (max x y) (cond (b || c) l 0) ≡ max (max x (cond b l 0)) (max y (cond c l 0))
+max-cases true true x y l = omega arith
+max-cases true false x y l = omega arith
+max-cases false true x y l = omega arith
+max-cases false false x y l = omega arith
+
+-- two sets together
+pub level-union : (tr : Trail) (s r : Set) → levelOf tr (union s r) ≡ max (levelOf tr s) (levelOf tr r)
+unfolding levelOf
+level-union [] s r = refl
+level-union (e ∷ older) s r =
+    ap (λ (x : ℕ). max x (cond (s (e .term) || r (e .term)) (e .level) 0)) (level-union older s r)
+    ∙ max-cases (s (e .term)) (r (e .term)) (levelOf older s) (levelOf older r) (e .level)
+
 -- ---- some member
 
 pub holds-yes : (s : Set) (p : Entry → Bool) (t : ℕ) (tr : Trail) → s t ≡ true → on tr t ≡ true → p (entry tr t) ≡ true → holds tr s p ≡ true
@@ -227,3 +241,41 @@ holds-no s p (e ∷ older) d h =
       or-false (s (e .term) && p e),
     )
     (neither (s (e .term)) (p e) (λ m. sym (ap p (entry-here e older (e .term) (eq-eqb (e .term) (e .term) refl))) ∙ h (e .term) m (on-here (e .term) e older refl)))
+
+either : (a b p x y : Bool) → (a || b) && p || (x || y) ≡ (a && p || x) || (b && p || y)
+either true b true x y = refl
+either true true false x y = refl
+either true false false x y = refl
+either false true true true y = refl
+either false true true false y = refl
+either false true false x y = refl
+either false false p x y = refl
+
+-- two sets together
+pub holds-union : (tr : Trail) (s r : Set) (p : Entry → Bool) → holds tr (union s r) p ≡ holds tr s p || holds tr r p
+unfolding holds
+holds-union [] s r p = refl
+holds-union (e ∷ older) s r p =
+    ap (_||_ ((s (e .term) || r (e .term)) && p e)) (holds-union older s r p)
+    ∙ either (s (e .term)) (r (e .term)) (p e) (holds older s p) (holds older r p)
+
+pub holds-empty : (tr : Trail) (p : Entry → Bool) → holds tr empty p ≡ false
+unfolding holds
+holds-empty [] p = refl
+holds-empty (e ∷ older) p = holds-empty older p
+
+-- a row that is there adds what p says of its entry
+pub holds-skip : (s : Set) (p : Entry → Bool) (t : ℕ) (tr : Trail) → Distinct tr → p (entry tr t) ≡ false → holds tr (insert s t) p ≡ holds tr s p
+holds-skip s p t tr d h =
+    holds-union tr s (λ u. eqb u t) p
+    ∙ ap (_||_ (holds tr s p)) (holds-no (λ u. eqb u t) p tr d (λ u m o. let e : u ≡ t = eqb-true u t m in ap (λ (v : ℕ). p (entry tr v)) e ∙ h))
+    ∙ or-false (holds tr s p)
+
+pub holds-wider : (tr : Trail) (s r : Set) (p : Entry → Bool) → ((u : ℕ) → s u ≡ true → r u ≡ true) → holds tr s p ≡ true → holds tr r p ≡ true
+unfolding holds
+holds-wider [] s r p f h = h
+holds-wider (e ∷ older) s r p f h =
+    ⊎-elim
+    (λ q. let b = both-true (s (e .term)) (p e) q in rw (f (e .term) (b .0), b .1))
+    (λ q. rw (holds-wider older s r p f q) (or-true (r (e .term) && p e)))
+    (one-true (s (e .term) && p e) (holds older s p) h)

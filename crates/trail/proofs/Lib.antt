@@ -5,3 +5,4 @@ pub mod Pushes
 pub mod Bases
 pub mod Cuts
 pub mod Frames
+pub mod Walks

@@ -228,6 +228,87 @@ pub fn conflict_heavy() -> Sheets {
     s
 }
 
+/// Wide conflicts: once, an equality becomes false at level 0, justified by all the
+/// leaves of a tree of conjunctions. Then cycles that resolve it into a conflict,
+/// jump by that conflict, resolve what the jump added, and clear: four steps of
+/// twelve, and two of every six after them, go over a set of all the leaves.
+pub fn wide_conflicts(rows: usize) -> Sheets {
+    const ROUNDS: usize = 4;
+    let mut s = Sheets::new();
+    let [c, d, other] = [0; 3].map(|_| s.constant(SORT));
+    s.input(d, 7);
+    s.input(other, 7);
+    let wide = s.prop(EQ, &[c, d]);
+    let low = s.prop(EQ, &[c, other]);
+    let not_low = s.prop(NOT, &[low]);
+    // Of what is left, about three rows of four are leaves, the others the tree.
+    let leaves = (rows - s.rows() - 5 - 3 * ROUNDS) * 3 / 4;
+    let mut layer: Vec<u16> = (0..leaves).map(|_| s.constant(0)).collect();
+    for &leaf in &layer {
+        s.input(leaf, 1);
+    }
+    let mut tree = Vec::new();
+    while layer.len() > 1 {
+        let mut above = Vec::new();
+        for args in layer.chunks(4) {
+            if let [alone] = args {
+                above.push(*alone);
+                continue;
+            }
+            let and = s.prop(AND, args);
+            s.step(DEDUCE, EVAL, and, 1, args);
+            tree.push(and);
+            above.push(and);
+        }
+        layer = above;
+    }
+    let both = s.prop(AND, &[layer[0], wide]);
+    let not_both = s.prop(NOT, &[both]);
+    s.input(not_both, 1);
+    s.step(DECIDE, X, wide, 1, &[]);
+    s.step(DEDUCE, EVAL, both, 1, &[layer[0], wide]);
+    s.step(CLASH, NEG, both, 0, &[not_both]);
+    for &and in [both].iter().chain(tree.iter().rev()) {
+        s.step(RESOLVE, X, and, X, &[]);
+    }
+    s.step(JUMP, X, wide, X, &[]);
+    let once = std::mem::take(&mut s.steps);
+    // The cycle: at level 1 the equality `low` holds, so that jumps end there.
+    s.step(DECIDE, X, c, 7, &[]);
+    s.step(DEDUCE, SAME, low, 1, &[c, other]);
+    s.step(DEDUCE, EVAL, not_low, 0, &[low]);
+    let mut before = wide;
+    for round in 0..ROUNDS {
+        let atom = s.constant(0);
+        let not = s.prop(NOT, &[atom]);
+        let args = match round {
+            0 => vec![before, not_low, not],
+            _ => vec![before, not],
+        };
+        let clause = s.prop(OR, &args);
+        s.input(clause, 1);
+        let mut premises = vec![clause];
+        premises.extend(&args[..args.len() - 1]);
+        s.step(DECIDE, X, atom, 1, &[]);
+        s.step(DEDUCE, EVAL, not, 0, &[atom]);
+        s.step(CLASH, UNIT, not, 1, &premises);
+        s.step(RESOLVE, X, not, X, &[]);
+        s.step(RESOLVE, X, before, X, &[]);
+        s.step(JUMP, X, atom, X, &[]);
+        before = atom;
+    }
+    s.step(CLASH, SAME, wide, 1, &[c, d]);
+    s.step(RESOLVE, X, wide, X, &[]);
+    s.step(CLEAR, X, c, X, &[]);
+    s.pad(rows);
+    let cycle = s.step_rows();
+    s.about = format!("sets of {leaves} members and more, a cycle of {cycle} steps, {rows} terms");
+    s.repeat();
+    s.steps.splice(0..0, once);
+    s.steps.truncate(9 * MAX_STEPS);
+    s
+}
+
 /// Decide, clash, clear, over a trail of inputs.
 pub fn cut_heavy() -> Sheets {
     let mut s = Sheets::new();

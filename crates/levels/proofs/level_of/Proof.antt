@@ -1,63 +1,50 @@
--- `levels::level_of` meets its contract. The greatest level so far is that of the members passed. Assumes nothing.
-use Prim.Native.Nat.{_-_, _*_}
-use mathlib.Core.Path.{_≡_}
-use native.Mathlib.Omega.{arith}
+-- `levels::level_of` meets its contract. The greatest level so far is that of the members in the words passed. Assumes nothing.
+use Prim.Native.Nat.{_-_}
 use borrow.Author.Needs.{needs}
-use Rattle.calculus.specs.Trail.{levelOf}
 use Rattle.bitset.specs.Windows.{setAt}
-use Rattle.bitset.proofs.Members.{found-at, found-none}
 use Rattle.trail.specs.Words.{trailIn}
-use Rattle.trail.proofs.Abstract.{on-below}
-use Rattle.levels.proofs.Laws.{firsts, past, level-next, level-start, level-all}
+use Rattle.bitset.proofs.Windows.{set-past}
+use Rattle.bitset.proofs.Members.{set-word}
+use Rattle.levels.proofs.Laws.{Levels, levels-start, levels-more, levels-all, word-within}
 use Rattle.levels.proofs.level_of.Statement.{statement}
 use Rattle.levels.proofs.level_of.Tie as tie
 
 abbrev Inv-loop : tie.InvT-loop
-Inv-loop work w terms n e top₀ from₀ top from = top .0 ≡ levelOf (trailIn w terms work n) (firsts (setAt work e w) from)
+Inv-loop work w terms n e top₀ k₀ top k = Levels (trailIn w terms work n) (setAt work e w) w k (top .0)
 
 abbrev μ-loop : tie.MeasureT-loop
-μ-loop work w terms n e top₀ from₀ top from = 64 * w - from
+μ-loop work w terms n e top₀ k₀ top k = w - k
 
 loop-holds : tie.Need-loop-holds Inv-loop μ-loop
-loop-holds c = level-start _ _
+loop-holds c = levels-start _ _ _
 
-mul-loop : tie.Need-mul-loop Inv-loop μ-loop
-mul-loop c = search needs
+add-x : tie.Need-add-x Inv-loop μ-loop
+add-x c = search needs
 
-next-member-requires : tie.Need-next-member-requires Inv-loop μ-loop
-next-member-requires c κs = search needs
+mul-x : tie.Need-mul-x Inv-loop μ-loop
+mul-x c = search needs
 
-enum-known-found : tie.Need-enum-known-found Inv-loop μ-loop
-enum-known-found c = search needs
+shared-slice-read-x : tie.Need-shared-slice-read-x Inv-loop μ-loop
+shared-slice-read-x c = search needs
 
-enum-told : tie.Need-enum-told Inv-loop μ-loop
-enum-told c = search needs
+word-level-requires : tie.Need-word-level-requires Inv-loop μ-loop
+word-level-requires c κs =
+    let start = c .before .before .before .before in
+    (start .pre .0, word-within _ _ _ _ (set-word _ (start .args .e) _ _ (c .before .loop-test .taken)) (start .pre .2))
 
-returns : tie.Need-returns Inv-loop μ-loop
-returns c = level-all _ _ _ _ _ (found-none _ _ _ _ (c .before .before .next-member .ensures) (c .enum-told .given .1)) (past _ _ _) (c .before .before .before .before .loop .inv)
-
-level-requires : tie.Need-level-requires Inv-loop μ-loop
-level-requires c κs = let h = found-at _ _ _ _ _ (c .before .before .before .next-member .ensures) (c .before .found .given .1) in
-    let o = c .before .before .before .before .before .before .before .pre .2 _ (h .1 .member) in (c .before .before .before .before .before .before .before .pre .0, on-below _ _ _ (c .before .before .before .before .before .before .before .pre .0 .below) o)
-
-larger-requires : tie.Need-larger-requires Inv-loop μ-loop
-larger-requires c κs = search needs
-
-cast-from : tie.Need-cast-from Inv-loop μ-loop
-cast-from c = search needs
-
-add-from : tie.Need-add-from Inv-loop μ-loop
-add-from c = let h = found-at _ _ _ _ _ (c .before .before .before .before .before .before .next-member .ensures) (c .before .before .before .before .found .given .1) in omega (arith, h .0, h .1 .since)
+add-k : tie.Need-add-k Inv-loop μ-loop
+add-k c = search needs
 
 loop-less : tie.Need-loop-less Inv-loop μ-loop
-loop-less c = let h = found-at _ _ _ _ _ (c .before .before .before .before .before .before .next-member .ensures) (c .before .before .before .before .found .given .1) in omega (arith, h .0, h .1 .since)
+loop-less c = search needs
 
 loop-again : tie.Need-loop-again Inv-loop μ-loop
-loop-again c = let h = found-at _ _ _ _ _ (c .before .before .before .before .before .before .next-member .ensures) (c .before .before .before .before .found .given .1) in
-    rw (c .before .larger .ensures, c .before .before .level .ensures (c .before .before .before .before .before .before .before .before .before .before .pre .2 _ (h .1 .member))) (level-next _ _ _ (h .1) _ _ (c .before .before .before .before .before .before .before .before .before .before .pre .0 .distinct) (c .before .before .before .before .before .before .before .before .loop .inv))
+loop-again c =
+    let inside = c .before .before in
+    levels-more _ (inside .before .loop .inv) (inside .loop-test .taken) (set-word _ _ _ _ (inside .loop-test .taken)) (c .word-level .ensures)
 
-returns-2 : tie.Need-returns-2 Inv-loop μ-loop
-returns-2 c = level-all _ _ (64 * c .before .before .before .args .w) _ _ (λ u p q. absurd (omega arith)) (past _ _ _) (c .before .loop .inv)
+returns : tie.Need-returns Inv-loop μ-loop
+returns c = levels-all (c .before .loop .inv) (c .loop-test .left) (set-past _ _ _)
 
 pub level-of-spec : {M : Type 1} → statement M
 level-of-spec =
@@ -66,15 +53,11 @@ level-of-spec =
     Inv-loop
     μ-loop
     loop-holds
-    mul-loop
-    next-member-requires
-    enum-known-found
-    enum-told
-    returns
-    level-requires
-    larger-requires
-    cast-from
-    add-from
+    add-x
+    mul-x
+    shared-slice-read-x
+    word-level-requires
+    add-k
     loop-less
     loop-again
-    returns-2)
+    returns)

@@ -1,63 +1,55 @@
--- `levels::level_without` meets its contract. The greatest level so far is that of the members passed without the row. Assumes nothing.
-use Prim.Native.Nat.{_-_, _*_}
-use mathlib.Core.Path.{_≡_}
-use native.Mathlib.Omega.{arith}
+-- `levels::level_without` meets its contract. The greatest level so far is that of the members in the words passed. Assumes nothing.
+use Prim.Native.Nat.{_-_}
 use borrow.Author.Needs.{needs}
-use Rattle.calculus.specs.Trail.{levelOf, remove}
 use Rattle.bitset.specs.Windows.{setAt}
-use Rattle.bitset.proofs.Members.{found-at, found-none}
 use Rattle.trail.specs.Words.{trailIn}
-use Rattle.trail.proofs.Abstract.{on-below}
-use Rattle.levels.proofs.Laws.{firsts, past, clear-less, past-less, level-skip, level-start, level-all}
+use Rattle.calculus.specs.Trail.{remove}
+use Rattle.levels.proofs.Laws.{Levels, levels-start, levels-more, levels-all, word-within, rest-word, rest-within, rest-past}
 use Rattle.levels.proofs.level_without.Statement.{statement}
 use Rattle.levels.proofs.level_without.Tie as tie
 
 abbrev Inv-loop : tie.InvT-loop
-Inv-loop work w terms n e a top₀ from₀ top from = top .0 ≡ levelOf (trailIn w terms work n) (firsts (remove (setAt work e w) (a .0)) from)
+Inv-loop work w terms n e a top₀ k₀ top k = Levels (trailIn w terms work n) (remove (setAt work e w) (a .0)) w k (top .0)
 
 abbrev μ-loop : tie.MeasureT-loop
-μ-loop work w terms n e a top₀ from₀ top from = 64 * w - from
+μ-loop work w terms n e a top₀ k₀ top k = w - k
 
 loop-holds : tie.Need-loop-holds Inv-loop μ-loop
-loop-holds c = level-start _ _
+loop-holds c = levels-start _ _ _
 
-mul-loop : tie.Need-mul-loop Inv-loop μ-loop
-mul-loop c = search needs
+add-word-without : tie.Need-add-word-without Inv-loop μ-loop
+add-word-without c = search needs
 
-next-member-requires : tie.Need-next-member-requires Inv-loop μ-loop
-next-member-requires c κs = search needs
+mul-word-without : tie.Need-mul-word-without Inv-loop μ-loop
+mul-word-without c = search needs
 
-enum-known-found : tie.Need-enum-known-found Inv-loop μ-loop
-enum-known-found c = search needs
+shared-slice-read-word-without : tie.Need-shared-slice-read-word-without Inv-loop μ-loop
+shared-slice-read-word-without c = search needs
 
-enum-told : tie.Need-enum-told Inv-loop μ-loop
-enum-told c = search needs
+word-without-requires : tie.Need-word-without-requires Inv-loop μ-loop
+word-without-requires c κs = search needs
 
-returns : tie.Need-returns Inv-loop μ-loop
-returns c = level-all _ _ _ _ _ (clear-less _ _ _ _ (found-none _ _ _ _ (c .before .before .next-member .ensures) (c .enum-told .given .1))) (past-less _ _ _ (past _ _ _)) (c .before .before .before .before .loop .inv)
+word-level-requires : tie.Need-word-level-requires Inv-loop μ-loop
+word-level-requires c κs =
+    let inside = c .before .before in
+    let start = inside .before .before .before in
+    let word = rest-word _ (start .args .e) _ _ _ _ (inside .loop-test .taken) (c .word-without .ensures) in
+    (start .pre .0, word-within _ _ _ _ word (rest-within _ _ _ (start .pre .2)))
 
-level-unless-requires : tie.Need-level-unless-requires Inv-loop μ-loop
-level-unless-requires c κs = let h = found-at _ _ _ _ _ (c .before .before .before .next-member .ensures) (c .before .found .given .1) in
-    let o = c .before .before .before .before .before .before .before .pre .2 _ (h .1 .member) in (c .before .before .before .before .before .before .before .pre .0, on-below _ _ _ (c .before .before .before .before .before .before .before .pre .0 .below) o, o)
-
-larger-requires : tie.Need-larger-requires Inv-loop μ-loop
-larger-requires c κs = search needs
-
-cast-from : tie.Need-cast-from Inv-loop μ-loop
-cast-from c = search needs
-
-add-from : tie.Need-add-from Inv-loop μ-loop
-add-from c = let h = found-at _ _ _ _ _ (c .before .before .before .before .before .before .next-member .ensures) (c .before .before .before .before .found .given .1) in omega (arith, h .0, h .1 .since)
+add-k : tie.Need-add-k Inv-loop μ-loop
+add-k c = search needs
 
 loop-less : tie.Need-loop-less Inv-loop μ-loop
-loop-less c = let h = found-at _ _ _ _ _ (c .before .before .before .before .before .before .next-member .ensures) (c .before .before .before .before .found .given .1) in omega (arith, h .0, h .1 .since)
+loop-less c = search needs
 
 loop-again : tie.Need-loop-again Inv-loop μ-loop
-loop-again c = let h = found-at _ _ _ _ _ (c .before .before .before .before .before .before .next-member .ensures) (c .before .before .before .before .found .given .1) in
-    rw (c .before .larger .ensures, c .before .before .level-unless .ensures) (level-skip _ _ _ _ _ _ (c .before .before .before .before .before .before .before .before .before .before .pre .0 .distinct) (h .1) (c .before .before .before .before .before .before .before .before .loop .inv))
+loop-again c =
+    let inside = c .before .before .before in
+    let word = rest-word _ _ _ _ _ _ (inside .loop-test .taken) (c .before .word-without .ensures) in
+    levels-more _ (inside .before .loop .inv) (inside .loop-test .taken) word (c .word-level .ensures)
 
-returns-2 : tie.Need-returns-2 Inv-loop μ-loop
-returns-2 c = level-all _ _ (64 * c .before .before .before .args .w) _ _ (λ u p q. absurd (omega arith)) (past-less _ _ _ (past _ _ _)) (c .before .loop .inv)
+returns : tie.Need-returns Inv-loop μ-loop
+returns c = levels-all (c .before .loop .inv) (c .loop-test .left) (rest-past _ _ _ _)
 
 pub level-without-spec : {M : Type 1} → statement M
 level-without-spec =
@@ -66,15 +58,12 @@ level-without-spec =
     Inv-loop
     μ-loop
     loop-holds
-    mul-loop
-    next-member-requires
-    enum-known-found
-    enum-told
-    returns
-    level-unless-requires
-    larger-requires
-    cast-from
-    add-from
+    add-word-without
+    mul-word-without
+    shared-slice-read-word-without
+    word-without-requires
+    word-level-requires
+    add-k
     loop-less
     loop-again
-    returns-2)
+    returns)
