@@ -19,8 +19,8 @@ use Rattle.calculus.specs.Steps.{premises, clashSet}
 use Rattle.calculus.proofs.Entries.{level-empty}
 use Rattle.calculus.proofs.Facts.{both-true}
 use Rattle.calculus.proofs.WellFormed.{level-more}
-use Rattle.rules.specs.declared.Claim.{Claim}
-use Rattle.rules.specs.Claims.{premisesOf}
+use Rattle.rule_claims.specs.declared.Claim.{Claim}
+use Rattle.rule_claims.specs.Claims.{premisesOf}
 use Rattle.trail.specs.Words.{trailIn}
 use Rattle.search_steps.specs.Claims.{Premised, Claims, PremisesLevel}
 
@@ -52,7 +52,7 @@ fits-false {b = true} e = let z : _≡_ {A = ℕ} 0 1 = cc in absurd (omega arit
 fits-false {b = false} e = refl
 
 -- what the test of a row's claim answers is what the rule says of the row
-pub tested : (ts : List ℕ) (tr : Trail) (x : Step) {y : Claim} {k : Rule} {f : Fit} → f ≡ fitOf (fits ts k (y .term) (y .value) (premisesOf y))
+pub tested : (ts : List ℕ) (tr : Trail) (x : Step) {y : Claim} {k : Rule} {f : Fit} → f ≡ fitOf (fits ts k (y .term .0) (y .value) (premisesOf y))
     → k ≡ ruleOf (x .rule) → Claims tr x y → f ≡ fitOf (fits ts (ruleOf (x .rule)) (x .term) (x .value) (premisesAt tr (premises x)))
 tested ts tr x e q c = e ∙ rw (q, c .term, c .value, c .premises)
 

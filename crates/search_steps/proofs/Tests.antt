@@ -15,8 +15,8 @@ use Rattle.calculus.specs.Trail.{Trail, on, assigned, premisesAt}
 use Rattle.calculus.specs.Inputs.{valueSuits}
 use Rattle.calculus.specs.Rules.{fits, fitOf, ruleOf}
 use Rattle.calculus.specs.Steps.{premises, decideRefusal, inferenceRefusal, deduceRefusal, clashRefusal}
-use Rattle.rules.specs.declared.Claim.{Claim}
-use Rattle.rules.specs.Claims.{premisesOf}
+use Rattle.rule_claims.specs.declared.Claim.{Claim}
+use Rattle.rule_claims.specs.Claims.{premisesOf}
 use Rattle.state.proofs.Tests.{told, told-not, told-yes, past, stops}
 use Rattle.search_steps.specs.Claims.{Claims}
 use Rattle.search_steps.proofs.Laws.{fits-true, fits-false, tested}
@@ -55,7 +55,7 @@ module _ (ts : List ℕ) (tr : Trail) (x : Step) where
       inference-12 h = past _ _ (told-yes a-is a-in) (stops _ _ (told-not b-is h))
 
       module _ (b-in : not b ≡ false) {k : Rule} (k-is : k ≡ ruleOf (x .rule)) {y : Claim} (y-is : Claims tr x y) {f : Fit}
-          (f-is : f ≡ fitOf (fits ts k (y .term) (y .value) (premisesOf y))) where
+          (f-is : f ≡ fitOf (fits ts k (y .term .0) (y .value) (premisesOf y))) where
         fit-is : f ≡ fitOf (fits ts (ruleOf (x .rule)) (x .term) (x .value) (premisesAt tr (premises x)))
         fit-is = tested ts tr x f-is k-is y-is
 

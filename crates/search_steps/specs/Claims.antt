@@ -8,8 +8,8 @@ use Rattle.calculus.specs.Terms.{filled}
 use Rattle.calculus.specs.declared.Step.{Step}
 use Rattle.calculus.specs.Trail.{Trail, on, levelOf, premisesAt}
 use Rattle.calculus.specs.Steps.{premises}
-use Rattle.rules.specs.declared.Claim.{Claim}
-use Rattle.rules.specs.Claims.{premisesOf}
+use Rattle.rule_claims.specs.declared.Claim.{Claim}
+use Rattle.rule_claims.specs.Claims.{premisesOf}
 use Rattle.trail.specs.Words.{trailIn, Laid}
 use Rattle.state.specs.declared.Status.{Status}
 use Rattle.state.specs.States.{Standing}
@@ -27,7 +27,7 @@ pub record Premised (w n : ℕ) (ws : List ℕ) (count : ℕ) (x : Step) : Type 
 
 -- the claim y is that of the row x: its term and value, and its premises with their values on the trail
 pub record Claims (tr : Trail) (x : Step) (y : Claim) : Type 0 where
-  pub term : y .term ≡ x .term
+  pub term : y .term .0 ≡ x .term
   pub value : y .value ≡ x .value
   pub premises : premisesOf y ≡ premisesAt tr (premises x)
 

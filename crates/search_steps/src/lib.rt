@@ -7,7 +7,7 @@ ghost use Rattle.calculus.specs.Terms.{filled};
 ghost use Rattle.calculus.specs.Inputs.{valueSuits};
 ghost use Rattle.calculus.specs.Trail.{on, valueAt, levelOf};
 ghost use Rattle.calculus.specs.Steps.{premises, decideRefusal, inferenceRefusal, deduceRefusal, clashRefusal, clashSet, decide, deduce, clash};
-ghost use Rattle.rules.specs.Claims.{Looked};
+ghost use Rattle.rule_claims.specs.Claims.{Looked};
 ghost use Rattle.trail.specs.Words.{trailIn, Laid};
 ghost use Rattle.state.specs.States.{Answers};
 ghost use Rattle.search_steps.specs.Claims.{Searching, Premised, Claims, PremisesLevel, MoreOn, MoreLevel};
@@ -17,7 +17,7 @@ use calculus::Premise;
 use calculus::Row;
 use calculus::Step;
 use rows::BLANK;
-use rules::Claim;
+use rule_claims::Claim;
 use state::Answer;
 use state::Status;
 
@@ -128,7 +128,7 @@ fn claim(work: &[u64], w: usize, n: usize, count: usize, x: Step) -> Claim
     ensures { λ r. ⌜ Claims (trailIn w n (now (work .entry)) count) x r ⌝ }
 {
     Claim {
-        term: x.term,
+        term: Row(x.term),
         value: x.value,
         p: premise(work, w, n, count, x.p),
         q: premise(work, w, n, count, x.q),

@@ -1,5 +1,5 @@
 -- `search_steps::claim` meets its contract.
-use Rattle.rules.proofs.Laws.{premises-looked}
+use Rattle.rule_claims.proofs.Laws.{premises-looked}
 use mathlib.Core.Path.{refl}
 use borrow.Author.Needs.{needs}
 use Rattle.search_steps.proofs.claim.Statement.{statement}
