@@ -1,150 +1,62 @@
 // The runs on the small board and the ceilings, through the exported call. For each run a line: its name, the verdict, the steps
 // allowed, the number, the entries, and then each entry of the trail buffer as term, value, level and decision.
 ghost use Prim.Native.Nat.{_<_, _≤_};
+ghost use lib.ListN.{length};
 use calculus::Outcome;
-use calculus::Step;
 use libc::STDOUT_FILENO;
 use rows::BLANK;
 
-// ---- the small board: a, b, e is a = b, then F(a), F(b), g is F(a) = F(b), not(e), or(e, g)
+// ---- sheets as texts: a character for each column, a digit for 0 to 9, a letter for 10 and on, and a point for blank
 
-const A: u16 = 0;
+fn column(c: u8) -> u16 {
+    if c < b'0' {
+        return BLANK;
+    }
+    if c < b'a' {
+        return (c - b'0') as u16;
+    }
+    (c - b'a') as u16 + 10
+}
 
-const B: u16 = 1;
+// The columns of a text, 48 at most, and zeros after them.
+fn columns(text: &[u8]) -> [u16; 48] {
+    let mut sheet = [0u16; 48];
+    for i in 0..48 {
+        if i < text.len() {
+            sheet[i] = column(text[i]);
+        }
+    }
+    sheet
+}
 
-const E: u16 = 2;
-
-const G: u16 = 5;
-
-const NOT_E: u16 = 6;
-
-const E_OR_G: u16 = 7;
-
-// Puts a row with two arguments at most into the term sheet.
-fn put_term(terms: &mut [u16; 48], k: usize, head: u16, sort: u16, a: u16, b: u16)
-    requires { ⌜ k < 8 ⌝ }
+// How many columns it fills.
+fn filled(text: &[u8]) -> usize
+    ensures { λ r. ⌜ r ≤ 48 ⌝ }
 {
-    let i = k * 6;
-    terms[i] = head;
-    terms[i + 1] = sort;
-    terms[i + 2] = a;
-    terms[i + 3] = b;
+    if text.len() < 48 { text.len() } else { 48 }
 }
 
-// The term sheet of the small board.
-fn board() -> [u16; 48] {
-    let mut terms = [BLANK; 48];
-    put_term(&mut terms, 0, 16, 1, BLANK, BLANK);
-    put_term(&mut terms, 1, 17, 1, BLANK, BLANK);
-    put_term(&mut terms, 2, 0, 0, A, B);
-    put_term(&mut terms, 3, 18, 1, A, BLANK);
-    put_term(&mut terms, 4, 18, 1, B, BLANK);
-    put_term(&mut terms, 5, 0, 0, 3, 4);
-    put_term(&mut terms, 6, 1, 0, E, BLANK);
-    put_term(&mut terms, 7, 3, 0, E, G);
-    terms
-}
-
-// ---- step rows
-
-const DEDUCE: u16 = 1;
-
-const CLASH: u16 = 2;
-
-const RESOLVE: u16 = 3;
-
-const CLEAR: u16 = 4;
-
-const JUMP: u16 = 5;
-
-const SAME: u16 = 0;
-
-const NEG: u16 = 5;
-
-const UNIT: u16 = 7;
-
-const CONG: u16 = 9;
-
-// A row of which nothing is filled.
-fn no_step() -> Step {
-    in_conflict(BLANK, BLANK)
-}
-
-// A term with its value as a decision.
-fn decide(t: u16, v: u16) -> Step {
-    Step {
-        step: 0,
-        rule: BLANK,
-        term: t,
-        value: v,
-        p: BLANK,
-        q: BLANK,
-        r: BLANK,
-        s: BLANK,
-        t: BLANK,
-    }
-}
-
-// A deduce or a clash with one premise or two.
-fn infer(step: u16, rule: u16, t: u16, v: u16, p: u16, q: u16) -> Step {
-    Step {
-        step: step,
-        rule: rule,
-        term: t,
-        value: v,
-        p: p,
-        q: q,
-        r: BLANK,
-        s: BLANK,
-        t: BLANK,
-    }
-}
-
-// A step of a conflict that names its term alone.
-fn in_conflict(step: u16, t: u16) -> Step {
-    Step {
-        step: step,
-        rule: BLANK,
-        term: t,
-        value: BLANK,
-        p: BLANK,
-        q: BLANK,
-        r: BLANK,
-        s: BLANK,
-        t: BLANK,
-    }
-}
-
-// The clash of most runs: congruence gives g true from e.
-fn clash_g() -> Step {
-    infer(CLASH, CONG, G, 1, E, BLANK)
-}
-
-// Puts a row into a step sheet of five.
-fn put(log: &mut [u16; 45], k: usize, x: Step)
-    requires { ⌜ k < 5 ⌝ }
+// Where the part of the text that begins at `from` ends: at the next stroke, or with the text.
+fn part_end(text: &[u8], from: usize) -> usize
+    requires { ⌜ from ≤ length (now text) ⌝ }
+    ensures { λ r. ⌜ (from ≤ r) × (r ≤ length (now (text .entry))) ⌝ }
 {
-    let i = k * 9;
-    log[i] = x.step;
-    log[i + 1] = x.rule;
-    log[i + 2] = x.term;
-    log[i + 3] = x.value;
-    log[i + 4] = x.p;
-    log[i + 5] = x.q;
-    log[i + 6] = x.r;
-    log[i + 7] = x.s;
-    log[i + 8] = x.t;
+    let mut i = from;
+    while i < text.len() {
+        if text[i] == b'/' {
+            return i;
+        }
+        i += 1;
+    }
+    i
 }
 
-// A step sheet of five rows.
-fn log_of(a: Step, b: Step, c: Step, d: Step, e: Step) -> [u16; 45] {
-    let mut log = [0u16; 45];
-    put(&mut log, 0, a);
-    put(&mut log, 1, b);
-    put(&mut log, 2, c);
-    put(&mut log, 3, d);
-    put(&mut log, 4, e);
-    log
+// Where the next part begins.
+fn part_next(end: usize, all: usize) -> usize
+    requires { ⌜ end ≤ all ⌝ }
+    ensures { λ r. ⌜ r ≤ all ⌝ }
+{
+    if end < all { end + 1 } else { end }
 }
 
 // ---- printing
@@ -181,8 +93,8 @@ fn print_outcome(name: &[u8], o: Outcome) {
 }
 
 // Entry i of the trail buffer, where there is one.
-fn print_entry(trail: &[u16; 32], i: usize, entries: u16)
-    requires { ⌜ i < 8 ⌝ }
+fn print_entry(trail: &[u16; 1028], i: usize, entries: u16)
+    requires { ⌜ i < 257 ⌝ }
 {
     if i < entries as usize {
         let k = 4 * i;
@@ -196,30 +108,19 @@ fn print_entry(trail: &[u16; 32], i: usize, entries: u16)
 
 // ---- runs
 
-// The board with the first rows of the input and of the log, and so much of the buffers lent. The workspace holds something before
-// the call. No run here has more than four entries.
-fn run_lent(
-    name: &[u8],
-    input: [u16; 4],
-    given: usize,
-    log: [u16; 45],
-    rows: usize,
-    words: usize,
-    numbers: usize,
-)
-    requires { ⌜ (given ≤ 2) × (rows ≤ 5) × (words ≤ 76) × (numbers ≤ 32) ⌝ }
+// The call on these sheets, with so much of the buffers lent. The workspace holds something before it. No run here has more than four
+// entries.
+fn run_lent(name: &[u8], terms: &[u16], input: &[u16], log: &[u16], words: usize, numbers: usize)
+    requires { ⌜ (words ≤ 2068) × (numbers ≤ 1028) ⌝ }
 {
     let sorts = [BLANK, BLANK];
-    let terms = board();
-    let mut work = [77u64; 76];
-    let mut trail = [0u16; 32];
-    let g = given * 2;
-    let n = rows * 9;
+    let mut work = [77u64; 2068];
+    let mut trail = [0u16; 1028];
     let o = checker::cdsat_run(
         &sorts,
-        &terms,
-        &input[0..g],
-        &log[0..n],
+        terms,
+        input,
+        log,
         &mut work[0..words],
         &mut trail[0..numbers],
     );
@@ -231,107 +132,51 @@ fn run_lent(
     io::write_all(STDOUT_FILENO, b"\n");
 }
 
-// With 8N + 12 words and 4N numbers lent.
-fn run_board(name: &[u8], input: [u16; 4], given: usize, log: [u16; 45], rows: usize)
-    requires { ⌜ (given ≤ 2) × (rows ≤ 5) ⌝ }
+// An input and a log on the small board: a, b, e is a = b, then F(a), F(b), g is F(a) = F(b), not(e), or(e, g).
+fn run_board(name: &[u8], input: &[u8], log: &[u8], words: usize, numbers: usize)
+    requires { ⌜ (words ≤ 2068) × (numbers ≤ 1028) ⌝ }
 {
-    run_lent(name, input, given, log, rows, 76, 32);
+    let terms = columns(b"g1....h1....0001..i10...i11...0034..102...3025..");
+    let given = columns(input);
+    let rows = columns(log);
+    let g = filled(input);
+    let n = filled(log);
+    run_lent(name, &terms, &given[0..g], &rows[0..n], words, numbers);
 }
 
-// A step sheet of which the first row alone is filled.
-fn one(a: Step) -> [u16; 45] {
-    log_of(a, no_step(), no_step(), no_step(), no_step())
+// A run on the board from a text of three parts: its name, its input rows, each a term and its value, and its step rows, each step, rule,
+// term, value and five premises.
+fn run_lines(text: &[u8], words: usize, numbers: usize)
+    requires { ⌜ (words ≤ 2068) × (numbers ≤ 1028) ⌝ }
+{
+    let all = text.len();
+    let a = part_end(text, 0);
+    let b = part_next(a, all);
+    let c = part_end(text, b);
+    let d = part_next(c, all);
+    run_board(&text[0..a], &text[b..c], &text[d..all], words, numbers);
 }
 
-// g false, then a and b decided alike, so that e follows and clashes; the last row ends it.
-fn from_same(last: Step) -> [u16; 45] {
-    log_of(
-        decide(A, 7),
-        decide(B, 7),
-        infer(DEDUCE, SAME, E, 1, A, B),
-        clash_g(),
-        last,
-    )
+// With 8N + 12 words and 4N numbers lent.
+fn run(text: &[u8]) {
+    run_lines(text, 76, 32);
 }
 
-// not(e), then a and b decided alike against e false; the last row ends it.
-fn from_neg(last: Step) -> [u16; 45] {
-    log_of(
-        decide(A, 7),
-        decide(B, 7),
-        infer(DEDUCE, NEG, E, 0, NOT_E, BLANK),
-        infer(CLASH, SAME, E, 1, A, B),
-        last,
-    )
-}
-
-// The first six rows of the table.
-fn first_runs() {
-    run_board(b"nothing given", [0, 0, 0, 0], 0, one(no_step()), 0);
-    run_board(b"clash at level 0", [E, 1, G, 0], 2, one(clash_g()), 1);
-    run_board(b"opposite absent", [E, 1, 0, 0], 1, one(clash_g()), 1);
-    let jump = log_of(
-        decide(E, 1),
-        clash_g(),
-        in_conflict(JUMP, E),
-        no_step(),
-        no_step(),
-    );
-    run_board(b"jump over a decision", [G, 0, 0, 0], 1, jump, 3);
-    let again = log_of(decide(A, 7), decide(A, 7), no_step(), no_step(), no_step());
-    run_board(b"decided twice", [0, 0, 0, 0], 0, again, 2);
-    run_board(
-        b"resolve in search",
-        [0, 0, 0, 0],
-        0,
-        one(in_conflict(RESOLVE, A)),
-        1,
-    );
-}
-
-// The next five rows.
-fn conflict_runs() {
-    run_board(
-        b"resolve barred",
-        [G, 0, 0, 0],
-        1,
-        from_same(in_conflict(RESOLVE, E)),
-        5,
-    );
-    run_board(
-        b"jump over e",
-        [G, 0, 0, 0],
-        1,
-        from_same(in_conflict(JUMP, E)),
-        5,
-    );
-    run_board(
-        b"clear b",
-        [NOT_E, 1, 0, 0],
-        1,
-        from_neg(in_conflict(CLEAR, B)),
-        5,
-    );
-    run_board(
-        b"clear a",
-        [NOT_E, 1, 0, 0],
-        1,
-        from_neg(in_conflict(CLEAR, A)),
-        5,
-    );
-    run_board(
-        b"unit",
-        [E_OR_G, 1, E, 0],
-        2,
-        one(infer(DEDUCE, UNIT, G, 1, E_OR_G, E)),
-        1,
-    );
-}
-
-// The last two rows, whose input is in trouble before any step.
-fn input_runs() {
-    run_board(b"e given 2", [E, 2, 0, 0], 1, one(decide(A, 7)), 1);
-    run_board(b"e given twice", [E, 1, E, 1], 2, one(decide(A, 7)), 1);
+// The rows of the table.
+fn table() {
+    run(b"nothing given//");
+    run(b"clash at level 0/2150/29512....");
+    run(b"opposite absent/21/29512....");
+    run(b"jump over a decision/50/0.21.....29512....5.2......");
+    run(b"decided twice//0.07.....0.07.....");
+    run(b"resolve in search//3.0......");
+    run(b"resolve barred/50/0.07.....0.17.....102101...29512....3.2......");
+    run(b"jump over e/50/0.07.....0.17.....102101...29512....5.2......");
+    run(b"clear b/61/0.07.....0.17.....15206....202101...4.1......");
+    run(b"clear a/61/0.07.....0.17.....15206....202101...4.0......");
+    run(b"unit/7120/175172...");
+    run(b"e given 2/22/0.07.....");
+    run(b"e given twice/2121/0.07.....");
 }
 
 // ---- ceilings
@@ -351,32 +196,24 @@ fn constants() -> [u16; 1542] {
 fn run_constants(name: &[u8], count: usize)
     requires { ⌜ count ≤ 257 ⌝ }
 {
-    let sorts = [BLANK, BLANK];
     let terms = constants();
     let none = [0u16; 1];
     let rows = &none[0..0];
-    let mut work = [0u64; 2068];
-    let mut trail = [0u16; 1028];
     let n = count * 6;
-    let o = checker::cdsat_run(&sorts, &terms[0..n], rows, rows, &mut work, &mut trail);
-    print_outcome(name, o);
-    io::write_all(STDOUT_FILENO, b"\n");
+    run_lent(name, &terms[0..n], rows, rows, 2068, 1028);
 }
 
 // As many terms as there may be and one more; buffers that just suffice, and each of them one short.
 fn ceilings() {
     run_constants(b"256 terms", 256);
     run_constants(b"257 terms", 257);
-    let none = one(no_step());
-    run_lent(b"8N+12 words, 4N numbers", [0, 0, 0, 0], 0, none, 0, 76, 32);
-    run_lent(b"8N+11 words", [0, 0, 0, 0], 0, none, 0, 75, 32);
-    run_lent(b"4N-1 numbers", [0, 0, 0, 0], 0, none, 0, 76, 31);
+    run_lines(b"8N+12 words, 4N numbers//", 76, 32);
+    run_lines(b"8N+11 words//", 75, 32);
+    run_lines(b"4N-1 numbers//", 76, 31);
 }
 
 // Every row of the table in order, then the ceilings.
 fn main() {
-    first_runs();
-    conflict_runs();
-    input_runs();
+    table();
     ceilings();
 }

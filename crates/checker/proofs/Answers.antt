@@ -1,6 +1,6 @@
 -- What a function of the call answers, from what its callees ensure: each law's conclusion is a contract, and its premises are what the
 -- calls on the way gave, so that `search` finds them.
-use mathlib.Core.Path.{_≡_, refl, sym, ap, subst, _∙_}
+use mathlib.Core.Path.{_≡_, sym, ap, subst, _∙_}
 use mathlib.Core.Bool.{false}
 use mathlib.Core.List.{List}
 use Prim.Native.Nat.{ℕ, _*_, _≤_}
@@ -10,7 +10,7 @@ use Rattle.calculus.specs.declared.Check.{Check}
 use Rattle.calculus.specs.declared.Check.the-variants.{Passed, Refused}
 use Rattle.calculus.specs.declared.Outcome.{Outcome}
 use Rattle.calculus.specs.Numbers.{orElse, checkOf}
-use Rattle.calculus.specs.Sheets.{Call, termRows, inputRows, stepRows, setWords, lengthRefusal}
+use Rattle.calculus.specs.Sheets.{Call, termRows, inputRows, stepRows, lengthRefusal}
 use Rattle.calculus.specs.Sorts.{sortsRefusal}
 use Rattle.calculus.specs.Terms.{termsRefusal}
 use Rattle.calculus.specs.Trail.{trailNumbersOf}

@@ -125,7 +125,8 @@ pub input-standing : (w n : ℕ) (ts is ws : List ℕ) → n ≡ termRows ts →
     → Standing w n ts ws (record { count = inputRows is; top = record { 0 = 0 }; conflict = false })
 unfolding WellFormedState inputsRefusal
 input-standing w n ts is ws e z s =
-    let r : WellFormed (termRows ts) (inputTrail is (inputRows is)) = input-well-formed ts is (inputRows is) (λ k l. first-ok (inputRows is) (inputRefusal ts is) k z l) in
+    let r : WellFormed (termRows ts) (inputTrail is (inputRows is)) =
+    input-well-formed ts is (inputRows is) (λ k l. first-ok (inputRows is) (inputRefusal ts is) k z l) in
     record {
       held = record { rows = e; laid = s .laid; top = s .greatest ∙ ap topLevel (sym (s .trail)) };
       wellFormed =
@@ -157,7 +158,8 @@ module _ (w n : ℕ) (ts ws : List ℕ) (e : Ending) (r : Ended) (h : Ends w n t
       → buffer ≡ written (trailNumbersOf (trailOf (e .state))) trail
   left-written trail q = rw (← left) q
 
-  pub seen : (v : ℕ) → v ≡ verdictNumber (r .verdict) → _≡_ {A = Outcome} (record { verdict = v; steps = r .steps; number = r .number; entries = r .status .count }) (outcomeOf e)
+  pub seen : (v : ℕ) → v ≡ verdictNumber (r .verdict)
+      → _≡_ {A = Outcome} (record { verdict = v; steps = r .steps; number = r .number; entries = r .status .count }) (outcomeOf e)
   seen v q i =
       record {
         verdict = (q ∙ ap verdictNumber (h .verdict)) i;

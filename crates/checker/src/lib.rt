@@ -8,9 +8,10 @@ ghost use Rattle.calculus.specs.Sorts.{sortsRefusal};
 ghost use Rattle.calculus.specs.Terms.{termsRefusal};
 ghost use Rattle.calculus.specs.Trail.{trailNumbersOf};
 ghost use Rattle.calculus.specs.Steps.{trailOf};
-ghost use Rattle.calculus.specs.Run.{run, turnedAway, verdictNumber, outcomeOf, written};
+ghost use Rattle.calculus.specs.Run.{turnedAway, verdictNumber, outcomeOf, written};
 ghost use Rattle.term_sheet.specs.Found.{mostNumbers};
-ghost use Rattle.state.specs.States.{stateIn, Standing};
+ghost use Rattle.state.specs.States.{Standing};
+ghost use Rattle.run.specs.Ends.{runIn};
 ghost use Rattle.checker.specs.Contract.{callOf, Ran, Answered};
 use calculus::Check;
 use calculus::Level;
@@ -71,8 +72,9 @@ fn run_log(
     st: Status,
 ) -> Outcome
     requires { ⌜ Standing w n (now terms) (now work) st × (stepRows (now steps) ≤ 65535) × (n ≤ 65535) × (4 * n ≤ length (now trail)) ⌝ }
-    ensures { λ r. ⌜ r ≡ outcomeOf (run (now (terms .entry)) (now (steps .entry)) (stateIn w n (now (work .entry)) st) 0 (stepRows (now (steps .entry)))) ⌝ }
-    ensures { λ r. ⌜ now (trail .exit) ≡ written (trailNumbersOf (trailOf (run (now (terms .entry)) (now (steps .entry)) (stateIn w n (now (work .entry)) st) 0 (stepRows (now (steps .entry))) .state))) (now (trail .entry)) ⌝ }
+    ensures { λ r. ⌜ r ≡ outcomeOf (runIn w n (now (terms .entry)) (now (steps .entry)) (now (work .entry)) st) ⌝ }
+    ensures { λ r. ⌜ now (trail .exit) ≡ written
+        (trailNumbersOf (trailOf (runIn w n (now (terms .entry)) (now (steps .entry)) (now (work .entry)) st .state))) (now (trail .entry)) ⌝ }
 {
     let e = run::run_steps(terms, steps, work, w, n, st);
     let count = e.status.count;
@@ -96,7 +98,8 @@ fn run_sheets(
     trail: &mut [u16],
 ) -> Outcome
     requires { ⌜ lengthRefusal (callOf (now sorts) (now terms) (now inputs) (now steps) (now work) (now trail)) ≡ 0 ⌝ }
-    ensures { λ r. ⌜ Ran (callOf (now (sorts .entry)) (now (terms .entry)) (now (inputs .entry)) (now (steps .entry)) (now (work .entry)) (now (trail .entry))) r (now (trail .exit)) ⌝ }
+    ensures { λ r. ⌜ Ran (callOf (now (sorts .entry)) (now (terms .entry)) (now (inputs .entry)) (now (steps .entry))
+        (now (work .entry)) (now (trail .entry))) r (now (trail .exit)) ⌝ }
 {
     let c = check_sheets(sorts, terms);
     match c {
@@ -131,7 +134,8 @@ pub extern "C" fn cdsat_run(
     work: &mut [u64],
     trail: &mut [u16],
 ) -> Outcome
-    ensures { λ r. ⌜ Answered (callOf (now (sorts .entry)) (now (terms .entry)) (now (inputs .entry)) (now (steps .entry)) (now (work .entry)) (now (trail .entry))) r (now (work .exit)) (now (trail .exit)) ⌝ }
+    ensures { λ r. ⌜ Answered (callOf (now (sorts .entry)) (now (terms .entry)) (now (inputs .entry)) (now (steps .entry))
+        (now (work .entry)) (now (trail .entry))) r (now (work .exit)) (now (trail .exit)) ⌝ }
 {
     let c = sheets::check_lengths(sorts, terms, inputs, steps, work, trail);
     match c {

@@ -1,17 +1,16 @@
 // The steps of a conflict: resolve, clear, jump, flip. Each has its number, found by reading alone, and then what it does.
 ghost use mathlib.Core.Path.{_≡_};
-ghost use mathlib.Core.Bool.{true, false};
 ghost use Prim.Native.Nat.{_+_, _<_, _≤_};
 ghost use lib.Dec.{ltb};
 ghost use lib.ListN.{length};
-ghost use Rattle.calculus.specs.Trail.{remove, intersection, on, decidedAt, levelAt, whyAt, levelOf, holds, firstOrder};
+ghost use Rattle.calculus.specs.Trail.{intersection, levelAt};
 ghost use Rattle.calculus.specs.Steps as calculus;
 ghost use Rattle.calculus.specs.Steps.{resolveRefusal, clearRefusal, jumpRefusal, flipRefusal};
 ghost use Rattle.trail.specs.Words as words;
 ghost use Rattle.trail.specs.Words.{trailIn};
-ghost use Rattle.moves.specs.Post.{conflictIn};
-ghost use Rattle.state.specs.States.{Standing, Answers};
-ghost use Rattle.conflict_steps.specs.Conflicts.{Found, inSearch};
+ghost use Rattle.moves.specs.Post.{conflictIn, restLevel};
+ghost use Rattle.state.specs.States.{Answers};
+ghost use Rattle.conflict_steps.specs.Conflicts.{Conflicted, Found, Placed, Justified, whyIn, conflictLevel, holdsFirstOrder, inSearch};
 use calculus::Level;
 use calculus::Row;
 use state::Answer;
@@ -40,7 +39,7 @@ fn in_conflict(terms: &[u16], work: &[u64], w: usize, n: usize, count: usize, t:
 // The conflict's level.
 fn conflict_level(terms: &[u16], work: &[u64], w: usize, n: usize, count: usize) -> Level
     requires { ⌜ Found w n (now terms) (now work) count ⌝ }
-    ensures { λ r. ⌜ r .0 ≡ levelOf (trailIn w n (now (work .entry)) count) (conflictIn w n (now (work .entry))) ⌝ }
+    ensures { λ r. ⌜ r .0 ≡ conflictLevel w n (now (work .entry)) count ⌝ }
 {
     let e = place(work, w, n);
     levels::level_of(work, w, n, count, e)
@@ -49,7 +48,7 @@ fn conflict_level(terms: &[u16], work: &[u64], w: usize, n: usize, count: usize)
 // The level of the conflict without row t.
 fn rest_level(terms: &[u16], work: &[u64], w: usize, n: usize, count: usize, t: Row) -> Level
     requires { ⌜ Found w n (now terms) (now work) count ⌝ }
-    ensures { λ r. ⌜ r .0 ≡ levelOf (trailIn w n (now (work .entry)) count) (remove (conflictIn w n (now (work .entry))) (t .0)) ⌝ }
+    ensures { λ r. ⌜ r .0 ≡ restLevel w n (now (work .entry)) count (t .0) ⌝ }
 {
     let e = place(work, w, n);
     levels::level_without(work, w, n, count, e, t)
@@ -65,8 +64,8 @@ fn above_rest(
     t: Row,
     rest: Level,
 ) -> bool
-    requires { ⌜ Found w n (now terms) (now work) count × (t .0 < n) × (on (trailIn w n (now work) count) (t .0) ≡ true) × (rest .0 ≡ levelOf (trailIn w n (now work) count) (remove (conflictIn w n (now work)) (t .0))) ⌝ }
-    ensures { λ r. ⌜ r ≡ ltb (levelOf (trailIn w n (now (work .entry)) count) (remove (conflictIn w n (now (work .entry))) (t .0))) (levelAt (trailIn w n (now (work .entry)) count) (t .0)) ⌝ }
+    requires { ⌜ Placed w n (now terms) (now work) count (t .0) × (rest .0 ≡ restLevel w n (now work) count (t .0)) ⌝ }
+    ensures { λ r. ⌜ r ≡ ltb (restLevel w n (now (work .entry)) count (t .0)) (levelAt (trailIn w n (now (work .entry)) count) (t .0)) ⌝ }
 {
     let own = trail::level(work, w, n, count, t);
     rest.0 < own.0
@@ -75,8 +74,8 @@ fn above_rest(
 // Whether the justification of row a holds a first-order decision of the conflict's level, which is found only where the justification
 // holds one at all.
 fn barred(terms: &[u16], work: &[u64], w: usize, n: usize, count: usize, a: Row) -> bool
-    requires { ⌜ Found w n (now terms) (now work) count × (a .0 < n) × (on (trailIn w n (now work) count) (a .0) ≡ true) × (decidedAt (trailIn w n (now work) count) (a .0) ≡ false) ⌝ }
-    ensures { λ r. ⌜ r ≡ holds (trailIn w n (now (work .entry)) count) (whyAt (trailIn w n (now (work .entry)) count) (a .0)) (firstOrder (now (terms .entry)) (levelOf (trailIn w n (now (work .entry)) count) (conflictIn w n (now (work .entry))))) ⌝ }
+    requires { ⌜ Justified w n (now terms) (now work) count (a .0) ⌝ }
+    ensures { λ r. ⌜ r ≡ holdsFirstOrder w n (now (terms .entry)) (now (work .entry)) count (whyIn w n (now (work .entry)) count (a .0)) ⌝ }
 {
     let b = a.0 as usize * w;
     if !decisions::holds_first_order_any(work, w, n, count, terms, b) {
@@ -97,8 +96,10 @@ fn share(
     k: Row,
     m: Level,
 ) -> bool
-    requires { ⌜ Found w n (now terms) (now work) count × (l .0 < n) × (k .0 < n) × (on (trailIn w n (now work) count) (l .0) ≡ true) × (on (trailIn w n (now work) count) (k .0) ≡ true) × (decidedAt (trailIn w n (now work) count) (l .0) ≡ false) × (decidedAt (trailIn w n (now work) count) (k .0) ≡ false) × (m .0 ≡ levelOf (trailIn w n (now work) count) (conflictIn w n (now work))) ⌝ }
-    ensures { λ r. ⌜ r ≡ holds (trailIn w n (now (work .entry)) count) (intersection (whyAt (trailIn w n (now (work .entry)) count) (l .0)) (whyAt (trailIn w n (now (work .entry)) count) (k .0))) (firstOrder (now (terms .entry)) (levelOf (trailIn w n (now (work .entry)) count) (conflictIn w n (now (work .entry))))) ⌝ }
+    requires { ⌜ Justified w n (now terms) (now work) count (l .0) × Justified w n (now terms) (now work) count (k .0)
+        × (m .0 ≡ conflictLevel w n (now work) count) ⌝ }
+    ensures { λ r. ⌜ r ≡ holdsFirstOrder w n (now (terms .entry)) (now (work .entry)) count
+        (intersection (whyIn w n (now (work .entry)) count (l .0)) (whyIn w n (now (work .entry)) count (k .0))) ⌝ }
 {
     decisions::share_first_order(
         work,
@@ -161,7 +162,7 @@ fn jump_refusal(
     l: Row,
     m: Level,
 ) -> u16
-    requires { ⌜ Found w n (now terms) (now work) count × (l .0 < n) × (m .0 ≡ levelOf (trailIn w n (now work) count) (remove (conflictIn w n (now work)) (l .0))) ⌝ }
+    requires { ⌜ Found w n (now terms) (now work) count × (l .0 < n) × (m .0 ≡ restLevel w n (now work) count (l .0)) ⌝ }
     ensures { λ r. ⌜ r ≡ jumpRefusal (now (terms .entry)) (trailIn w n (now (work .entry)) count) (conflictIn w n (now (work .entry))) (l .0) ⌝ }
 {
     if !in_conflict(terms, work, w, n, count, l) {
@@ -187,8 +188,9 @@ fn flip_refusal(
     k: Row,
     m: Level,
 ) -> u16
-    requires { ⌜ Found w n (now terms) (now work) count × (l .0 < n) × (k .0 < n) × (m .0 ≡ levelOf (trailIn w n (now work) count) (conflictIn w n (now work))) ⌝ }
-    ensures { λ r. ⌜ r ≡ flipRefusal (now (terms .entry)) (trailIn w n (now (work .entry)) count) (conflictIn w n (now (work .entry))) (l .0) (k .0) ⌝ }
+    requires { ⌜ Found w n (now terms) (now work) count × (l .0 < n) × (k .0 < n) × (m .0 ≡ conflictLevel w n (now work) count) ⌝ }
+    ensures { λ r. ⌜ r ≡ flipRefusal (now (terms .entry))
+        (trailIn w n (now (work .entry)) count) (conflictIn w n (now (work .entry))) (l .0) (k .0) ⌝ }
 {
     if !in_conflict(terms, work, w, n, count, l) {
         return 17;
@@ -230,8 +232,9 @@ fn searching(kept: Kept) -> Answer
 
 // In the conflict, a's justification takes the place of a.
 pub fn resolve(terms: &[u16], work: &mut [u64], w: usize, n: usize, st: Status, a: Row) -> Answer
-    requires { ⌜ Standing w n (now terms) (now work) st × (st .conflict ≡ true) × (a .0 < n) ⌝ }
-    ensures { λ r. ⌜ Answers w n (now (terms .entry)) (now (work .entry)) (now (work .exit)) (calculus.resolve (now (terms .entry)) (trailIn w n (now (work .entry)) (st .count)) (conflictIn w n (now (work .entry))) (a .0)) r ⌝ }
+    requires { ⌜ Conflicted w n (now terms) (now work) st (a .0) ⌝ }
+    ensures { λ r. ⌜ Answers w n (now (terms .entry)) (now (work .entry)) (now (work .exit))
+        (calculus.resolve (now (terms .entry)) (trailIn w n (now (work .entry)) (st .count)) (conflictIn w n (now (work .entry))) (a .0)) r ⌝ }
 {
     let count = st.count;
     let c = resolve_refusal(terms, work, w, n, count, a);
@@ -249,8 +252,9 @@ pub fn resolve(terms: &[u16], work: &mut [u64], w: usize, n: usize, st: Status, 
 
 // The decision a is undone, with all of its level and above.
 pub fn clear(terms: &[u16], work: &mut [u64], w: usize, n: usize, st: Status, a: Row) -> Answer
-    requires { ⌜ Standing w n (now terms) (now work) st × (st .conflict ≡ true) × (a .0 < n) ⌝ }
-    ensures { λ r. ⌜ Answers w n (now (terms .entry)) (now (work .entry)) (now (work .exit)) (calculus.clear (now (terms .entry)) (trailIn w n (now (work .entry)) (st .count)) (conflictIn w n (now (work .entry))) (a .0)) r ⌝ }
+    requires { ⌜ Conflicted w n (now terms) (now work) st (a .0) ⌝ }
+    ensures { λ r. ⌜ Answers w n (now (terms .entry)) (now (work .entry)) (now (work .exit))
+        (calculus.clear (now (terms .entry)) (trailIn w n (now (work .entry)) (st .count)) (conflictIn w n (now (work .entry))) (a .0)) r ⌝ }
 {
     let count = st.count;
     let c = clear_refusal(terms, work, w, n, count, a);
@@ -262,8 +266,9 @@ pub fn clear(terms: &[u16], work: &mut [u64], w: usize, n: usize, st: Status, a:
 
 // Back to the level of the rest of the conflict, which justifies the opposite of l.
 pub fn jump(terms: &[u16], work: &mut [u64], w: usize, n: usize, st: Status, l: Row) -> Answer
-    requires { ⌜ Standing w n (now terms) (now work) st × (st .conflict ≡ true) × (l .0 < n) ⌝ }
-    ensures { λ r. ⌜ Answers w n (now (terms .entry)) (now (work .entry)) (now (work .exit)) (calculus.jump (now (terms .entry)) (trailIn w n (now (work .entry)) (st .count)) (conflictIn w n (now (work .entry))) (l .0)) r ⌝ }
+    requires { ⌜ Conflicted w n (now terms) (now work) st (l .0) ⌝ }
+    ensures { λ r. ⌜ Answers w n (now (terms .entry)) (now (work .entry)) (now (work .exit))
+        (calculus.jump (now (terms .entry)) (trailIn w n (now (work .entry)) (st .count)) (conflictIn w n (now (work .entry))) (l .0)) r ⌝ }
 {
     let count = st.count;
     let m = rest_level(terms, work, w, n, count, l);
@@ -284,8 +289,9 @@ pub fn flip(
     l: Row,
     k: Row,
 ) -> Answer
-    requires { ⌜ Standing w n (now terms) (now work) st × (st .conflict ≡ true) × (l .0 < n) × (k .0 < n) ⌝ }
-    ensures { λ r. ⌜ Answers w n (now (terms .entry)) (now (work .entry)) (now (work .exit)) (calculus.flip (now (terms .entry)) (trailIn w n (now (work .entry)) (st .count)) (conflictIn w n (now (work .entry))) (l .0) (k .0)) r ⌝ }
+    requires { ⌜ Conflicted w n (now terms) (now work) st (l .0) × (k .0 < n) ⌝ }
+    ensures { λ r. ⌜ Answers w n (now (terms .entry)) (now (work .entry)) (now (work .exit))
+        (calculus.flip (now (terms .entry)) (trailIn w n (now (work .entry)) (st .count)) (conflictIn w n (now (work .entry))) (l .0) (k .0)) r ⌝ }
 {
     let count = st.count;
     let m = conflict_level(terms, work, w, n, count);

@@ -1,45 +1,24 @@
 // The thirteen rules: whether a rule gives a term its value, from premises that come with their values on the trail.
-// Each rule is a function of its own; `test` takes the one that a row names.
+// Each rule is a function of its own, in the crate of its family; `test` takes the one that a row names.
 ghost use mathlib.Core.Path.{_≡_};
-ghost use Rattle.calculus.specs.Rules.{fits, fitOf};
-ghost use Rattle.rules.specs.Claims.{premisesOf};
-use arrays::read;
-use arrays::skip;
+ghost use Rattle.calculus.specs.Rules.{fitOf};
+ghost use Rattle.rule_claims.specs.Claims.{allows};
 use calculus::Fit;
-use calculus::Premise;
 use calculus::Rule;
-use connectives::neg;
-use connectives::part;
-use equality::differ;
-use equality::refl;
-use equality::same;
-use equality::sym;
-use equality::trans;
-use evaluation::eval;
-use functions::cong;
-use functions::pred;
-use units::unit;
-
-mod arrays; // arrays.rt: read, skip
-mod connectives; // connectives.rt: neg, part
-mod equality; // equality.rt: same, differ, refl, sym, trans
-mod evaluation; // evaluation.rt: eval
-mod functions; // functions.rt: cong, pred
-mod heads; // heads.rt: the heads' numbers
-mod premises; // premises.rt: how many premises a claim has
-mod units; // units.rt: unit
-
-// What a deduce or clash row claims: a term, its value, and the premises with their values on the trail.
-// A premise whose row is blank is none, and those after it are not read.
-pub struct Claim {
-    pub term: u16,
-    pub value: u16,
-    pub p: Premise,
-    pub q: Premise,
-    pub r: Premise,
-    pub s: Premise,
-    pub t: Premise,
-}
+use rule_arrays::read;
+use rule_arrays::skip;
+use rule_claims::Claim;
+use rule_connectives::neg;
+use rule_connectives::part;
+use rule_equality::differ;
+use rule_equality::refl;
+use rule_equality::same;
+use rule_equality::sym;
+use rule_equality::trans;
+use rule_evaluation::eval;
+use rule_functions::cong;
+use rule_functions::pred;
+use rule_units::unit;
 
 // The answer of a rule.
 fn answer(fits: bool) -> Fit
@@ -50,7 +29,7 @@ fn answer(fits: bool) -> Fit
 
 // Whether the rule gives the claim's term its value from the claim's premises.
 pub fn test(terms: &[u16], rule: Rule, x: Claim) -> Fit
-    ensures { λ r. ⌜ r ≡ fitOf (fits (now (terms .entry)) rule (x .term) (x .value) (premisesOf x)) ⌝ }
+    ensures { λ r. ⌜ r ≡ fitOf (allows (now (terms .entry)) rule x) ⌝ }
 {
     match rule {
         Rule::Same => answer(same(terms, x)),

@@ -21,11 +21,7 @@ use Rattle.state.specs.declared.Answer.{Answer}
 use Rattle.state.specs.declared.Answer.the-variants as answer
 use Rattle.state.specs.States.{stateIn, Standing, Answers}
 use Rattle.run.specs.declared.Ended.{Ended}
-use Rattle.run.specs.Ends.{stoppedBy, Ends}
-
--- a step's answer, of an equal row and an equal answer
-pub answered : (w n : ℕ) (ts ws vs : List ℕ) (s : calculus.State) {x y : Step} {a b : Answer} → x ≡ y → a ≡ b → Answers w n ts ws vs (step ts s x) a → Answers w n ts ws vs (step ts s y) b
-answered w n ts ws vs s {x} {y} {a} {b} p q h = subst (λ z. Answers w n ts ws vs (step ts s z) b) p (subst (Answers w n ts ws vs (step ts s x)) q h)
+use Rattle.run.specs.Ends.{stoppedBy, runIn, Ends}
 
 module _ (w n : ℕ) (ts log : List ℕ) (e : Ending) where
   -- k rows are behind: what is ahead ends as the whole run does
@@ -35,7 +31,8 @@ module _ (w n : ℕ) (ts log : List ℕ) (e : Ending) where
 
   module _ (ws : List ℕ) (st : Status) (k : ℕ) (r : Running ws st k) where
     -- an ending in this state
-    ended : (x : Ended) → x .status ≡ st → e ≡ record { verdict = x .verdict; steps = x .steps; number = x .number; state = stateIn w n ws st } → Ends w n ts ws e x
+    ended : (x : Ended) → x .status ≡ st
+        → e ≡ record { verdict = x .verdict; steps = x .steps; number = x .number; state = stateIn w n ws st } → Ends w n ts ws e x
     ended x q h =
         record {
           verdict = sym (ap (λ (y : Ending). y .verdict) h);
@@ -49,42 +46,56 @@ module _ (w n : ℕ) (ts log : List ℕ) (e : Ending) where
     pub runs-out : stepRows log ≤ k → Ends w n ts ws e (record { verdict = Open; steps = k; number = 0; status = st })
     runs-out h = ended _ refl (sym (r .same) ∙ run-over ts log (stateIn w n ws st) k (stepRows log) h)
 
-    module _ (vs : List ℕ) (h : k < stepRows log) where
+    module _ (vs : List ℕ) (h : k < stepRows log) {x : Step} (x-is : x ≡ stepAt log k) where
+      abbrev before : calculus.State
+      before = stateIn w n ws st
+
+      abbrev Said : Answer → Type 0
+      Said a = Answers w n ts ws vs (step ts before x) a
+
+      -- the step of the row is the step of the log
+      the-step : {a : calculus.Answer} → step ts before x ≡ a → step ts before (stepAt log k) ≡ a
+      the-step e = ap (step ts before) (sym x-is) ∙ e
+
       -- an allowed row
-      pub goes-on : (next : Status) → Answers w n ts ws vs (step ts (stateIn w n ws st) (stepAt log k)) (answer.Allowed next) → Running vs next (k + 1)
+      pub goes-on : {a : Answer} (next : Status) → Said a → a ≡ answer.Allowed next → Running vs next (k + 1)
       unfolding Answers
-      goes-on next a =
+      goes-on next s q =
+          let a : Answers w n ts ws vs (step ts before x) (answer.Allowed next) = subst Said q s in
+          let n-is = r .standing .held .rows in
+          let good = subst (λ m. WellFormedState m before) n-is (r .standing .wellFormed) in
+          let after = step-well-formed ts before (stateIn w n vs next) (stepAt log k) good (the-step (a .0)) in
           record {
-            same = sym (run-allowed ts log (stateIn w n ws st) k (stepRows log) (stateIn w n vs next) h (a .0)) ∙ r .same;
-            standing =
-                record {
-                  held = a .1;
-                  wellFormed = subst (λ m. WellFormedState m (stateIn w n vs next)) (sym (r .standing .held .rows)) (step-well-formed ts (stateIn w n ws st) (stateIn w n vs next) (stepAt log k) (subst (λ m. WellFormedState m (stateIn w n ws st)) (r .standing .held .rows) (r .standing .wellFormed)) (a .0));
-                };
+            same = sym (run-allowed ts log before k (stepRows log) (stateIn w n vs next) h (the-step (a .0))) ∙ r .same;
+            standing = record { held = a .1; wellFormed = subst (λ m. WellFormedState m (stateIn w n vs next)) (sym n-is) after };
           }
 
       -- the words are as they were
-      unmoved : vs ≡ ws → (x : Ended) → Ends w n ts ws e x → Ends w n ts vs e x
-      unmoved q x y = subst (λ us. Ends w n ts us e x) (sym q) y
+      unmoved : vs ≡ ws → (y : Ended) → Ends w n ts ws e y → Ends w n ts vs e y
+      unmoved q y z = subst (λ us. Ends w n ts us e y) (sym q) z
 
       -- a refutation
-      pub refutes : Answers w n ts ws vs (step ts (stateIn w n ws st) (stepAt log k)) answer.Refuted → Ends w n ts vs e (record { verdict = Refuted; steps = k + 1; number = 0; status = st })
+      refutes : Said answer.Refuted → Ends w n ts vs e (stoppedBy answer.Refuted k st)
       unfolding Answers
-      refutes a = unmoved (a .1) (record { verdict = Refuted; steps = k + 1; number = 0; status = st }) (ended _ refl (sym (r .same) ∙ run-refuted ts log (stateIn w n ws st) k (stepRows log) h (a .0)))
+      refutes a = unmoved (a .1) _ (ended (stoppedBy answer.Refuted k st) refl (sym (r .same) ∙ run-refuted ts log before k (stepRows log) h (the-step (a .0))))
 
       -- a refusal
-      pub refuses : (c : ℕ) → Answers w n ts ws vs (step ts (stateIn w n ws st) (stepAt log k)) (answer.Refused c) → Ends w n ts vs e (record { verdict = Refused; steps = k; number = c; status = st })
+      refuses : (c : ℕ) → Said (answer.Refused c) → Ends w n ts vs e (stoppedBy (answer.Refused c) k st)
       unfolding Answers
-      refuses c a = unmoved (a .1) (record { verdict = Refused; steps = k; number = c; status = st }) (ended _ refl (sym (r .same) ∙ run-refused ts log (stateIn w n ws st) k (stepRows log) c h (a .0)))
+      refuses c a =
+          unmoved (a .1) _ (ended (stoppedBy (answer.Refused c) k st) refl (sym (r .same) ∙ run-refused ts log before k (stepRows log) c h (the-step (a .0))))
 
       -- any answer that lets the run not go on
-      pub stops : (r : Answer) → OneOf (1 ∷ 2 ∷ []) (tagOf the-type r) → Answers w n ts ws vs (step ts (stateIn w n ws st) (stepAt log k)) r → Ends w n ts vs e (stoppedBy r k st)
-      stops (answer.Refused c) t a = refuses c a
-      stops answer.Refuted t a = refutes a
-      stops (answer.Allowed next) t a = absurd (⊎-elim (λ (z : _≡_ {A = ℕ} 0 1). omega arith) (λ (z : _≡_ {A = ℕ} 0 2). omega arith) t)
+      pub stops : {y : Ended} (a : Answer) → OneOf (1 ∷ 2 ∷ []) (tagOf the-type a) → Said a → y ≡ stoppedBy a k st → Ends w n ts vs e y
+      stops a t s q = rw q (go a t s)
+        where
+          go : (b : Answer) → OneOf (1 ∷ 2 ∷ []) (tagOf the-type b) → Said b → Ends w n ts vs e (stoppedBy b k st)
+          go (answer.Refused c) t a = refuses c a
+          go answer.Refuted t a = refutes a
+          go (answer.Allowed next) t a = absurd (⊎-elim (λ (z : _≡_ {A = ℕ} 0 1). omega arith) (λ (z : _≡_ {A = ℕ} 0 2). omega arith) t)
 
 -- no row is behind
-pub starts : (w n : ℕ) (ts log ws : List ℕ) (st : Status) → Standing w n ts ws st → Running w n ts log (run ts log (stateIn w n ws st) 0 (stepRows log)) ws st 0
+pub starts : (w n : ℕ) (ts log ws : List ℕ) (st : Status) → Standing w n ts ws st → Running w n ts log (runIn w n ts log ws st) ws st 0
 starts w n ts log ws st s = record { same = ap (run ts log (stateIn w n ws st) 0) none; standing = s }
   where
     none : stepRows log - 0 ≡ stepRows log

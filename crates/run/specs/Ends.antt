@@ -3,7 +3,8 @@ use mathlib.Core.Path.{_≡_}
 use mathlib.Core.List.{List}
 use Prim.Native.Nat.{ℕ, _+_}
 use Rattle.calculus.specs.declared.Verdict.the-variants.{Open, Refuted, Refused}
-use Rattle.calculus.specs.Run.{Ending}
+use Rattle.calculus.specs.Sheets.{stepRows}
+use Rattle.calculus.specs.Run.{Ending, run}
 use Rattle.state.specs.declared.Status.{Status}
 use Rattle.state.specs.declared.Answer.{Answer}
 use Rattle.state.specs.declared.Answer.the-variants as answer
@@ -15,6 +16,10 @@ abbrev pub stoppedBy : Answer → ℕ → Status → Ended
 stoppedBy (answer.Refused c) k st = record { verdict = Refused; steps = k; number = c; status = st }
 stoppedBy answer.Refuted k st = record { verdict = Refuted; steps = k + 1; number = 0; status = st }
 stoppedBy (answer.Allowed next) k st = record { verdict = Open; steps = k; number = 0; status = next }
+
+-- the run of the whole log from the state that the words hold
+abbrev pub runIn : ℕ → ℕ → List ℕ → List ℕ → List ℕ → Status → Ending
+runIn w n ts log ws st = run ts log (stateIn w n ws st) 0 (stepRows log)
 
 -- r is the ending e, whose state the words hold
 pub record Ends (w n : ℕ) (ts ws : List ℕ) (e : Ending) (r : Ended) : Type 0 where

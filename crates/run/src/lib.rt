@@ -2,9 +2,8 @@
 ghost use mathlib.Core.Path.{_≡_};
 ghost use Prim.Native.Nat.{_<_, _≤_};
 ghost use Rattle.calculus.specs.Sheets.{stepRows};
-ghost use Rattle.calculus.specs.Run.{run};
-ghost use Rattle.state.specs.States.{stateIn, Standing};
-ghost use Rattle.run.specs.Ends.{stoppedBy, Ends};
+ghost use Rattle.state.specs.States.{Standing};
+ghost use Rattle.run.specs.Ends.{stoppedBy, runIn, Ends};
 use calculus::Verdict;
 use state::Answer;
 use state::Status;
@@ -55,7 +54,8 @@ pub fn run_steps(
     st: Status,
 ) -> Ended
     requires { ⌜ Standing w n (now terms) (now work) st × (stepRows (now steps) ≤ 65535) ⌝ }
-    ensures { λ r. ⌜ Ends w n (now (terms .entry)) (now (work .exit)) (run (now (terms .entry)) (now (steps .entry)) (stateIn w n (now (work .entry)) st) 0 (stepRows (now (steps .entry)))) r ⌝ }
+    ensures { λ r. ⌜ Ends w n (now (terms .entry)) (now (work .exit))
+        (runIn w n (now (terms .entry)) (now (steps .entry)) (now (work .entry)) st) r ⌝ }
 {
     let count = steps.len() / 9;
     let mut here = st;

@@ -1,24 +1,23 @@
 // The steps of the search: decide, deduce, clash. Each has its number, found by reading alone, and then what it does.
 ghost use mathlib.Core.Path.{_≡_};
-ghost use mathlib.Core.Bool.{true, false};
-ghost use mathlib.Core.List.{List, [], _∷_};
-ghost use Prim.Native.Nat.{ℕ, _<_};
+ghost use mathlib.Core.Bool.{true};
+ghost use mathlib.Core.List.{[], _∷_};
 ghost use Rattle.calculus.specs.Lists.{all, has};
 ghost use Rattle.calculus.specs.Terms.{filled};
 ghost use Rattle.calculus.specs.Inputs.{valueSuits};
 ghost use Rattle.calculus.specs.Trail.{on, valueAt, levelOf};
 ghost use Rattle.calculus.specs.Steps.{premises, decideRefusal, inferenceRefusal, deduceRefusal, clashRefusal, clashSet, decide, deduce, clash};
-ghost use Rattle.rules.specs.Claims.{Looked};
+ghost use Rattle.rule_claims.specs.Claims.{Looked};
 ghost use Rattle.trail.specs.Words.{trailIn, Laid};
-ghost use Rattle.state.specs.States.{Standing, Answers};
-ghost use Rattle.search_steps.specs.Claims.{Claims, PremisesLevel};
+ghost use Rattle.state.specs.States.{Answers};
+ghost use Rattle.search_steps.specs.Claims.{Searching, Premised, Claims, PremisesLevel, MoreOn, MoreLevel};
 use calculus::Fit;
 use calculus::Level;
 use calculus::Premise;
 use calculus::Row;
 use calculus::Step;
 use rows::BLANK;
-use rules::Claim;
+use rule_claims::Claim;
 use state::Answer;
 use state::Status;
 
@@ -36,7 +35,7 @@ fn value_suits(terms: &[u16], t: Row, v: u16) -> bool
 
 fn more_on(work: &[u64], w: usize, n: usize, count: usize, p: u16, rest: bool) -> bool
     requires { ⌜ Laid w n (now work) count ⌝ }
-    ensures { λ r. ⌜ ((xs : List ℕ) → rest ≡ all (on (trailIn w n (now (work .entry)) count)) (filled xs) → r ≡ all (on (trailIn w n (now (work .entry)) count)) (filled (p ∷ xs))) ⌝ }
+    ensures { λ r. ⌜ MoreOn (trailIn w n (now (work .entry)) count) p rest r ⌝ }
 {
     if p == BLANK {
         return true;
@@ -68,48 +67,48 @@ fn all_on(work: &[u64], w: usize, n: usize, count: usize, x: Step) -> bool
     more_on(work, w, n, count, x.p, q)
 }
 
-fn more_level(work: &[u64], w: usize, n: usize, count: usize, p: u16, rest: u64) -> u64
+fn more_level(work: &[u64], w: usize, n: usize, count: usize, p: u16, rest: Level) -> Level
     requires { ⌜ Laid w n (now work) count ⌝ }
-    ensures { λ r. ⌜ ((xs : List ℕ) → PremisesLevel (trailIn w n (now (work .entry)) count) xs rest → PremisesLevel (trailIn w n (now (work .entry)) count) (p ∷ xs) r) ⌝ }
+    ensures { λ r. ⌜ MoreLevel (trailIn w n (now (work .entry)) count) p (rest .0) (r .0) ⌝ }
 {
     if p == BLANK {
-        return 0;
+        return Level(0);
     }
     let l = state::level_at(work, w, n, count, Row(p));
-    trail::larger(l, Level(rest)).0
+    trail::larger(l, rest)
 }
 
 // The level of the premises from column r on.
-fn late_level(work: &[u64], w: usize, n: usize, count: usize, x: Step) -> u64
+fn late_level(work: &[u64], w: usize, n: usize, count: usize, x: Step) -> Level
     requires { ⌜ Laid w n (now work) count ⌝ }
-    ensures { λ r. ⌜ PremisesLevel (trailIn w n (now (work .entry)) count) (x .r ∷ x .s ∷ x .t ∷ []) r ⌝ }
+    ensures { λ r. ⌜ PremisesLevel (trailIn w n (now (work .entry)) count) (x .r ∷ x .s ∷ x .t ∷ []) (r .0) ⌝ }
 {
     if x.r == BLANK {
-        return 0;
+        return Level(0);
     }
-    let t = more_level(work, w, n, count, x.t, 0);
+    let t = more_level(work, w, n, count, x.t, Level(0));
     let s = more_level(work, w, n, count, x.s, t);
     more_level(work, w, n, count, x.r, s)
 }
 
 // The level of the premises as a set, where all stand on the trail.
 fn premises_level(work: &[u64], w: usize, n: usize, count: usize, x: Step) -> Level
-    requires { ⌜ Laid w n (now work) count × (all (on (trailIn w n (now work) count)) (premises x) ≡ true) ⌝ }
+    requires { ⌜ Premised w n (now work) count x ⌝ }
     ensures { λ r. ⌜ r .0 ≡ levelOf (trailIn w n (now (work .entry)) count) (has (premises x)) ⌝ }
 {
     let r = late_level(work, w, n, count, x);
     let q = more_level(work, w, n, count, x.q, r);
-    Level(more_level(work, w, n, count, x.p, q))
+    more_level(work, w, n, count, x.p, q)
 }
 
 // The level of the premises and the term, where all stand on the trail.
-fn clash_level(work: &[u64], w: usize, n: usize, count: usize, x: Step) -> u64
-    requires { ⌜ Laid w n (now work) count × (all (on (trailIn w n (now work) count)) (premises x) ≡ true) × (on (trailIn w n (now work) count) (x .term) ≡ true) ⌝ }
-    ensures { λ r. ⌜ r ≡ levelOf (trailIn w n (now (work .entry)) count) (clashSet (x .term) (premises x)) ⌝ }
+fn clash_level(work: &[u64], w: usize, n: usize, count: usize, x: Step) -> Level
+    requires { ⌜ Premised w n (now work) count x × (on (trailIn w n (now work) count) (x .term) ≡ true) ⌝ }
+    ensures { λ r. ⌜ r .0 ≡ levelOf (trailIn w n (now (work .entry)) count) (clashSet (x .term) (premises x)) ⌝ }
 {
     let l = state::level_at(work, w, n, count, Row(x.term));
     let p = premises_level(work, w, n, count, x);
-    trail::larger(l, p).0
+    trail::larger(l, p)
 }
 
 // A premise column with its value, where it stands on the trail.
@@ -125,11 +124,11 @@ fn premise(work: &[u64], w: usize, n: usize, count: usize, p: u16) -> Premise
 
 // What the row claims: its term, its value, and its premises, which all stand on the trail, with their values there.
 fn claim(work: &[u64], w: usize, n: usize, count: usize, x: Step) -> Claim
-    requires { ⌜ Laid w n (now work) count × (all (on (trailIn w n (now work) count)) (premises x) ≡ true) ⌝ }
+    requires { ⌜ Premised w n (now work) count x ⌝ }
     ensures { λ r. ⌜ Claims (trailIn w n (now (work .entry)) count) x r ⌝ }
 {
     Claim {
-        term: x.term,
+        term: Row(x.term),
         value: x.value,
         p: premise(work, w, n, count, x.p),
         q: premise(work, w, n, count, x.q),
@@ -226,8 +225,9 @@ pub fn decide(
     t: Row,
     v: u16,
 ) -> Answer
-    requires { ⌜ Standing w n (now terms) (now work) st × (st .conflict ≡ false) × (t .0 < n) ⌝ }
-    ensures { λ r. ⌜ Answers w n (now (terms .entry)) (now (work .entry)) (now (work .exit)) (decide (now (terms .entry)) (trailIn w n (now (work .entry)) (st .count)) (t .0) v) r ⌝ }
+    requires { ⌜ Searching w n (now terms) (now work) st (t .0) ⌝ }
+    ensures { λ r. ⌜ Answers w n (now (terms .entry)) (now (work .entry)) (now (work .exit))
+        (decide (now (terms .entry)) (trailIn w n (now (work .entry)) (st .count)) (t .0) v) r ⌝ }
 {
     let c = decide_refusal(terms, work, w, n, st.count, t, v);
     if c != 0 {
@@ -244,8 +244,9 @@ pub fn decide(
 
 // deduce: the premises justify the term's value.
 pub fn deduce(terms: &[u16], work: &mut [u64], w: usize, n: usize, st: Status, x: Step) -> Answer
-    requires { ⌜ Standing w n (now terms) (now work) st × (st .conflict ≡ false) × (x .term < n) ⌝ }
-    ensures { λ r. ⌜ Answers w n (now (terms .entry)) (now (work .entry)) (now (work .exit)) (deduce (now (terms .entry)) (trailIn w n (now (work .entry)) (st .count)) (x .rule) (x .term) (x .value) (premises x)) r ⌝ }
+    requires { ⌜ Searching w n (now terms) (now work) st (x .term) ⌝ }
+    ensures { λ r. ⌜ Answers w n (now (terms .entry)) (now (work .entry)) (now (work .exit))
+        (deduce (now (terms .entry)) (trailIn w n (now (work .entry)) (st .count)) (x .rule) (x .term) (x .value) (premises x)) r ⌝ }
 {
     let c = deduce_refusal(terms, work, w, n, st.count, x);
     if c != 0 {
@@ -274,14 +275,16 @@ pub fn deduce(terms: &[u16], work: &mut [u64], w: usize, n: usize, st: Status, x
 
 // clash: premises and opposite refute the input at level 0, and are the conflict above it.
 pub fn clash(terms: &[u16], work: &mut [u64], w: usize, n: usize, st: Status, x: Step) -> Answer
-    requires { ⌜ Standing w n (now terms) (now work) st × (st .conflict ≡ false) × (x .term < n) ⌝ }
-    ensures { λ r. ⌜ Answers w n (now (terms .entry)) (now (work .entry)) (now (work .exit)) (clash (now (terms .entry)) (trailIn w n (now (work .entry)) (st .count)) (x .rule) (x .term) (x .value) (premises x)) r ⌝ }
+    requires { ⌜ Searching w n (now terms) (now work) st (x .term) ⌝ }
+    ensures { λ r. ⌜ Answers w n (now (terms .entry)) (now (work .entry)) (now (work .exit))
+        (clash (now (terms .entry)) (trailIn w n (now (work .entry)) (st .count)) (x .rule) (x .term) (x .value) (premises x)) r ⌝ }
 {
     let c = clash_refusal(terms, work, w, n, st.count, x);
     if c != 0 {
         return Answer::Refused(c);
     }
-    if clash_level(work, w, n, st.count, x) == 0 {
+    let level = clash_level(work, w, n, st.count, x);
+    if level.0 == 0 {
         return Answer::Refuted;
     }
     let ps = [x.p, x.q, x.r, x.s, x.t];

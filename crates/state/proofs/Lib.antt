@@ -1,3 +1,4 @@
 -- The laws.
 pub mod States
 pub mod Landed
+pub mod Tests

@@ -3,6 +3,7 @@ use mathlib.Core.Path.{_≡_, refl, sym, ap, subst, _∙_}
 use mathlib.Core.Bool.{Bool, true, false, not, cond}
 use mathlib.Core.List.{List, [], _∷_}
 use Prim.Native.Nat.{ℕ, suc, _<_}
+use native.Mathlib.Omega.{arith}
 use borrow.Author.Tests.{not-true, not-false}
 use lib.Dec.{T, eqb, ltb, ltb→lt}
 use Rattle.calculus.specs.declared.Step.{Step}
@@ -10,6 +11,7 @@ use Rattle.calculus.specs.declared.Kind.{Kind}
 use Rattle.calculus.specs.declared.Kind.the-variants.{Decide, Deduce, Clash, Resolve, Clear, Jump, Flip, Unlisted}
 use Rattle.calculus.specs.Lists.{all}
 use Rattle.calculus.specs.Sheets.{blank, termRows}
+use Rattle.calculus.specs.Trail.{Set, Trail}
 use Rattle.calculus.specs.Terms.{filled}
 use Rattle.calculus.specs.Steps as calculus
 use Rattle.calculus.specs.Steps.{needsConflict, isFilled, premises, pairShaped, shaped, ready, known, stepBy, answer, rowRefusal, kindOf, step}
@@ -21,10 +23,9 @@ use Rattle.state.specs.declared.Answer.{Answer}
 use Rattle.state.specs.declared.Answer.the-variants.{Refused}
 use Rattle.state.specs.States.{stateIn, Standing, Answers}
 use Rattle.state.proofs.States.{in-conflict, trail-there, conflict-there, passed-by}
-
--- the answer to one step is the answer to an equal one
-pub by : (w n : ℕ) (ts ws vs : List ℕ) (r : Answer) {a b : calculus.Answer} → b ≡ a → Answers w n ts ws vs a r → Answers w n ts ws vs b r
-by w n ts ws vs r e h = subst (λ a. Answers w n ts ws vs a r) (sym e) h
+use Rattle.search_steps.specs.Claims.{Searching}
+use Rattle.conflict_steps.specs.Conflicts.{Conflicted}
+use Rattle.steps.specs.Asked.{Asked}
 
 -- ---- what the tests say
 
@@ -48,56 +49,88 @@ known-p ts x s k =
     go true n h = absurd n
     go false n h = ltb→lt _ _ (true-T _ (both-true (ltb (x .p) (termRows ts)) _ h .0))
 
-module _ (w n : ℕ) (ts ws : List ℕ) (st : Status) (x : Step) (k : Kind) where
+module _ (w n : ℕ) (ts ws : List ℕ) (st : Status) (k : Kind) where
   -- the state suits the kind
-  pub ready-there : ready (stateIn w n ws st) k ≡ cond (needsConflict k) (st .conflict) (not (st .conflict))
+  ready-there : ready (stateIn w n ws st) k ≡ cond (needsConflict k) (st .conflict) (not (st .conflict))
   unfolding ready
   ready-there = ap (λ b. cond (needsConflict k) b (not b)) (conflict-there w n ws st)
 
-  pub ready-search : needsConflict k ≡ false → ready (stateIn w n ws st) k ≡ true → st .conflict ≡ false
-  ready-search e r = go (st .conflict) (sym (rw e at ready-there) ∙ r)
+module _ (w n : ℕ) (ts ws : List ℕ) (st : Status) (x : Step) (k : Kind) (g : Asked w n ts ws st x k) where
+  suits-there : cond (needsConflict k) (st .conflict) (not (st .conflict)) ≡ true
+  suits-there = sym (ready-there w n ts ws st k) ∙ g .suits
+
+  term-row : x .term < n
+  term-row = let h = known-term ts x (g .rows) in omega (arith, g .standing .held .rows)
+
+  -- ---- what the steps of a kind find
+
+  pub asked-search : (j : Kind) → needsConflict j ≡ false → k ≡ j → Searching w n ts ws st (x .term)
+  asked-search j e q = record { standing = g .standing; search = go (st .conflict) (rw (q, e) at suits-there); row = term-row }
     where
       go : (b : Bool) → not b ≡ true → b ≡ false
       go true h = sym h
       go false h = refl
 
-  pub ready-conflict : needsConflict k ≡ true → ready (stateIn w n ws st) k ≡ true → st .conflict ≡ true
-  ready-conflict e r = sym (rw e at ready-there) ∙ r
+  pub asked-conflict : (j : Kind) → needsConflict j ≡ true → k ≡ j → Conflicted w n ts ws st (x .term)
+  asked-conflict j e q = record { standing = g .standing; conflict = rw (q, e) at suits-there; row = term-row }
 
-  -- ---- the step of each kind
+  pub asked-p : k ≡ Flip → x .p < n
+  asked-p q = let h = known-p ts x (ap (shaped x) (sym q) ∙ g .shape) (g .rows) in omega (arith, g .standing .held .rows)
 
-  pub decide-is : k ≡ Decide → stepBy ts k (stateIn w n ws st) x ≡ calculus.decide ts (trailIn w n ws (st .count)) (x .term) (x .value)
-  unfolding stepBy
-  decide-is e = rw e (ap (λ tr. calculus.decide ts tr (x .term) (x .value)) (trail-there w n ws st))
+  -- ---- the answer of each kind
 
-  pub deduce-is : k ≡ Deduce → stepBy ts k (stateIn w n ws st) x ≡ calculus.deduce ts (trailIn w n ws (st .count)) (x .rule) (x .term) (x .value) (premises x)
-  unfolding stepBy
-  deduce-is e = rw e (ap (λ tr. calculus.deduce ts tr (x .rule) (x .term) (x .value) (premises x)) (trail-there w n ws st))
+  abbrev here : Trail
+  here = trailIn w n ws (st .count)
 
-  pub clash-is : k ≡ Clash → stepBy ts k (stateIn w n ws st) x ≡ calculus.clash ts (trailIn w n ws (st .count)) (x .rule) (x .term) (x .value) (premises x)
-  unfolding stepBy
-  clash-is e = rw e (ap (λ tr. calculus.clash ts tr (x .rule) (x .term) (x .value) (premises x)) (trail-there w n ws st))
+  abbrev set : Set
+  set = conflictIn w n ws
 
-  pub unlisted-is : k ≡ Unlisted → stepBy ts k (stateIn w n ws st) x ≡ calculus.refused 9
-  unfolding stepBy
-  unlisted-is e = rw e
+  module _ (vs : List ℕ) (r : Answer) where
+    abbrev Answered : calculus.Answer → Type 0
+    Answered a = Answers w n ts ws vs a r
 
-  module _ (q : st .conflict ≡ true) where
-    pub resolve-is : k ≡ Resolve → stepBy ts k (stateIn w n ws st) x ≡ calculus.resolve ts (trailIn w n ws (st .count)) (conflictIn w n ws) (x .term)
+    -- the answer to one step is the answer to an equal one
+    by : {a b : calculus.Answer} → b ≡ a → Answered a → Answered b
+    by e h = subst Answered (sym e) h
+
+    abbrev its-step : calculus.Answer
+    its-step = stepBy ts k (stateIn w n ws st) x
+
+    pub decide-by : k ≡ Decide → Answered (calculus.decide ts here (x .term) (x .value)) → Answered its-step
     unfolding stepBy
-    resolve-is e = rw (e, in-conflict w n ws st q)
+    decide-by e h = by (rw (e, trail-there w n ws st)) h
 
-    pub clear-is : k ≡ Clear → stepBy ts k (stateIn w n ws st) x ≡ calculus.clear ts (trailIn w n ws (st .count)) (conflictIn w n ws) (x .term)
+    pub deduce-by : k ≡ Deduce → Answered (calculus.deduce ts here (x .rule) (x .term) (x .value) (premises x)) → Answered its-step
     unfolding stepBy
-    clear-is e = rw (e, in-conflict w n ws st q)
+    deduce-by e h = by (rw (e, trail-there w n ws st)) h
 
-    pub jump-is : k ≡ Jump → stepBy ts k (stateIn w n ws st) x ≡ calculus.jump ts (trailIn w n ws (st .count)) (conflictIn w n ws) (x .term)
+    pub clash-by : k ≡ Clash → Answered (calculus.clash ts here (x .rule) (x .term) (x .value) (premises x)) → Answered its-step
     unfolding stepBy
-    jump-is e = rw (e, in-conflict w n ws st q)
+    clash-by e h = by (rw (e, trail-there w n ws st)) h
 
-    pub flip-is : k ≡ Flip → stepBy ts k (stateIn w n ws st) x ≡ calculus.flip ts (trailIn w n ws (st .count)) (conflictIn w n ws) (x .term) (x .p)
+    -- a step that needs a conflict finds one
+    in-a-conflict : (j : Kind) → needsConflict j ≡ true → k ≡ j → stateIn w n ws st ≡ calculus.conflict here set
+    in-a-conflict j e q = in-conflict w n ws st (asked-conflict j e q .conflict)
+
+    pub resolve-by : k ≡ Resolve → Answered (calculus.resolve ts here set (x .term)) → Answered its-step
     unfolding stepBy
-    flip-is e = rw (e, in-conflict w n ws st q)
+    resolve-by e h = by (rw (in-a-conflict Resolve refl e, e)) h
+
+    pub clear-by : k ≡ Clear → Answered (calculus.clear ts here set (x .term)) → Answered its-step
+    unfolding stepBy
+    clear-by e h = by (rw (in-a-conflict Clear refl e, e)) h
+
+    pub jump-by : k ≡ Jump → Answered (calculus.jump ts here set (x .term)) → Answered its-step
+    unfolding stepBy
+    jump-by e h = by (rw (in-a-conflict Jump refl e, e)) h
+
+    pub flip-by : k ≡ Flip → Answered (calculus.flip ts here set (x .term) (x .p)) → Answered its-step
+    unfolding stepBy
+    flip-by e h = by (rw (in-a-conflict Flip refl e, e)) h
+
+  pub unlisted-by : k ≡ Unlisted → Answers w n ts ws ws (stepBy ts k (stateIn w n ws st) x) (Refused 9)
+  unfolding stepBy Answers
+  unlisted-by e = (rw e, refl)
 
 -- ---- a row: the first test that fails decides, and then its step
 
@@ -142,11 +175,11 @@ module _ (w n : ℕ) (ts ws : List ℕ) (st : Status) (x : Step) {k : Kind} (e :
 
       pub answer-10 : not b ≡ true → Answers w n ts ws ws the-step (Refused 10)
       unfolding Answers
-      answer-10 h = (step-10 ts _ x e is-shaped (ready-there w n ts ws st x k ∙ sym b-is ∙ not-true _ h), refl)
+      answer-10 h = (step-10 ts _ x e is-shaped (ready-there w n ts ws st k ∙ sym b-is ∙ not-true _ h), refl)
 
       module _ (b-in : not b ≡ false) {c : Bool} (c-is : c ≡ known ts x) where
         is-ready : ready (stateIn w n ws st) k ≡ true
-        is-ready = ready-there w n ts ws st x k ∙ sym b-is ∙ not-false _ b-in
+        is-ready = ready-there w n ts ws st k ∙ sym b-is ∙ not-false _ b-in
 
         pub answer-11 : not c ≡ true → Answers w n ts ws ws the-step (Refused 11)
         unfolding Answers
@@ -156,9 +189,8 @@ module _ (w n : ℕ) (ts ws : List ℕ) (st : Status) (x : Step) {k : Kind} (e :
           is-known : known ts x ≡ true
           is-known = sym c-is ∙ not-false _ c-in
 
-          pub asked-by : Standing w n ts ws st
-              → Standing w n ts ws st × (shaped x k ≡ true) × (ready (stateIn w n ws st) k ≡ true) × (known ts x ≡ true)
-          asked-by s = (s, is-shaped, is-ready, is-known)
+          pub asked-by : Standing w n ts ws st → Asked w n ts ws st x k
+          asked-by s = record { standing = s; shape = is-shaped; suits = is-ready; rows = is-known }
 
           pub answer-by : (vs : List ℕ) (r : Answer) → Answers w n ts ws vs (stepBy ts k (stateIn w n ws st) x) r → Answers w n ts ws vs the-step r
-          answer-by vs r h = by w n ts ws vs r (step-on ts _ x e is-shaped is-ready is-known) h
+          answer-by vs r h = subst (λ a. Answers w n ts ws vs a r) (sym (step-on ts _ x e is-shaped is-ready is-known)) h

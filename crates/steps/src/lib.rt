@@ -1,8 +1,9 @@
 // One step of a log: the numbers 9, 10, 11, and then the step of its kind.
 ghost use mathlib.Core.Path.{_≡_};
-ghost use mathlib.Core.Bool.{true, not, cond};
-ghost use Rattle.calculus.specs.Steps.{needsConflict, shaped, ready, known, stepBy, step};
+ghost use mathlib.Core.Bool.{not, cond};
+ghost use Rattle.calculus.specs.Steps.{needsConflict, stepBy, step};
 ghost use Rattle.state.specs.States.{stateIn, Standing, Answers};
+ghost use Rattle.steps.specs.Asked.{Asked};
 use calculus::Kind;
 use calculus::Row;
 use calculus::Step;
@@ -46,8 +47,9 @@ fn step_by(
     x: Step,
     k: Kind,
 ) -> Answer
-    requires { ⌜ Standing w n (now terms) (now work) st × (shaped x k ≡ true) × (ready (stateIn w n (now work) st) k ≡ true) × (known (now terms) x ≡ true) ⌝ }
-    ensures { λ r. ⌜ Answers w n (now (terms .entry)) (now (work .entry)) (now (work .exit)) (stepBy (now (terms .entry)) k (stateIn w n (now (work .entry)) st) x) r ⌝ }
+    requires { ⌜ Asked w n (now terms) (now work) st x k ⌝ }
+    ensures { λ r. ⌜ Answers w n (now (terms .entry)) (now (work .entry)) (now (work .exit))
+        (stepBy (now (terms .entry)) k (stateIn w n (now (work .entry)) st) x) r ⌝ }
 {
     match k {
         Kind::Decide => search_steps::decide(terms, work, w, n, st, Row(x.term), x.value),
@@ -64,7 +66,8 @@ fn step_by(
 // One step row: what it answers is what the definition says, and an allowed one leaves its state in the words.
 pub fn step(terms: &[u16], work: &mut [u64], w: usize, n: usize, st: Status, x: Step) -> Answer
     requires { ⌜ Standing w n (now terms) (now work) st ⌝ }
-    ensures { λ r. ⌜ Answers w n (now (terms .entry)) (now (work .entry)) (now (work .exit)) (step (now (terms .entry)) (stateIn w n (now (work .entry)) st) x) r ⌝ }
+    ensures { λ r. ⌜ Answers w n (now (terms .entry)) (now (work .entry)) (now (work .exit))
+        (step (now (terms .entry)) (stateIn w n (now (work .entry)) st) x) r ⌝ }
 {
     let k = rows::kind_of(x.step);
     if !step_rows::shaped(x, k) {

@@ -7,7 +7,10 @@ level-requires : tie.Need-level-requires
 level-requires c κs = search needs
 
 returns : tie.Need-returns
-returns c = rw (c .before .before .level .ensures (c .before .before .before .before .before .pre .2), c .before .before .before .before .before .pre .3)
+returns c =
+    let found = c .before .before in
+    let start = found .before .before .before in
+    rw (found .level .ensures (start .pre .0 .stands), start .pre .1)
 
 pub above-rest-spec : {M : Type 1} → statement M
 above-rest-spec = tie.close (tie.spec level-requires returns)

@@ -7,7 +7,9 @@ place-requires : tie.Need-place-requires
 place-requires c κs = search needs
 
 level-of-requires : tie.Need-level-of-requires
-level-of-requires c κs = rw (c .place .ensures) (c .before .before .before .pre .laid, c .before .before .before .pre .laid .enough, c .before .before .before .pre .within)
+level-of-requires c κs =
+    let start = c .before .before .before in
+    rw (c .place .ensures) (start .pre .laid, start .pre .laid .enough, start .pre .within)
 
 returns : tie.Need-returns
 returns c = rw (c .before .place .ensures) at (c .level-of .ensures)

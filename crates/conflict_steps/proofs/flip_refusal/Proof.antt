@@ -1,6 +1,6 @@
 -- `conflict_steps::flip_refusal` meets its contract.
-use Rattle.conflict_steps.proofs.Laws.{member-in}
-use Rattle.conflict_steps.proofs.Tests.{told, flip-17-l, flip-17-k, flip-22, flip-18-l, flip-18-k, flip-23-same, flip-23-apart, flip-0}
+use Rattle.conflict_steps.proofs.Laws.{placed, justified}
+use Rattle.conflict_steps.proofs.Tests.{flip-17-l, flip-17-k, flip-22, flip-18-l, flip-18-k, flip-23-same, flip-23-apart, flip-0}
 use borrow.Author.Needs.{needs}
 use Rattle.conflict_steps.proofs.flip_refusal.Statement.{statement}
 use Rattle.conflict_steps.proofs.flip_refusal.Tie as tie
@@ -40,13 +40,17 @@ returns-6 c = search flip-23-same
 
 share-requires : tie.Need-share-requires
 share-requires c κs =
-    let tested = c .before .before .before .before .before .before .before .before .before in
-    let p = tested .before .before .before .before .before .before .pre in
-    let l-on = member-in _ _ _ _ _ (p .0) _ (tested .before .before .before .in-conflict .ensures) (tested .before .before .if1 .left) in
-    let k-on = member-in _ _ _ _ _ (p .0) _ (tested .before .in-conflict2 .ensures) (tested .if2 .left) in
-    let l-why = told (c .before .before .before .before .before .before .decided .ensures) (c .before .before .before .before .before .if4 .left) in
-    let k-why = told (c .before .before .before .before .decided2 .ensures) (c .before .before .before .if5 .left) in
-    (p .0, p .1, p .2, l-on, k-on, l-why, k-why, p .3)
+    let k-tested = c .before .before .before in
+    let l-tested = k-tested .before .before in
+    let both = l-tested .before .before .before .before in
+    let first = both .before .before in
+    let start = first .before .before .before .before .pre in
+    let l-placed = placed _ _ _ _ _ _ (start .0) (start .1) (first .before .in-conflict .ensures) (first .if1 .left) in
+    let k-placed = placed _ _ _ _ _ _ (start .0) (start .2) (both .before .in-conflict2 .ensures) (both .if2 .left) in (
+      justified _ _ _ _ _ _ l-placed (l-tested .before .decided .ensures) (l-tested .if4 .left),
+      justified _ _ _ _ _ _ k-placed (k-tested .before .decided2 .ensures) (k-tested .if5 .left),
+      start .3,
+    )
 
 returns-7 : tie.Need-returns-7
 returns-7 c = search flip-23-apart

@@ -1,9 +1,6 @@
 -- `conflict_steps::jump_refusal` meets its contract.
-use Rattle.conflict_steps.proofs.Laws.{member-on}
-use Rattle.calculus.specs.Steps.{jumpRefusal}
-use mathlib.Core.Path.{sym, _∙_}
-use borrow.Author.Tests.{not-true, not-false}
-use Rattle.calculus.proofs.Facts.{unless-yes, unless-no}
+use Rattle.conflict_steps.proofs.Laws.{placed}
+use Rattle.conflict_steps.proofs.Tests.{jump-17, jump-22, jump-21, jump-0}
 use borrow.Author.Needs.{needs}
 use Rattle.conflict_steps.proofs.jump_refusal.Statement.{statement}
 use Rattle.conflict_steps.proofs.jump_refusal.Tie as tie
@@ -12,26 +9,22 @@ in-conflict-requires : tie.Need-in-conflict-requires
 in-conflict-requires c κs = search needs
 
 returns : tie.Need-returns
-unfolding jumpRefusal
-returns c = sym (unless-no _ _ (sym (c .before .in-conflict .ensures) ∙ not-true _ (c .if1 .taken)))
+returns c = search jump-17
 
 is-prop-requires : tie.Need-is-prop-requires
 is-prop-requires c κs = search needs
 
 returns-2 : tie.Need-returns-2
-unfolding jumpRefusal
-returns-2 c = sym (unless-yes _ _ (sym (c .before .before .before .in-conflict .ensures) ∙ not-false _ (c .before .before .if1 .left)) ∙ unless-no _ _ (sym (c .before .is-prop .ensures) ∙ not-true _ (c .if2 .taken)))
+returns-2 c = search jump-22
 
 above-rest-requires : tie.Need-above-rest-requires
-above-rest-requires c κs = (c .before .before .before .before .before .before .pre .0, c .before .before .before .before .before .before .pre .1, member-on _ _ _ _ _ (c .before .before .before .before .before .before .pre .0) _ (c .before .before .before .in-conflict .ensures) (not-false _ (c .before .before .if1 .left)), c .before .before .before .before .before .before .pre .2)
+above-rest-requires c κs = (search placed, search needs)
 
 returns-3 : tie.Need-returns-3
-unfolding jumpRefusal
-returns-3 c = sym (unless-yes _ _ (sym (c .before .before .before .before .before .in-conflict .ensures) ∙ not-false _ (c .before .before .before .before .if1 .left)) ∙ unless-yes _ _ (sym (c .before .before .before .is-prop .ensures) ∙ not-false _ (c .before .before .if2 .left)) ∙ unless-no _ _ (sym (c .before .above-rest .ensures) ∙ not-true _ (c .if3 .taken)))
+returns-3 c = search jump-21
 
 returns-4 : tie.Need-returns-4
-unfolding jumpRefusal
-returns-4 c = sym (unless-yes _ _ (sym (c .before .before .before .before .before .in-conflict .ensures) ∙ not-false _ (c .before .before .before .before .if1 .left)) ∙ unless-yes _ _ (sym (c .before .before .before .is-prop .ensures) ∙ not-false _ (c .before .before .if2 .left)) ∙ unless-yes _ _ (sym (c .before .above-rest .ensures) ∙ not-false _ (c .if3 .left)))
+returns-4 c = search jump-0
 
 pub jump-refusal-spec : {M : Type 1} → statement M
 jump-refusal-spec =

@@ -1,10 +1,6 @@
 -- `conflict_steps::resolve_refusal` meets its contract.
-use Rattle.conflict_steps.proofs.Laws.{member-on}
-use Rattle.calculus.specs.Steps.{resolveRefusal}
-use mathlib.Core.Bool.{not}
-use mathlib.Core.Path.{sym, ap, _∙_}
-use borrow.Author.Tests.{not-true, not-false}
-use Rattle.calculus.proofs.Facts.{unless-yes, unless-no}
+use Rattle.conflict_steps.proofs.Laws.{placed, justified}
+use Rattle.conflict_steps.proofs.Tests.{resolve-17, resolve-18, resolve-19, resolve-0}
 use borrow.Author.Needs.{needs}
 use Rattle.conflict_steps.proofs.resolve_refusal.Statement.{statement}
 use Rattle.conflict_steps.proofs.resolve_refusal.Tie as tie
@@ -13,26 +9,22 @@ in-conflict-requires : tie.Need-in-conflict-requires
 in-conflict-requires c κs = search needs
 
 returns : tie.Need-returns
-unfolding resolveRefusal
-returns c = sym (unless-no _ _ (sym (c .before .in-conflict .ensures) ∙ not-true _ (c .if1 .taken)))
+returns c = search resolve-17
 
 decided-requires : tie.Need-decided-requires
 decided-requires c κs = search needs
 
 returns-2 : tie.Need-returns-2
-unfolding resolveRefusal
-returns-2 c = sym (unless-yes _ _ (sym (c .before .before .before .in-conflict .ensures) ∙ not-false _ (c .before .before .if1 .left)) ∙ unless-no _ _ (ap not (sym (c .before .decided .ensures) ∙ c .if2 .taken)))
+returns-2 c = search resolve-18
 
 barred-requires : tie.Need-barred-requires
-barred-requires c κs = (c .before .before .before .before .before .before .pre .0, c .before .before .before .before .before .before .pre .1, member-on _ _ _ _ _ (c .before .before .before .before .before .before .pre .0) _ (c .before .before .before .in-conflict .ensures) (not-false _ (c .before .before .if1 .left)), sym (c .before .decided .ensures) ∙ c .if2 .left)
+barred-requires c κs = justified _ _ _ _ _ _ (search placed) (c .before .decided .ensures) (c .if2 .left)
 
 returns-3 : tie.Need-returns-3
-unfolding resolveRefusal
-returns-3 c = sym (unless-yes _ _ (sym (c .before .before .before .before .before .in-conflict .ensures) ∙ not-false _ (c .before .before .before .before .if1 .left)) ∙ unless-yes _ _ (ap not (sym (c .before .before .before .decided .ensures) ∙ c .before .before .if2 .left)) ∙ unless-no _ _ (ap not (sym (c .before .barred .ensures) ∙ c .if3 .taken)))
+returns-3 c = search resolve-19
 
 returns-4 : tie.Need-returns-4
-unfolding resolveRefusal
-returns-4 c = sym (unless-yes _ _ (sym (c .before .before .before .before .before .in-conflict .ensures) ∙ not-false _ (c .before .before .before .before .if1 .left)) ∙ unless-yes _ _ (ap not (sym (c .before .before .before .decided .ensures) ∙ c .before .before .if2 .left)) ∙ unless-yes _ _ (ap not (sym (c .before .barred .ensures) ∙ c .if3 .left)))
+returns-4 c = search resolve-0
 
 pub resolve-refusal-spec : {M : Type 1} → statement M
 resolve-refusal-spec =

@@ -7,7 +7,9 @@ place-requires : tie.Need-place-requires
 place-requires c κs = search needs
 
 level-without-requires : tie.Need-level-without-requires
-level-without-requires c κs = rw (c .place .ensures) (c .before .before .before .pre .laid, c .before .before .before .pre .laid .enough, c .before .before .before .pre .within)
+level-without-requires c κs =
+    let start = c .before .before .before in
+    rw (c .place .ensures) (start .pre .laid, start .pre .laid .enough, start .pre .within)
 
 returns : tie.Need-returns
 returns c = rw (c .before .place .ensures) at (c .level-without .ensures)

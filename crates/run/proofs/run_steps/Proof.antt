@@ -1,21 +1,17 @@
 -- `run::run_steps` meets its contract.
-use Rattle.run.proofs.Laws.{Running, runs-out, goes-on, stops, answered, starts}
-use Rattle.run.specs.Ends.{Ends}
-use Rattle.state.specs.States.{stateIn}
-use Rattle.calculus.specs.Run.{run}
-use Rattle.calculus.specs.Steps.{step}
-use Rattle.calculus.specs.Sheets.{stepRows}
+use Rattle.run.proofs.Laws.{Running, runs-out, goes-on, stops, starts}
+use Rattle.run.specs.Ends.{runIn}
 use lib.ListN.{length}
 use Prim.Native.Nat.{_≤_, _-_}
 use native.Mathlib.Omega.{arith}
-use mathlib.Core.Path.{_≡_, refl, sym, subst}
+use mathlib.Core.Path.{_≡_, refl}
 use borrow.Author.Needs.{needs}
 use Rattle.run.proofs.run_steps.Statement.{statement}
 use Rattle.run.proofs.run_steps.Tie as tie
 
 abbrev Inv-loop : tie.InvT-loop
 Inv-loop terms steps work₀ w n count here₀ k₀ work here k =
-    (k ≤ count) × (length work ≡ length work₀) × Running w n terms steps (run terms steps (stateIn w n work₀ here₀) 0 (stepRows steps)) work here k
+    (k ≤ count) × (length work ≡ length work₀) × Running w n terms steps (runIn w n terms steps work₀ here₀) work here k
 
 abbrev μ-loop : tie.MeasureT-loop
 μ-loop terms steps work₀ w n count here₀ k₀ work here k = count - k
@@ -42,7 +38,7 @@ same-length : tie.Need-same-length Inv-loop μ-loop
 same-length c = omega arith
 
 returns : tie.Need-returns Inv-loop μ-loop
-returns c = subst (Ends _ _ _ _ _) (sym (c .stopped .ensures)) (stops _ _ _ _ _ _ _ (c .before .before .before .before .before .before .before .before .loop .k) (c .before .before .before .before .before .before .before .before .loop .inv .2) _ (omega arith) _ (c .before .match .keys2) (answered _ _ _ _ _ _ (c .before .before .before .before .before .before .step-at .ensures) refl (c .before .before .before .before .step .ensures)))
+returns c = search stops
 
 add-k : tie.Need-add-k Inv-loop μ-loop
 add-k c = omega arith
@@ -51,7 +47,12 @@ loop-less : tie.Need-loop-less Inv-loop μ-loop
 loop-less c = omega arith
 
 loop-again : tie.Need-loop-again Inv-loop μ-loop
-loop-again c = (omega arith, omega arith, goes-on _ _ _ _ _ _ _ (c .before .before .before .before .before .before .before .before .before .loop .k) (c .before .before .before .before .before .before .before .before .before .loop .inv .2) _ (omega arith) _ (answered _ _ _ _ _ _ (c .before .before .before .before .before .before .before .step-at .ensures) (c .before .a .given .1) (c .before .before .before .before .before .step .ensures)))
+loop-again c =
+    let stepped = c .before .before .before .before .before in
+    let read = stepped .before .before in
+    let loop = read .before .before .loop in
+    let gone = goes-on _ _ _ _ _ _ _ (loop .k) (loop .inv .2) _ (omega arith) (read .step-at .ensures) _ (stepped .step .ensures) (c .before .a .given .1) in
+    (omega arith, omega arith, gone)
 
 cast-t19 : tie.Need-cast-t19 Inv-loop μ-loop
 cast-t19 c = omega (arith, c .before .before .before .before .before .pre .1)

@@ -1,5 +1,5 @@
 -- `search_steps::claim` meets its contract.
-use Rattle.rules.proofs.Laws.{premises-looked}
+use Rattle.rule_claims.proofs.Laws.{premises-looked}
 use mathlib.Core.Path.{refl}
 use borrow.Author.Needs.{needs}
 use Rattle.search_steps.proofs.claim.Statement.{statement}
@@ -28,7 +28,13 @@ returns c =
     let r = c .before .before .premise3 .ensures in
     let s = c .before .premise4 .ensures in
     let t = c .premise5 .ensures in
-    record { term = refl; value = refl; premises = premises-looked _ _ (k .args .x) _ _ _ _ _ (p .0) (q .0) (r .0) (s .0) (t .0) (p .1, (q .1, (r .1, (s .1, (t .1, tt))))) (k .pre .1) }
+    record {
+      term = refl;
+      value = refl;
+      premises =
+          premises-looked _ _ (k .args .x) _ _ _ _ _ (p .0) (q .0) (r .0) (s .0) (t .0)
+          (p .1, (q .1, (r .1, (s .1, (t .1, tt))))) (k .pre .stand);
+    }
 
 pub claim-spec : {M : Type 1} → statement M
 claim-spec =

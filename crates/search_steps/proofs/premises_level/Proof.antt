@@ -20,7 +20,7 @@ returns c =
     let k = c .before .before .before .before in
     let x = k .args .x in
     let q = c .before .more-level .ensures (x .r ∷ x .s ∷ x .t ∷ []) (c .before .before .late-level .ensures) in
-    c .more-level2 .ensures (x .q ∷ x .r ∷ x .s ∷ x .t ∷ []) q (k .pre .1)
+    c .more-level2 .ensures (x .q ∷ x .r ∷ x .s ∷ x .t ∷ []) q (k .pre .stand)
 
 pub premises-level-spec : {M : Type 1} → statement M
 premises-level-spec =

@@ -29,9 +29,9 @@ step-by-requires : tie.Need-step-by-requires
 step-by-requires c κs =
     let shape = c .before .before .before .before .before in
     let start = shape .before .before .before .before .before in
+    let suits = c .before .before .before in
     asked-by _ _ _ _ _ _ (shape .before .before .kind-of .ensures) (shape .before .shaped .ensures) (shape .if1 .left)
-    (c .before .before .before .before .is-ready .ensures) (c .before .before .before .if2 .left)
-    (c .before .before .known .ensures) (c .before .if3 .left) (start .pre)
+    (suits .before .is-ready .ensures) (suits .if2 .left) (c .before .before .known .ensures) (c .before .if3 .left) (start .pre)
 
 same-length : tie.Need-same-length
 same-length c = search needs

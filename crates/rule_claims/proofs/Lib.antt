@@ -1,0 +1,2 @@
+-- Laws of a claim's premises.
+pub mod Laws

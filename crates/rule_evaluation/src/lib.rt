@@ -1,0 +1,113 @@
+// From all arguments of not, and, or to its value: eval.
+ghost use mathlib.Core.Path.{_≡_};
+ghost use mathlib.Core.List.{List, _∷_, map};
+ghost use Prim.Native.Nat.{ℕ};
+ghost use Rattle.calculus.specs.declared.Premise.{Premise};
+ghost use Rattle.calculus.specs.declared.Rule.the-variants.{Evaluation};
+ghost use Rattle.calculus.specs.Lists.{num, eqList};
+ghost use Rattle.calculus.specs.Terms.{filled, argsOf};
+ghost use Rattle.calculus.specs.Rules.{rowOf, valueOf, notOf, andOf, orOf, evaluates};
+ghost use Rattle.rule_claims.specs.Claims.{stated, premisesOf, allows};
+use calculus::Premise;
+use calculus::Row;
+use calculus::Term;
+use rows::BLANK;
+use rows::term_at;
+use rule_claims::AND;
+use rule_claims::Claim;
+use rule_claims::NOT;
+use rule_claims::OR;
+
+// The premises' rows are the arguments: premise p and argument a in front of the rest.
+fn more_same(p: Premise, a: u16, rest: bool) -> bool
+    ensures { λ r. ⌜ ((ps : List Premise) (xs : List ℕ) → rest ≡ eqList (map rowOf (stated ps)) (filled xs) → r ≡ eqList (map rowOf (stated (p ∷ ps))) (filled (a ∷ xs))) ⌝ }
+{
+    (p.row == a) & ((p.row == BLANK) | rest)
+}
+
+// All premises are true: p in front of the rest.
+fn more_and(p: Premise, rest: bool) -> bool
+    ensures { λ r. ⌜ ((ps : List Premise) → rest ≡ andOf (map valueOf (stated ps)) → r ≡ andOf (map valueOf (stated (p ∷ ps)))) ⌝ }
+{
+    (p.row == BLANK) | ((p.value == 1) & rest)
+}
+
+// Some premise is true: p in front of the rest.
+fn more_or(p: Premise, rest: bool) -> bool
+    ensures { λ r. ⌜ ((ps : List Premise) → rest ≡ orOf (map valueOf (stated ps)) → r ≡ orOf (map valueOf (stated (p ∷ ps)))) ⌝ }
+{
+    !(p.row == BLANK) & ((p.value == 1) | rest)
+}
+
+// The premises' rows are the term's arguments.
+fn same_rows(e: Term, x: Claim) -> bool
+    ensures { λ r. ⌜ r ≡ eqList (map rowOf (premisesOf x)) (argsOf e) ⌝ }
+{
+    let d = more_same(x.s, e.d, x.t.row == BLANK);
+    let c = more_same(x.r, e.c, d);
+    let b = more_same(x.q, e.b, c);
+    more_same(x.p, e.a, b)
+}
+
+// What not makes of the premises' values.
+fn first_false(x: Claim) -> bool
+    ensures { λ r. ⌜ r ≡ notOf (map valueOf (premisesOf x)) ⌝ }
+{
+    !(!(x.p.row == BLANK) & (x.p.value == 1))
+}
+
+// What and makes of them.
+fn all_true(x: Claim) -> bool
+    ensures { λ r. ⌜ r ≡ andOf (map valueOf (premisesOf x)) ⌝ }
+{
+    let t = more_and(x.t, true);
+    let s = more_and(x.s, t);
+    let r = more_and(x.r, s);
+    let q = more_and(x.q, r);
+    more_and(x.p, q)
+}
+
+// What or makes of them.
+fn any_true(x: Claim) -> bool
+    ensures { λ r. ⌜ r ≡ orOf (map valueOf (premisesOf x)) ⌝ }
+{
+    let t = more_or(x.t, false);
+    let s = more_or(x.s, t);
+    let r = more_or(x.r, s);
+    let q = more_or(x.q, r);
+    more_or(x.p, q)
+}
+
+// A truth value as a number.
+fn number(b: bool) -> u16
+    ensures { λ r. ⌜ r ≡ num b ⌝ }
+{
+    if b { 1 } else { 0 }
+}
+
+// Whether head h over the premises' values has the claim's value.
+fn evaluates(h: u16, x: Claim) -> bool
+    ensures { λ r. ⌜ r ≡ evaluates h (map valueOf (premisesOf x)) (x .value) ⌝ }
+{
+    if h == NOT {
+        return x.value == number(first_false(x));
+    }
+    if h == AND {
+        return x.value == number(all_true(x));
+    }
+    if h == OR {
+        return x.value == number(any_true(x));
+    }
+    false
+}
+
+// All arguments give not, and, or its value.
+pub fn eval(terms: &[u16], x: Claim) -> bool
+    ensures { λ r. ⌜ r ≡ allows (now (terms .entry)) Evaluation x ⌝ }
+{
+    let l = term_at(terms, x.term);
+    if !same_rows(l, x) {
+        return false;
+    }
+    evaluates(l.head, x)
+}

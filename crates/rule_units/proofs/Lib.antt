@@ -1,0 +1,2 @@
+-- Laws of the lists that the rules of this crate go through.
+pub mod Laws
