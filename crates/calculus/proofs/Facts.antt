@@ -7,7 +7,7 @@ use Prim.Native.Nat.{ℕ, zero, suc, _<_}
 use native.Mathlib.Omega.{arith}
 use native.Mathlib.Nat.{not-suc-le-zero, suc-ne-zero}
 use native.Mathlib.Decide.{decLt}
-use lib.Dec.{T, eqb, leb, ltb, eqb→eq, leb→le, ltb→lt, eqb-refl, T-not}
+use lib.Dec.{T, eqb, eqb→eq, leb→le, ltb→lt, eqb-refl, T-not}
 use Rattle.calculus.specs.Lists.{all, any, has, below}
 use Rattle.calculus.specs.Numbers.{unless, orElse, firstRefusal}
 use Rattle.calculus.specs.Steps.{Answer, refused, answer}

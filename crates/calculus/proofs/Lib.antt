@@ -1,5 +1,6 @@
 -- Laws of the definitions, and what is proved of them.
 pub mod Facts
+pub mod Forms
 pub mod Entries
 pub mod WellSorted
 pub mod WellFormed

@@ -126,5 +126,5 @@ asked r = r .result ++ Run.written (r .left) (replicate 32 9) ++ replicate 76 0
 
 -- each run gives what the table asks
 pub starred : map given table ≡ map asked table
-unfolding Lists.firstWhere Numbers.unless Numbers.orElse Numbers.firstRefusal Sheets.lengthRefusal Sorts.isArray Sorts.isPlain Sorts.sortRefusal Sorts.sortsRefusal Terms.cells Terms.args Terms.arg Terms.earlier Terms.sameUse Terms.firstUse Terms.suits Terms.twins Terms.fresh Terms.termRefusal Terms.termsRefusal Trail.on Trail.entry Trail.holds Trail.levelOf Trail.keptTo Trail.trailNumbersOf Inputs.inputTrail Inputs.inputRefusal Inputs.inputsRefusal Rules.ruleOf Rules.bare Rules.single Rules.double Rules.leading Rules.fits Steps.answer Steps.premises Steps.kindOf Steps.shaped Steps.ready Steps.known Steps.decideRefusal Steps.decide Steps.inferenceRefusal Steps.deduceRefusal Steps.deduce Steps.clashRefusal Steps.clashed Steps.clash Steps.resolveRefusal Steps.resolve Steps.clearRefusal Steps.clear Steps.jumpRefusal Steps.jump Steps.flipRefusal Steps.flip Steps.rowRefusal Steps.stepBy Steps.step Run.follow Run.run Run.sheetsRefusal Run.callRefusal Run.endingOf Run.ending Run.outcome Run.trailAfter Run.workAfter
+unfolding Lists.firstWhere Numbers.unless Numbers.orElse Numbers.firstRefusal Sheets.lengthRefusal Sorts.isArray Sorts.isPlain Sorts.sortRefusal Sorts.sortsRefusal Terms.cells Terms.args Terms.arg Terms.earlier Terms.sameUse Terms.firstUse Terms.suits Terms.twins Terms.fresh Terms.termRefusal Terms.termsRefusal Trail.on Trail.entry Trail.holds Trail.levelOf Trail.keptTo Trail.trailNumbersOf Inputs.inputTrail Inputs.inputRefusal Inputs.inputsRefusal Rules.ruleOf Rules.bare Rules.single Rules.double Rules.leading Rules.unitAt Rules.fits Steps.answer Steps.premises Steps.kindOf Steps.shaped Steps.ready Steps.known Steps.decideRefusal Steps.decide Steps.inferenceRefusal Steps.deduceRefusal Steps.deduce Steps.clashRefusal Steps.clashed Steps.clash Steps.resolveRefusal Steps.resolve Steps.clearRefusal Steps.clear Steps.jumpRefusal Steps.jump Steps.flipRefusal Steps.flip Steps.rowRefusal Steps.stepBy Steps.step Run.follow Run.run Run.sheetsRefusal Run.callRefusal Run.endingOf Run.ending Run.outcome Run.trailAfter Run.workAfter
 starred = refl

@@ -1,16 +1,17 @@
 -- The thirteen rules: when a rule gives term l the value v from the premises ps, in their order.
 use mathlib.Core.Bool.{Bool, true, false, not, _&&_, _||_}
-use mathlib.Core.List.{List, [], _∷_, map}
-use Prim.Native.Nat.{ℕ, _+_}
-use lib.ListN.{length, getD}
-use lib.Dec.{eqb, leb, ltb}
+use mathlib.Core.List.{List, [], _∷_, _++_, map}
+use Prim.Native.Nat.{ℕ, suc, _+_}
+use lib.ListN.{length, getD, take, drop}
+use lib.Dec.{eqb, ltb}
 use Rattle.calculus.specs.declared.Premise.{Premise}
 use Rattle.calculus.specs.declared.Fit.{Fit}
 use Rattle.calculus.specs.declared.Fit.the-variants.{Fits, Unfit}
 use Rattle.calculus.specs.declared.Rule.{Rule}
 use Rattle.calculus.specs.declared.Rule.the-variants.{Same, Differ, Reflexivity, Symmetry, Transitivity, Negated, Part, Unit, Evaluation, Congruence, Predicate, Read, Skip, Unlisted}
-use Rattle.calculus.specs.Lists.{all, any, has, eqList, num, isTrue}
-use Rattle.calculus.specs.Terms.{head, args, arg, eqHead, notHead, andHead, orHead, selectHead, storeHead, firstFree}
+use Rattle.calculus.specs.Lists.{all, any, has, eqList, somewhere, num, isTrue}
+use Rattle.calculus.specs.Sheets.{blank}
+use Rattle.calculus.specs.Terms.{head, args, arg, headOf, isFree, isFunction, eqHead, notHead, andHead, orHead, selectHead, storeHead}
 
 -- ---- the rules' numbers
 
@@ -87,14 +88,13 @@ others w [] (p ∷ ps) = false
 others w (a ∷ xs) [] = false
 others w (a ∷ xs) (p ∷ ps) = gives a w p && others w xs ps
 
-abbrev pub unitHere : ℕ → ℕ → ℕ → List ℕ → List Premise → Bool
-unitHere w l a xs ps = eqb a l && others w xs ps
+-- xs without the one at position k
+abbrev pub allBut : ℕ → List ℕ → List ℕ
+allBut k xs = take k xs ++ drop (suc k) xs
 
--- l stands at some position of xs, and ps are the arguments at all the others, each with value w
-abbrev pub unitAt : ℕ → ℕ → List ℕ → List Premise → Bool
-unitAt w l [] ps = false
-unitAt w l (a ∷ xs) [] = unitHere w l a xs []
-unitAt w l (a ∷ xs) (p ∷ ps) = unitHere w l a xs (p ∷ ps) || (gives a w p && unitAt w l xs ps)
+-- at some position of xs stands l, and ps are the rows at all other positions, each with value w
+unfoldable pub unitAt : ℕ → ℕ → List ℕ → List Premise → Bool
+unitAt w l xs ps = somewhere (length xs) (λ k. eqb (getD xs k blank) l && others w (allBut k xs) ps)
 
 -- ---- the rules
 
@@ -119,10 +119,6 @@ module _ (ts : List ℕ) where
   pairs (a ∷ xs) (b ∷ ys) [] = false
   pairs (a ∷ xs) (b ∷ ys) (p ∷ ps) = equates a b 1 p && pairs xs ys ps
 
-  -- p is a term with head h and value w, and the value v that is given is x
-  abbrev pub connected : ℕ → Premise → ℕ → ℕ → ℕ → Bool
-  connected h p w v x = isHead (p .row) h && (eqb (p .value) w && eqb v x)
-
   unfoldable pub fits : Rule → ℕ → ℕ → List Premise → Bool
   -- t, u with equal values give t = u true
   fits Same l v ps = double ps (λ p q. isEq l (p .row) (q .row) && (eqb (p .value) (q .value) && eqb v 1))
@@ -140,12 +136,16 @@ module _ (ts : List ℕ) where
   -- not(l) gives l the other value
   fits Negated l v ps = single ps (λ p. isHead (p .row) notHead && (eqb (arg ts (p .row) 0) l && eqb (p .value + v) 1))
   -- or false gives an argument false, and true gives one true
-  fits Part l v ps = single ps (λ p. has (args ts (p .row)) l && (connected orHead p 0 v 0 || connected andHead p 1 v 1))
+  fits Part l v ps =
+      single ps (λ p.
+      has (args ts (p .row)) l
+      && ((isHead (p .row) orHead && (eqb (p .value) 0 && eqb v 0))
+      || (isHead (p .row) andHead && (eqb (p .value) 1 && eqb v 1))))
   -- or true with all other arguments false gives the remaining one true; and false with the others true gives it false
   fits Unit l v ps =
       leading ps (λ p qs.
-      (connected orHead p 1 v 1 && unitAt 0 l (args ts (p .row)) qs)
-      || (connected andHead p 0 v 0 && unitAt 1 l (args ts (p .row)) qs))
+      ((isHead (p .row) orHead && (eqb (p .value) 1 && eqb v 1)) && unitAt 0 l (args ts (p .row)) qs)
+      || ((isHead (p .row) andHead && (eqb (p .value) 0 && eqb v 0)) && unitAt 1 l (args ts (p .row)) qs))
   -- all arguments give not, and, or its value
   fits Evaluation l v ps = eqList (map rowOf ps) (args ts l) && evaluates (head ts l) (map valueOf ps) v
   -- equalities at every position give f(t..) = f(u..), where f is free, select or store
@@ -154,12 +154,12 @@ module _ (ts : List ℕ) where
       let g = arg ts l 1 in
       isHead l eqHead
       && (eqb (head ts f) (head ts g)
-      && (leb selectHead (head ts f)
+      && (isFunction (headOf (head ts f))
       && (pairs (args ts f) (args ts g) ps && eqb v 1)))
   -- p(t..) with value v, then the equalities, give p(u..) value v, where p is free
   fits Predicate l v ps =
       leading ps (λ p qs.
-      leb firstFree (head ts l)
+      isFree (headOf (head ts l))
       && (eqb (head ts (p .row)) (head ts l)
       && (eqb (p .value) v && pairs (args ts (p .row)) (args ts l) qs)))
   -- select(store(a, i, x), i) = x

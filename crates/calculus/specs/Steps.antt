@@ -1,4 +1,5 @@
 -- The seven steps: the numbers 9 to 23 in their order, and what an allowed step makes of trail and conflict.
+-- Beside each step stands the name of its transition in figure 3 of the CADE 2017 paper.
 use mathlib.Core.Bool.{Bool, true, false, not, _&&_, cond}
 use mathlib.Core.List.{List, [], _∷_}
 use Prim.Native.Nat.{ℕ, zero, suc, _+_, _-_, _*_}
@@ -90,22 +91,26 @@ decisionShaped x = isBlank (x .rule) && (isFilled (x .term) && (isFilled (x .val
 abbrev pub inferenceShaped : Step → Bool
 inferenceShaped x = ruleListed (x .rule) && (isFilled (x .term) && (leb (x .value) 1 && leftFilled (premiseCells x)))
 
--- the term, and beside it p or nothing
-abbrev pub conflictShaped : Step → Bool → Bool
-conflictShaped x withP =
+-- the term alone
+abbrev pub termShaped : Step → Bool
+termShaped x = isBlank (x .rule) && (isFilled (x .term) && (isBlank (x .value) && all isBlank (premiseCells x)))
+
+-- the term and p
+abbrev pub pairShaped : Step → Bool
+pairShaped x =
     isBlank (x .rule)
     && (isFilled (x .term)
     && (isBlank (x .value)
-    && (withP && (isBlank (x .q) && (isBlank (x .r) && (isBlank (x .s) && isBlank (x .t)))))))
+    && (isFilled (x .p) && all isBlank (x .q ∷ x .r ∷ x .s ∷ x .t ∷ []))))
 
 unfoldable pub shaped : Step → Kind → Bool
 shaped x Decide = decisionShaped x
 shaped x Deduce = inferenceShaped x
 shaped x Clash = inferenceShaped x
-shaped x Resolve = conflictShaped x (isBlank (x .p))
-shaped x Clear = conflictShaped x (isBlank (x .p))
-shaped x Jump = conflictShaped x (isBlank (x .p))
-shaped x Flip = conflictShaped x (isFilled (x .p))
+shaped x Resolve = termShaped x
+shaped x Clear = termShaped x
+shaped x Jump = termShaped x
+shaped x Flip = pairShaped x
 shaped x Unlisted = false
 
 -- ---- number 10: the first three steps need a search state, the others a conflict
@@ -129,7 +134,7 @@ ready s k = cond (needsConflict k) (inConflict s) (not (inConflict s))
 abbrev pub clashSet : ℕ → List ℕ → Set
 clashSet l ps = has (l ∷ ps)
 
--- they refute the input at level 0, and are the conflict above it
+-- at level 0 they refute the input (Fail); above it they are the conflict (ConflictSolve opens)
 unfoldable pub clashed : Trail → Set → Answer
 clashed tr E = cond (eqb (levelOf tr E) 0) refuted (allowed (conflict tr E))
 
@@ -149,7 +154,7 @@ module _ (ts : List ℕ) where
 
   -- ---- steps of the search
 
-  -- decide: the term with its value as a decision
+  -- decide (Decide): the term with its value as a decision
   unfoldable pub decideRefusal : Trail → ℕ → ℕ → ℕ
   decideRefusal tr t v =
       unless (valueSuits ts t v) 22 (
@@ -165,7 +170,7 @@ module _ (ts : List ℕ) where
       unless (all (on tr) ps) 12 (
       unless (fits ts (ruleOf r) l v (premisesAt tr ps)) 13 rest))
 
-  -- deduce: the premises justify l; neither value is there
+  -- deduce (Deduce): the premises justify l; neither value is there
   unfoldable pub deduceRefusal : Trail → ℕ → ℕ → ℕ → List ℕ → ℕ
   deduceRefusal tr r l v ps =
       inferenceRefusal tr r l v ps (
@@ -175,7 +180,7 @@ module _ (ts : List ℕ) where
   unfoldable pub deduce : Trail → ℕ → ℕ → ℕ → List ℕ → Answer
   deduce tr r l v ps = answer (deduceRefusal tr r l v ps) (allowed (searching (justified tr l v (has ps) ∷ tr)))
 
-  -- clash: the opposite is there
+  -- clash (Fail, and the opening of ConflictSolve): the opposite is there
   unfoldable pub clashRefusal : Trail → ℕ → ℕ → ℕ → List ℕ → ℕ
   clashRefusal tr r l v ps =
       inferenceRefusal tr r l v ps (
@@ -186,7 +191,7 @@ module _ (ts : List ℕ) where
 
   -- ---- steps of a conflict E
 
-  -- resolve: a's justification, which holds no first-order decision at E's level, takes a's place in E
+  -- resolve (Resolve): a's justification, which holds no first-order decision at E's level, takes a's place in E
   unfoldable pub resolveRefusal : Trail → Set → ℕ → ℕ
   resolveRefusal tr E a =
       unless (E a) 17 (
@@ -196,7 +201,7 @@ module _ (ts : List ℕ) where
   unfoldable pub resolve : Trail → Set → ℕ → Answer
   resolve tr E a = answer (resolveRefusal tr E a) (allowed (conflict tr (union (remove E a) (whyAt tr a))))
 
-  -- clear: a first-order decision above the rest of E is undone, with all of its level and above
+  -- clear (Undo): a first-order decision above the rest of E is undone, with all of its level and above
   unfoldable pub clearRefusal : Trail → Set → ℕ → ℕ
   clearRefusal tr E a =
       unless (E a) 17 (
@@ -206,7 +211,7 @@ module _ (ts : List ℕ) where
   unfoldable pub clear : Trail → Set → ℕ → Answer
   clear tr E a = answer (clearRefusal tr E a) (allowed (searching (keptTo (levelAt tr a - 1) tr)))
 
-  -- jump: back to the level of the rest of E, which justifies the opposite of l
+  -- jump (Backjump): back to the level of the rest of E, which justifies the opposite of l
   unfoldable pub jumpRefusal : Trail → Set → ℕ → ℕ
   jumpRefusal tr E l =
       unless (E l) 17 (
@@ -216,7 +221,7 @@ module _ (ts : List ℕ) where
   unfoldable pub jump : Trail → Set → ℕ → Answer
   jump tr E l = answer (jumpRefusal tr E l) (allowed (searching (jumped tr (remove E l) l (levelOf tr (remove E l)))))
 
-  -- flip: l and k share a first-order decision at E's level; below that level the opposite of l is decided
+  -- flip (UndoDecide): l and k share a first-order decision at E's level; below that level the opposite of l is decided
   unfoldable pub flipRefusal : Trail → Set → ℕ → ℕ → ℕ
   flipRefusal tr E l k =
       unless (E l && E k) 17 (

@@ -1,7 +1,7 @@
 -- The term sheet: head, sort and four arguments a row, rows counted from 0; the numbers 3, 4, 5.
 use mathlib.Core.Bool.{Bool, true, false, not, _&&_, _||_, cond}
 use mathlib.Core.List.{List, [], _∷_, map}
-use Prim.Native.Nat.{ℕ, zero, suc, _+_, _*_}
+use Prim.Native.Nat.{ℕ, _+_, _*_}
 use lib.ListN.{length, getD}
 use lib.Dec.{eqb, leb, ltb}
 use Rattle.calculus.specs.declared.Term.{Term}
@@ -87,15 +87,33 @@ storeHead = 5
 abbrev pub firstFree : ℕ
 firstFree = 16
 
+-- eq, not, and, or, select, store
+abbrev pub heads : List Head
+heads = Equality ∷ Negation ∷ Conjunction ∷ Disjunction ∷ Select ∷ Store ∷ []
+
 abbrev pub headOf : ℕ → Head
-headOf zero = Equality
-headOf (suc zero) = Negation
-headOf (suc (suc zero)) = Conjunction
-headOf (suc (suc (suc zero))) = Disjunction
-headOf (suc (suc (suc (suc zero)))) = Select
-headOf (suc (suc (suc (suc (suc zero))))) = Store
-headOf (suc (suc (suc (suc (suc (suc n)))))) =
-    let h = suc (suc (suc (suc (suc (suc n))))) in cond (leb firstFree h && ltb h blank) Free Unlisted
+headOf h = getD heads h (cond (leb firstFree h && ltb h blank) Free Unlisted)
+
+abbrev pub isFree : Head → Bool
+isFree Equality = false
+isFree Negation = false
+isFree Conjunction = false
+isFree Disjunction = false
+isFree Select = false
+isFree Store = false
+isFree Free = true
+isFree Unlisted = false
+
+-- a head that congruence is for: select, store, or free
+abbrev pub isFunction : Head → Bool
+isFunction Equality = false
+isFunction Negation = false
+isFunction Conjunction = false
+isFunction Disjunction = false
+isFunction Select = true
+isFunction Store = true
+isFunction Free = true
+isFunction Unlisted = false
 
 -- ---- number 3: a filled argument is an earlier row
 
@@ -146,9 +164,9 @@ suits ss ts t Unlisted = false
 
 -- ---- number 5: no earlier row has the same head and arguments
 
--- rows t and u agree in every column but the sort's
+-- rows t and u have the same head and the same arguments
 unfoldable pub twins : List ℕ → ℕ → ℕ → Bool
-twins ts t u = below 6 (λ k. eqb k 1 || eqb (getD ts (t * 6 + k) 0) (getD ts (u * 6 + k) 0))
+twins ts t u = eqb (head ts t) (head ts u) && eqList (cells ts t) (cells ts u)
 
 unfoldable pub fresh : List ℕ → ℕ → Bool
 fresh ts t = below t (λ u. not (twins ts t u))

@@ -88,7 +88,7 @@ holds (e ∷ older) s p = s (e .term) && p e || holds older s p
 abbrev pub firstOrder : List ℕ → ℕ → Entry → Bool
 firstOrder ts m e = e .decided && (not (prop ts (e .term)) && eqb (e .level) m)
 
--- ---- levels
+-- ---- levels, as Definition 5 of the CADE 2017 paper has them
 
 -- the greatest level in a set; 0 for the empty one
 unfoldable pub levelOf : Trail → Set → ℕ
@@ -99,7 +99,7 @@ levelOf (e ∷ older) s = max (levelOf older s) (cond (s (e .term)) (e .level) 0
 abbrev pub topLevel : Trail → ℕ
 topLevel tr = levelOf tr everything
 
--- all entries of level at most m, in order
+-- kept to m (Γ≤m): all entries of level at most m, in order
 unfoldable pub keptTo : ℕ → Trail → Trail
 keptTo m [] = []
 keptTo m (e ∷ older) = cond (leb (e .level) m) (e ∷ keptTo m older) (keptTo m older)

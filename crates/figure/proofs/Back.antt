@@ -16,7 +16,7 @@ use Rattle.calculus.specs.Trail.{Set, Trail, Entry, everything, remove, union, 
 use Rattle.calculus.specs.Rules.{rowOf, ruleOf}
 use Rattle.calculus.specs.WellFormed.{Within, WellFormed, WellFormedState}
 use Rattle.calculus.specs.Steps as steps
-use Rattle.calculus.specs.Steps.{State, searching, conflict, Answer, allowed, refuted, refused, answer, premiseCells, premises, kindOf, isBlank, isFilled, inferenceShaped, conflictShaped, shaped, ready, known, clashed, inferenceRefusal, rowRefusal, stepBy, step}
+use Rattle.calculus.specs.Steps.{State, searching, conflict, Answer, allowed, refuted, refused, answer, premiseCells, premises, kindOf, isBlank, isFilled, inferenceShaped, termShaped, pairShaped, shaped, ready, known, clashed, inferenceRefusal, rowRefusal, stepBy, step}
 use Rattle.calculus.proofs.Facts.{and-l, and-r, T-true, T-false, true-T, neq, facts, unless-ok}
 use Rattle.calculus.proofs.Entries.{entry-in, level-kept, holds-at}
 use Rattle.calculus.proofs.WellFormed.{decided-high}
@@ -273,7 +273,7 @@ inference-spelled x k e h =
     record { cols = columns x k _ e b (from-left (premiseCells x) d); small = l; full = (refl, λ q. omega arith) }
 
 -- the term alone
-alone-spelled : (x : Step) (k : Kind) → kindOf (x .step) ≡ k → T (conflictShaped x (isBlank (x .p))) → Columns x k (x .term) [] × Blank (x .rule) × Blank (x .value)
+alone-spelled : (x : Step) (k : Kind) → kindOf (x .step) ≡ k → T (termShaped x) → Columns x k (x .term) [] × Blank (x .rule) × Blank (x .value)
 alone-spelled x k e h =
     let a : x .rule ≡ blank = search facts depth 12 in
     let b : T (isFilled (x .term)) = search facts depth 12 in
@@ -286,7 +286,7 @@ alone-spelled x k e h =
     (columns x k [] e b (blankColumn p (blankColumn q (blankColumn r (blankColumn s (blankColumn t noColumn))))), a, v)
 
 -- the term and p
-pair-spelled : (x : Step) (k : Kind) → kindOf (x .step) ≡ k → T (conflictShaped x (isFilled (x .p))) → Columns x k (x .term) (x .p ∷ []) × Blank (x .rule) × Blank (x .value)
+pair-spelled : (x : Step) (k : Kind) → kindOf (x .step) ≡ k → T (pairShaped x) → Columns x k (x .term) (x .p ∷ []) × Blank (x .rule) × Blank (x .value)
 pair-spelled x k e h =
     let a : x .rule ≡ blank = search facts depth 12 in
     let b : T (isFilled (x .term)) = search facts depth 12 in

@@ -1,7 +1,7 @@
 -- A row that spells an action with a transition is answered with the transition's result.
 use mathlib.Core.Path.{_≡_, refl, sym, ap, subst, subst₂, _∙_}
 use mathlib.Core.Logic.{_≢_, _⊎_, inl, inr}
-use mathlib.Core.Bool.{Bool, true, false, not, _||_}
+use mathlib.Core.Bool.{Bool, true, false, not, _&&_, _||_}
 use mathlib.Core.List.{List, [], _∷_, map, List·Memᴰ, List·Memᴰ·not-nil, List·Memᴰ·eq-of-singleton, Memᴰ·of-map}
 use Prim.Native.Nat.{ℕ, zero, suc, _+_, _-_, _≤_, _<_}
 use native.Mathlib.Omega.{arith}
@@ -20,8 +20,8 @@ use Rattle.calculus.specs.Inputs.{valueSuits}
 use Rattle.calculus.specs.Rules.{rowOf, ruleOf, ruleListed, fits}
 use Rattle.calculus.specs.WellFormed.{WellFormed, WellFormedState}
 use Rattle.calculus.specs.Steps as steps
-use Rattle.calculus.specs.Steps.{State, searching, conflict, Answer, allowed, refuted, answer, premiseCells, premises, kindOf, isBlank, isFilled, inferenceShaped, conflictShaped, shaped, ready, known, clashed, inferenceRefusal, rowRefusal, stepBy, step}
-use Rattle.calculus.proofs.Facts.{and-l, and-r, and-both, T-true, T-false, true-T, false-T, all-of, facts}
+use Rattle.calculus.specs.Steps.{State, searching, conflict, Answer, allowed, refuted, answer, premiseCells, premises, kindOf, isBlank, isFilled, inferenceShaped, termShaped, pairShaped, shaped, ready, known, clashed, inferenceRefusal, rowRefusal, stepBy, step}
+use Rattle.calculus.proofs.Facts.{and-both, T-true, T-false, true-T, false-T, all-of}
 use Rattle.calculus.proofs.Entries.{level-kept, holds-at}
 use Rattle.figure.specs.Inferences.{Opposite, oppositeOfTrue, oppositeOfFalse}
 use Rattle.figure.specs.Transitions.{_∈_, Boolean, Suits, Among, Assigned, Absent, FirstOrder, decisionAt, justifiedAt, Level, Restricted, Inferred, Action, Result, Transition, Decide, Deduce, Fail, Conflict, Resolve, Undo, Backjump, UndoDecide}
@@ -48,22 +48,22 @@ answer-of c a e = ap (λ n. answer n a) e
 filled-test : {c n : ℕ} → Filled c n → T (isFilled c)
 filled-test f = neqb-of (λ q. f .1 (sym (f .0) ∙ q))
 
--- the term alone, and beside it p or nothing
-conflict-shaped : (x : Step) (b : Bool) {t : ℕ} → Filled (x .term) t → Blank (x .rule) → Blank (x .value) → T b → T (all isBlank (x .q ∷ x .r ∷ x .s ∷ x .t ∷ []))
-    → T (conflictShaped x b)
-conflict-shaped x b f u v h k =
+-- the term is filled, rule and value are blank, and the premises pass the test b
+term-shaped : (x : Step) (b : Bool) {t : ℕ} → Filled (x .term) t → Blank (x .rule) → Blank (x .value) → T b
+    → T (isBlank (x .rule) && (isFilled (x .term) && (isBlank (x .value) && b)))
+term-shaped x b f u v h =
     and-both (isBlank (x .rule)) _ (eqb-of u)
     (and-both (isFilled (x .term)) _ (filled-test f)
-    (and-both (isBlank (x .value)) _ (eqb-of v)
-    (and-both b _ h
-    (and-both (isBlank (x .q)) _ (search facts)
-    (and-both (isBlank (x .r)) _ (search facts)
-    (and-both (isBlank (x .s)) _ (search facts depth 8) (search facts depth 8)))))))
+    (and-both (isBlank (x .value)) _ (eqb-of v) h))
 
-alone-shaped : (x : Step) {t : ℕ} → Filled (x .term) t → Blank (x .rule) → Blank (x .value) → FromLeft (premiseCells x) [] → T (conflictShaped x (isBlank (x .p)))
-alone-shaped x f u v r =
-    let h = blanks-of r in
-    conflict-shaped x (isBlank (x .p)) f u v (and-l (isBlank (x .p)) _ h) (and-r (isBlank (x .p)) _ h)
+alone-shaped : (x : Step) {t : ℕ} → Filled (x .term) t → Blank (x .rule) → Blank (x .value) → FromLeft (premiseCells x) [] → T (termShaped x)
+alone-shaped x f u v r = term-shaped x (all isBlank (premiseCells x)) f u v (blanks-of r)
+
+pair-shaped : (x : Step) {t p : ℕ} → Filled (x .term) t → Blank (x .rule) → Blank (x .value)
+    → Filled (x .p) p → FromLeft (x .q ∷ x .r ∷ x .s ∷ x .t ∷ []) [] → T (pairShaped x)
+pair-shaped x f u v h r =
+    let rest = all isBlank (x .q ∷ x .r ∷ x .s ∷ x .t ∷ []) in
+    term-shaped x (isFilled (x .p) && rest) f u v (and-both (isFilled (x .p)) rest (filled-test h) (blanks-of r))
 
 first-column : {c p : ℕ} {cs ps : List ℕ} → FromLeft (c ∷ cs) (p ∷ ps) → Filled c p × FromLeft cs ps
 first-column (filledColumn e r) = (e, r)
@@ -323,7 +323,7 @@ module _ (ts : List ℕ) where
       let c = p .0 in
       let R = h .wellFormed .0 in
       let f = first-column (c .rows) in
-      step-of (conflict tr E) x kinds.Flip (c .kind) (conflict-shaped x (isFilled (x .p)) (c .subject) (p .1) (p .2) (filled-test (f .0)) (blanks-of (f .1))) tt
+      step-of (conflict tr E) x kinds.Flip (c .kind) (pair-shaped x (c .subject) (p .1) (p .2) (f .0) (f .1)) tt
       (known-of c (below-row tr _ R (hl .0)) (λ t m. subst (λ t. t < termRows ts) (sym (List·Memᴰ·eq-of-singleton m)) (below-row tr _ R (hk .0))))
       ∙ (λ i. steps.flip ts tr E (c .subject .0 i) (f .0 .0 i))
       ∙ flip-answer R (h .truths) E hl (search) (search) (search) hk (search) (omega arith) dl dk (search) (omega arith) z r y

@@ -6,12 +6,14 @@ use mathlib.Core.List.{List, [], _∷_, List·Memᴰ}
 use Prim.Native.Nat.{ℕ, zero, suc, _≤_, _<_}
 use native.Mathlib.Omega.{arith}
 use lib.ListN.{length, getD}
-use lib.Dec.{T, eqb, leb, ltb, eqb→eq, leb→le, ltb→lt, eqb-refl, not-T}
+use lib.Dec.{T, eqb, leb, eqb→eq, leb→le, le→leb, ltb→lt, lt→ltb, eqb-refl, not-T}
 use Rattle.calculus.specs.declared.Head.the-variants.{Equality, Negation, Conjunction, Disjunction, Select, Store, Free, Unlisted}
 use Rattle.calculus.specs.Lists.{all, eqList}
 use Rattle.calculus.specs.Sheets.{blank, termRows}
 use Rattle.calculus.specs.Terms.{head, sort, cells, filled, args, arg, prop, headOf, eqHead, notHead, andHead, orHead, selectHead, storeHead, firstFree, suits}
-use Rattle.calculus.proofs.Facts.{and-l, and-r, and-both, all-at, facts}
+use Rattle.calculus.specs.Terms as terms
+use Rattle.calculus.proofs.Facts.{and-l, and-r, and-both, or-r, all-at, facts}
+use Rattle.calculus.proofs.Forms.{freeNumber, free-numbers, function-numbers}
 use Rattle.figure.specs.Inferences.{Applied, FreeHead, FunctionHead, isSelect, isStore, isFree}
 use Rattle.calculus.proofs.WellSorted.{arg-is, arg-mem, WellSorted, row-args, suits-as}
 
@@ -67,38 +69,38 @@ column ts t k e h = sym (arg-is ts t k (subst (λ l. k < length l) (sym e) h)) �
 
 -- heads as numbers
 
-free-listed : (h : ℕ) → ¬ (cond (leb firstFree h && ltb h blank) Free Unlisted ≡ Unlisted) → FreeHead h
-free-listed h n =
-    let t = go (leb firstFree h && ltb h blank) n in
-    record { fromFirst = leb→le _ _ (and-l (leb firstFree h) _ t); beforeBlank = ltb→lt _ _ (and-r (leb firstFree h) _ t) }
+-- a free head's number lies between two bounds
+free-between : (h : ℕ) → T (freeNumber h) → FreeHead h
+free-between h t = record { fromFirst = leb→le _ _ (and-l (leb firstFree h) _ t); beforeBlank = ltb→lt _ _ (and-r (leb firstFree h) _ t) }
+
+between-free : {h : ℕ} → FreeHead h → T (freeNumber h)
+between-free {h} f = and-both (leb firstFree h) _ (le→leb _ _ (f .fromFirst)) (lt→ltb _ _ (f .beforeBlank))
+
+pub free-head : (h : ℕ) → T (terms.isFree (headOf h)) → FreeHead h
+free-head h t = free-between h (subst T (free-numbers h) t)
+
+pub free-test : {h : ℕ} → FreeHead h → T (terms.isFree (headOf h))
+free-test {h} f = subst T (sym (free-numbers h)) (between-free f)
+
+-- the head of a function: select, store, or a free one
+pub function-head : (h : ℕ) → T (terms.isFunction (headOf h)) → FunctionHead h
+function-head zero t = absurd t
+function-head (suc zero) t = absurd t
+function-head (suc (suc zero)) t = absurd t
+function-head (suc (suc (suc zero))) t = absurd t
+function-head (suc (suc (suc (suc zero)))) t = isSelect
+function-head (suc (suc (suc (suc (suc zero))))) t = isStore
+function-head (suc (suc (suc (suc (suc (suc k)))))) t =
+    let h = suc (suc (suc (suc (suc (suc k))))) in isFree (free-between h (go (freeNumber h) t))
   where
-    go : (b : Bool) → ¬ (cond b Free Unlisted ≡ Unlisted) → T b
-    go true n = tt
-    go false n = n refl
+    go : (b : Bool) → T (terms.isFunction (cond b Free Unlisted)) → T b
+    go true t = tt
+    go false t = t
 
--- a listed head from select on is a function's, and one from 16 on is free
-pub function-head : (h : ℕ) → selectHead ≤ h → ¬ (headOf h ≡ Unlisted) → FunctionHead h
-function-head zero l n = absurd (omega arith)
-function-head (suc zero) l n = absurd (omega arith)
-function-head (suc (suc zero)) l n = absurd (omega arith)
-function-head (suc (suc (suc zero))) l n = absurd (omega arith)
-function-head (suc (suc (suc (suc zero)))) l n = isSelect
-function-head (suc (suc (suc (suc (suc zero))))) l n = isStore
-function-head (suc (suc (suc (suc (suc (suc k)))))) l n = isFree (free-listed (suc (suc (suc (suc (suc (suc k)))))) n)
-
-pub free-head : (h : ℕ) → firstFree ≤ h → ¬ (headOf h ≡ Unlisted) → FreeHead h
-free-head zero l n = absurd (omega arith)
-free-head (suc zero) l n = absurd (omega arith)
-free-head (suc (suc zero)) l n = absurd (omega arith)
-free-head (suc (suc (suc zero))) l n = absurd (omega arith)
-free-head (suc (suc (suc (suc zero)))) l n = absurd (omega arith)
-free-head (suc (suc (suc (suc (suc zero))))) l n = absurd (omega arith)
-free-head (suc (suc (suc (suc (suc (suc k)))))) l n = free-listed (suc (suc (suc (suc (suc (suc k)))))) n
-
-pub function-from : {h : ℕ} → FunctionHead h → selectHead ≤ h
-function-from isSelect = omega arith
-function-from isStore = omega arith
-function-from (isFree f) = let l = f .fromFirst in omega arith
+pub function-test : {h : ℕ} → FunctionHead h → T (terms.isFunction (headOf h))
+function-test isSelect = tt
+function-test isStore = tt
+function-test (isFree {h} f) = subst T (sym (function-numbers h)) (or-r (leb selectHead h && leb h storeHead) _ (between-free f))
 
 module _ {ss ts : List ℕ} (W : WellSorted ss ts) where
   -- the k-th column of a row with more than k arguments is a row of the sheet

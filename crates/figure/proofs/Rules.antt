@@ -6,18 +6,20 @@ use mathlib.Core.List.{List, [], _∷_, _++_, map, List·Memᴰ, List·Memᴰ·h
 use Prim.Native.Nat.{ℕ, zero, suc, _+_, _≤_, _<_}
 use native.Mathlib.Omega.{arith}
 use lib.ListN.{length, length-append, length-map}
-use lib.Dec.{T, eqb, leb, eqb→eq, le→leb, eqb-refl}
+use lib.Dec.{T, eqb, eqb→eq, eqb-refl}
 use Rattle.calculus.specs.declared.Premise.{Premise}
 use Rattle.calculus.specs.declared.Rule.{Rule}
 use Rattle.calculus.specs.declared.Rule.the-variants.{Same, Differ, Reflexivity, Symmetry, Transitivity, Negated, Part, Unit, Evaluation, Congruence, Predicate, Read, Skip, Unlisted}
 use Rattle.calculus.specs.Lists.{has, eqList, num, isTrue}
 use Rattle.calculus.specs.Sheets.{termRows}
-use Rattle.calculus.specs.Terms.{head, sort, args, arg, eqHead, notHead, andHead, orHead, selectHead, storeHead, firstFree}
-use Rattle.calculus.specs.Rules.{rowOf, valueOf, gives, bare, single, double, leading, notOf, andOf, orOf, evaluates, others, unitHere, unitAt, isHead, isEq, equates, pairs, connected, fits}
+use Rattle.calculus.specs.Terms.{head, sort, args, arg, headOf, eqHead, notHead, andHead, orHead, selectHead, storeHead}
+use Rattle.calculus.specs.Terms as terms
+use Rattle.calculus.specs.Rules.{rowOf, valueOf, gives, bare, single, double, leading, notOf, andOf, orOf, evaluates, others, unitAt, isHead, isEq, equates, pairs, fits}
 use Rattle.calculus.proofs.Facts.{and-l, and-r, and-both, or-cases, or-l, or-r, facts, all-at, all-of, any-at, any-of, has-at, has-of}
+use Rattle.calculus.proofs.Forms.{unitHere, unit-none, unit-last, unit-front, connected}
 use Rattle.figure.specs.Inferences.{assign, Opposite, oppositeOfTrue, oppositeOfFalse, Applied, Equation, orByTrue, andByFalse, Evaluates, negation, settled, unsettled, Pointwise, noPosition, position, Infers, same, differ, reflexivity, symmetry, transitivity, negated, part, unit, evaluation, congruence, predicate, read, skip}
-use Rattle.calculus.proofs.WellSorted.{eqList-eq, WellSorted, row-listed}
-use Rattle.figure.proofs.Rows.{eqb-of, neqb-of, eqList-refl, args-short, column, function-head, free-head, function-from, equation-row, select-row, store-row, not-row, not-props, and-props, or-props}
+use Rattle.calculus.proofs.WellSorted.{eqList-eq, WellSorted}
+use Rattle.figure.proofs.Rows.{eqb-of, neqb-of, eqList-refl, args-short, column, function-head, free-head, function-test, free-test, equation-row, select-row, store-row, not-row, not-props, and-props, or-props}
 
 -- ---- truth values
 
@@ -65,9 +67,10 @@ unit-first w l a bs ps h =
     record { xs = []; ys = bs; here = λ i. e i ∷ bs; rest = others-is w bs ps (and-r (eqb a l) _ h) }
 
 unit-is : (w l : ℕ) (bs : List ℕ) (ps : List Premise) → T (unitAt w l bs ps) → Position w l bs ps
-unit-is w l [] ps h = absurd h
-unit-is w l (a ∷ bs) [] h = unit-first w l a bs [] h
-unit-is w l (a ∷ bs) (p ∷ ps) h = go (λ t. unit-is w l bs ps t) (or-cases (unitHere w l a bs (p ∷ ps)) _ h)
+unit-is w l [] ps h = absurd (subst T (unit-none w l ps) h)
+unit-is w l (a ∷ bs) [] h = unit-first w l a bs [] (subst T (unit-last w l a bs) h)
+unit-is w l (a ∷ bs) (p ∷ ps) h =
+    go (λ t. unit-is w l bs ps t) (or-cases (unitHere w l a bs (p ∷ ps)) _ (subst T (unit-front w l a bs p ps) h))
   where
     go : (T (unitAt w l bs ps) → Position w l bs ps) → T (unitHere w l a bs (p ∷ ps)) ⊎ T (gives a w p && unitAt w l bs ps) → Position w l (a ∷ bs) (p ∷ ps)
     go r (inl t) = unit-first w l a bs (p ∷ ps) t
@@ -77,14 +80,16 @@ unit-is w l (a ∷ bs) (p ∷ ps) h = go (λ t. unit-is w l bs ps t) (or-cases (
         record { xs = a ∷ q .xs; ys = q .ys; here = λ i. a ∷ q .here i; rest = λ i. g i ∷ q .rest i }
 
 unit-here : (w l : ℕ) (ys : List ℕ) (ps : List Premise) → T (unitHere w l l ys ps) → T (unitAt w l (l ∷ ys) ps)
-unit-here w l ys [] h = h
-unit-here w l ys (p ∷ ps) h = or-l (unitHere w l l ys (p ∷ ps)) _ h
+unit-here w l ys [] h = subst T (sym (unit-last w l l ys)) h
+unit-here w l ys (p ∷ ps) h = subst T (sym (unit-front w l l ys p ps)) (or-l (unitHere w l l ys (p ∷ ps)) _ h)
 
 unit-of : (w l : ℕ) (xs ys : List ℕ) → T (unitAt w l (xs ++ (l ∷ ys)) (map (assign w) (xs ++ ys)))
 unit-of w l [] ys = unit-here w l ys (map (assign w) ys) (and-both (eqb l l) _ (eqb-refl l) (others-of w ys))
 unit-of w l (x ∷ xs) ys =
-    or-r (unitHere w l x (xs ++ (l ∷ ys)) (map (assign w) (x ∷ (xs ++ ys)))) _
-    (and-both (gives x w (assign w x)) _ (gives-of x w) (unit-of w l xs ys))
+    let ps = map (assign w) (xs ++ ys) in
+    subst T (sym (unit-front w l x (xs ++ (l ∷ ys)) (assign w x) ps))
+    (or-r (unitHere w l x (xs ++ (l ∷ ys)) (assign w x ∷ ps)) _
+    (and-both (gives x w (assign w x)) _ (gives-of x w) (unit-of w l xs ys)))
 
 -- ---- values of not, and, or
 
@@ -238,11 +243,11 @@ module _ {ts : List ℕ} where
       let s : head ts (arg ts l 0) ≡ h = ap (head ts) e ∙ a .headed in
       and-both (isHead ts l eqHead) _ (head-of q)
       (and-both (eqb (head ts (arg ts l 0)) (head ts (arg ts l 1))) _ (eqb-of (s ∙ sym (ap (head ts) d ∙ b .headed)))
-      (and-both (leb selectHead (head ts (arg ts l 0))) _ (le→leb _ _ (subst (λ n. selectHead ≤ n) (sym s) (function-from k)))
+      (and-both (terms.isFunction (headOf (head ts (arg ts l 0)))) _ (subst (λ n. T (terms.isFunction (headOf n))) (sym s) (function-test k))
       (and-both (pairs ts (args ts (arg ts l 0)) (args ts (arg ts l 1)) ps) _
       (subst₂ (λ ns bs. T (pairs ts ns bs ps)) (sym (ap (args ts) e ∙ a .arguments)) (sym (ap (args ts) d ∙ b .arguments)) (pairs-of r)) tt)))
   infers-fits (predicate {l} {p} {h} {v} {xs} {ys} {J = ps} a b k r) =
-      and-both (leb firstFree (head ts l)) _ (le→leb _ _ (subst (λ n. firstFree ≤ n) (sym (b .headed)) (k .fromFirst)))
+      and-both (terms.isFree (headOf (head ts l))) _ (subst (λ n. T (terms.isFree (headOf n))) (sym (b .headed)) (free-test k))
       (and-both (eqb (head ts p) (head ts l)) _ (eqb-of (a .headed ∙ sym (b .headed)))
       (and-both (eqb v v) _ (eqb-refl v)
       (subst₂ (λ ns bs. T (pairs ts ns bs ps)) (sym (a .arguments)) (sym (b .arguments)) (pairs-of r))))
@@ -503,23 +508,23 @@ module _ {ss ts : List ℕ} (W : WellSorted ss ts) where
     congruence-is ps h K N =
         let e : head ts l ≡ eqHead = search facts in
         let s : head ts (arg ts l 0) ≡ head ts (arg ts l 1) = search facts in
-        let n : selectHead ≤ head ts (arg ts l 0) = search facts in
+        let n : T (terms.isFunction (headOf (head ts (arg ts l 0)))) = search facts in
         let t : T (pairs ts (args ts (arg ts l 0)) (args ts (arg ts l 1)) ps) = search facts in
         let f : v ≡ 1 = search facts depth 8 in
         let r = equation-row W l k e in
         into refl f
-        (congruence (r .shape) (as-is refl) (as-is (sym s)) (function-head _ n (row-listed W (arg ts l 0) (r .first))) (pairs-is _ _ ps K t))
+        (congruence (r .shape) (as-is refl) (as-is (sym s)) (function-head _ n) (pairs-is _ _ ps K t))
 
     predicate-is : (ps : List Premise) → T (fits ts Predicate l v ps) → Given Predicate ps
     unfolding fits
     predicate-is ps h =
         with-first (Given Predicate) ps _ h (λ p M t K N.
-        let n : firstFree ≤ head ts l = search facts in
+        let n : T (terms.isFree (headOf (head ts l))) = search facts in
         let e : head ts (p .row) ≡ head ts l = search facts in
         let w : p .value ≡ v = search facts in
         let u : T (pairs ts (args ts (p .row)) (args ts l) M) = search facts in
         into (λ i. assign (w i) (p .row) ∷ M) refl
-        (predicate (as-is e) (as-is refl) (free-head _ n (row-listed W l k)) (pairs-is _ _ M (λ q m. K q (List·Memᴰ·tail m)) u)))
+        (predicate (as-is e) (as-is refl) (free-head _ n) (pairs-is _ _ M (λ q m. K q (List·Memᴰ·tail m)) u)))
 
     read-is : (ps : List Premise) → T (fits ts Read l v ps) → Given Read ps
     unfolding fits

@@ -5,7 +5,7 @@ ghost use Prim.Native.Nat.{ℕ};
 ghost use lib.Dec.{ltb};
 ghost use Rattle.calculus.specs.Lists.{all};
 ghost use Rattle.calculus.specs.Terms.{filled, leftFilled};
-ghost use Rattle.calculus.specs.Steps.{premises, premiseCells, isBlank, decisionShaped, inferenceShaped, conflictShaped, shaped, known};
+ghost use Rattle.calculus.specs.Steps.{premises, premiseCells, isBlank, decisionShaped, inferenceShaped, termShaped, pairShaped, shaped, known};
 use calculus::Kind;
 use calculus::Step;
 use rows::BLANK;
@@ -54,15 +54,27 @@ fn inference_shaped(x: Step) -> bool
     (x.rule < RULES) & (!(x.term == BLANK) & ((x.value <= 1) & l))
 }
 
-// The columns of the steps of a conflict: the term, and beside it p or nothing, as the caller has tested.
-fn conflict_shaped(x: Step, beside: bool) -> bool
-    ensures { λ r. ⌜ r ≡ conflictShaped x beside ⌝ }
+// The columns of resolve, clear and jump: the term alone.
+fn term_shaped(x: Step) -> bool
+    ensures { λ r. ⌜ r ≡ termShaped x ⌝ }
 {
-    (x.rule == BLANK)
-        & (!(x.term == BLANK)
-            & ((x.value == BLANK)
-                & (beside
-                    & ((x.q == BLANK) & ((x.r == BLANK) & ((x.s == BLANK) & (x.t == BLANK)))))))
+    let e = no_premise(x);
+    (x.rule == BLANK) & (!(x.term == BLANK) & ((x.value == BLANK) & e))
+}
+
+// No premise column but p is filled.
+fn no_premise_but_p(x: Step) -> bool
+    ensures { λ r. ⌜ r ≡ all isBlank (x .q ∷ x .r ∷ x .s ∷ x .t ∷ []) ⌝ }
+{
+    (x.q == BLANK) & ((x.r == BLANK) & ((x.s == BLANK) & (x.t == BLANK)))
+}
+
+// The columns of flip: the term and p.
+fn pair_shaped(x: Step) -> bool
+    ensures { λ r. ⌜ r ≡ pairShaped x ⌝ }
+{
+    let e = no_premise_but_p(x);
+    (x.rule == BLANK) & (!(x.term == BLANK) & ((x.value == BLANK) & (!(x.p == BLANK) & e)))
 }
 
 // The columns that a step of kind k needs are filled, and no others.
@@ -73,10 +85,10 @@ pub fn shaped(x: Step, k: Kind) -> bool
         Kind::Decide => decision_shaped(x),
         Kind::Deduce => inference_shaped(x),
         Kind::Clash => inference_shaped(x),
-        Kind::Resolve => conflict_shaped(x, x.p == BLANK),
-        Kind::Clear => conflict_shaped(x, x.p == BLANK),
-        Kind::Jump => conflict_shaped(x, x.p == BLANK),
-        Kind::Flip => conflict_shaped(x, !(x.p == BLANK)),
+        Kind::Resolve => term_shaped(x),
+        Kind::Clear => term_shaped(x),
+        Kind::Jump => term_shaped(x),
+        Kind::Flip => pair_shaped(x),
         Kind::Unlisted => false,
     }
 }

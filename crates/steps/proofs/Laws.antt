@@ -12,7 +12,7 @@ use Rattle.calculus.specs.Lists.{all}
 use Rattle.calculus.specs.Sheets.{blank, termRows}
 use Rattle.calculus.specs.Terms.{filled}
 use Rattle.calculus.specs.Steps as calculus
-use Rattle.calculus.specs.Steps.{needsConflict, isFilled, premises, conflictShaped, shaped, ready, known, stepBy, answer, rowRefusal, kindOf, step}
+use Rattle.calculus.specs.Steps.{needsConflict, isFilled, premises, pairShaped, shaped, ready, known, stepBy, answer, rowRefusal, kindOf, step}
 use Rattle.calculus.proofs.Facts.{facts, true-T, both-true, unless-yes, unless-no}
 use Rattle.trail.specs.Words.{trailIn}
 use Rattle.moves.specs.Post.{conflictIn}
@@ -37,7 +37,7 @@ known-term ts x e = ltb→lt _ _ (true-T _ (both-true (ltb (x .term) (termRows t
 pub known-p : (ts : List ℕ) (x : Step) → shaped x Flip ≡ true → known ts x ≡ true → x .p < termRows ts
 unfolding shaped known premises
 known-p ts x s k =
-    let h : T (conflictShaped x (isFilled (x .p))) = true-T _ s in
+    let h : T (pairShaped x) = true-T _ s in
     let p : T (isFilled (x .p)) = search facts depth 12 in
     go (eqb (x .p) blank) p (both-true (ltb (x .term) (termRows ts)) _ k .1)
   where

@@ -25,26 +25,26 @@ inference-shaped-requires-2 c κs = search needs
 enum-told-4 : tie.Need-enum-told-4
 enum-told-4 c = search needs
 
-conflict-shaped-requires : tie.Need-conflict-shaped-requires
-conflict-shaped-requires c κs = search needs
+term-shaped-requires : tie.Need-term-shaped-requires
+term-shaped-requires c κs = search needs
 
 enum-told-5 : tie.Need-enum-told-5
 enum-told-5 c = search needs
 
-conflict-shaped-requires-2 : tie.Need-conflict-shaped-requires-2
-conflict-shaped-requires-2 c κs = search needs
+term-shaped-requires-2 : tie.Need-term-shaped-requires-2
+term-shaped-requires-2 c κs = search needs
 
 enum-told-6 : tie.Need-enum-told-6
 enum-told-6 c = search needs
 
-conflict-shaped-requires-3 : tie.Need-conflict-shaped-requires-3
-conflict-shaped-requires-3 c κs = search needs
+term-shaped-requires-3 : tie.Need-term-shaped-requires-3
+term-shaped-requires-3 c κs = search needs
 
 enum-told-7 : tie.Need-enum-told-7
 enum-told-7 c = search needs
 
-conflict-shaped-requires-4 : tie.Need-conflict-shaped-requires-4
-conflict-shaped-requires-4 c κs = search needs
+pair-shaped-requires : tie.Need-pair-shaped-requires
+pair-shaped-requires c κs = search needs
 
 enum-told-8 : tie.Need-enum-told-8
 enum-told-8 c = search needs
@@ -63,19 +63,19 @@ returns-3 c = rw (c .before .enum-told3 .given .1, c .inference-shaped2 .ensures
 
 returns-4 : tie.Need-returns-4
 unfolding shaped
-returns-4 c = rw (c .before .before .enum-told4 .given .1, c .conflict-shaped .ensures)
+returns-4 c = rw (c .before .enum-told4 .given .1, c .term-shaped .ensures)
 
 returns-5 : tie.Need-returns-5
 unfolding shaped
-returns-5 c = rw (c .before .before .enum-told5 .given .1, c .conflict-shaped2 .ensures)
+returns-5 c = rw (c .before .enum-told5 .given .1, c .term-shaped2 .ensures)
 
 returns-6 : tie.Need-returns-6
 unfolding shaped
-returns-6 c = rw (c .before .before .enum-told6 .given .1, c .conflict-shaped3 .ensures)
+returns-6 c = rw (c .before .enum-told6 .given .1, c .term-shaped3 .ensures)
 
 returns-7 : tie.Need-returns-7
 unfolding shaped
-returns-7 c = rw (c .before .before .enum-told7 .given .1, c .conflict-shaped4 .ensures)
+returns-7 c = rw (c .before .enum-told7 .given .1, c .pair-shaped .ensures)
 
 returns-8 : tie.Need-returns-8
 unfolding shaped
@@ -92,13 +92,13 @@ shaped-spec =
     enum-told-3
     inference-shaped-requires-2
     enum-told-4
-    conflict-shaped-requires
+    term-shaped-requires
     enum-told-5
-    conflict-shaped-requires-2
+    term-shaped-requires-2
     enum-told-6
-    conflict-shaped-requires-3
+    term-shaped-requires-3
     enum-told-7
-    conflict-shaped-requires-4
+    pair-shaped-requires
     enum-told-8
     returns
     returns-2

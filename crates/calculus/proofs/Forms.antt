@@ -1,0 +1,151 @@
+-- Definitions in other forms: as the code tests them, and as proofs take them apart.
+use mathlib.Core.Path.{_≡_, refl, sym, ap, _∙_}
+use mathlib.Core.Bool.{Bool, true, false, _&&_, _||_, cond, and-false, or-false}
+use mathlib.Core.List.{List, [], _∷_}
+use Prim.Native.Nat.{ℕ, zero, suc, _+_, _*_, _≤_}
+use native.Mathlib.Omega.{arith}
+use native.Mathlib.Nat.{add-zero}
+use lib.ListN.{length, getD, List·getD-eq-default}
+use lib.Dec.{eqb, leb, ltb}
+use borrow.Author.Tests.{lt-leb}
+use Rattle.calculus.specs.declared.Premise.{Premise}
+use Rattle.calculus.specs.declared.Head.the-variants.{Free, Unlisted}
+use Rattle.calculus.specs.declared.Rule.the-variants.{Congruence, Predicate}
+use Rattle.calculus.specs.Lists.{below, somewhere}
+use Rattle.calculus.specs.Sheets.{blank}
+use Rattle.calculus.specs.Terms.{head, cells, args, arg, eqHead, selectHead, storeHead, firstFree, heads, headOf, isFree, isFunction, twins}
+use Rattle.calculus.specs.Rules.{leading, gives, others, allBut, unitAt, isHead, pairs, fits}
+
+-- ---- heads
+
+-- the number of a free head
+abbrev pub freeNumber : ℕ → Bool
+freeNumber h = leb firstFree h && ltb h blank
+
+-- the number of a function's head: select's, store's or a free one
+abbrev pub functionNumber : ℕ → Bool
+functionNumber h = leb selectHead h && leb h storeHead || freeNumber h
+
+-- past the listed heads
+pub head-past : (h : ℕ) → 6 ≤ h → headOf h ≡ cond (freeNumber h) Free Unlisted
+head-past h l = List·getD-eq-default heads _ l
+
+is-free-past : (b : Bool) → isFree (cond b Free Unlisted) ≡ b
+is-free-past true = refl
+is-free-past false = refl
+
+is-function-past : (b : Bool) → isFunction (cond b Free Unlisted) ≡ b
+is-function-past true = refl
+is-function-past false = refl
+
+-- a head is free, and a function's, just where its number is
+pub free-numbers : (h : ℕ) → isFree (headOf h) ≡ freeNumber h
+free-numbers zero = refl
+free-numbers (suc zero) = refl
+free-numbers (suc (suc zero)) = refl
+free-numbers (suc (suc (suc zero))) = refl
+free-numbers (suc (suc (suc (suc zero)))) = refl
+free-numbers (suc (suc (suc (suc (suc zero))))) = refl
+free-numbers (suc (suc (suc (suc (suc (suc n)))))) = is-free-past _
+
+pub function-numbers : (h : ℕ) → isFunction (headOf h) ≡ functionNumber h
+function-numbers zero = refl
+function-numbers (suc zero) = refl
+function-numbers (suc (suc zero)) = refl
+function-numbers (suc (suc (suc zero))) = refl
+function-numbers (suc (suc (suc (suc zero)))) = refl
+function-numbers (suc (suc (suc (suc (suc zero))))) = refl
+function-numbers (suc (suc (suc (suc (suc (suc n)))))) =
+    let h = suc (suc (suc (suc (suc (suc n))))) in
+    is-function-past (freeNumber h) ∙ sym (rw (lt-leb h storeHead (omega arith), and-false (leb selectHead h)))
+
+-- ---- rows with the same head and arguments
+
+-- column by column, the sort's left out
+abbrev pub alike : List ℕ → ℕ → ℕ → Bool
+alike ts t u = below 6 (λ k. eqb k 1 || eqb (getD ts (t * 6 + k) 0) (getD ts (u * 6 + k) 0))
+
+pub twins-columns : (ts : List ℕ) (t u : ℕ) → twins ts t u ≡ alike ts t u
+unfolding twins cells
+twins-columns ts t u = rw (add-zero (t * 6), add-zero (u * 6)) (go (eqb (head ts t) (head ts u)) (same 2) (same 3) (same 4) (same 5))
+  where
+    same : ℕ → Bool
+    same k = eqb (getD ts (t * 6 + k) 0) (getD ts (u * 6 + k) 0)
+
+    go : (a b c d e : Bool) → (a && (b && (c && (d && (e && true))))) ≡ (((((true && a) && true) && b) && c) && d) && e
+    go true true true true true = refl
+    go true true true true false = refl
+    go true true true false e = refl
+    go true true false d e = refl
+    go true false c d e = refl
+    go false b c d e = refl
+
+-- ---- some number below a bound
+
+or-assoc : (a b c : Bool) → (a || b || c) ≡ (a || (b || c))
+or-assoc true b c = refl
+or-assoc false b c = refl
+
+-- the first number, or one after it
+somewhere-first : (n : ℕ) (p : ℕ → Bool) → somewhere (suc n) p ≡ (p 0 || somewhere n (λ k. p (suc k)))
+somewhere-first zero p = sym (or-false (p 0))
+somewhere-first (suc n) p = ap (λ b. b || p (suc n)) (somewhere-first n p) ∙ or-assoc (p 0) _ _
+
+somewhere-none : (n : ℕ) (p : ℕ → Bool) → somewhere n (λ k. p k && false) ≡ false
+somewhere-none zero p = refl
+somewhere-none (suc n) p = rw (and-false (p n), or-false) (somewhere-none n p)
+
+-- ---- unit, argument by argument
+
+-- the first argument is the one that is left out, and ps are the others
+abbrev pub unitHere : ℕ → ℕ → ℕ → List ℕ → List Premise → Bool
+unitHere w l a xs ps = eqb a l && others w xs ps
+
+-- no position of the empty list is left out
+pub unit-none : (w l : ℕ) (ps : List Premise) → unitAt w l [] ps ≡ false
+unfolding unitAt
+unit-none w l ps = refl
+
+-- without a premise the first argument is left out
+pub unit-last : (w l a : ℕ) (xs : List ℕ) → unitAt w l (a ∷ xs) [] ≡ unitHere w l a xs []
+unfolding unitAt
+unit-last w l a xs =
+    somewhere-first (length xs) _ ∙ ap (λ b. unitHere w l a xs [] || b) (somewhere-none (length xs) (λ k. eqb (getD xs k blank) l)) ∙ or-false _
+
+-- the first argument is left out; or the first premise is it, and another one is left out
+pub unit-front : (w l a : ℕ) (xs : List ℕ) (p : Premise) (ps : List Premise)
+    → unitAt w l (a ∷ xs) (p ∷ ps) ≡ (unitHere w l a xs (p ∷ ps) || (gives a w p && unitAt w l xs ps))
+unfolding unitAt
+unit-front w l a xs p ps = somewhere-first (length xs) _ ∙ ap (λ b. unitHere w l a xs (p ∷ ps) || b) (go (gives a w p))
+  where
+    go : (g : Bool) → somewhere (length xs) (λ k. eqb (getD xs k blank) l && (g && others w (allBut k xs) ps))
+        ≡ (g && somewhere (length xs) (λ k. eqb (getD xs k blank) l && others w (allBut k xs) ps))
+    go true = refl
+    go false = somewhere-none (length xs) (λ k. eqb (getD xs k blank) l)
+
+-- ---- part and unit
+
+-- p is a term with head h and value w, and the value v that is given is x
+abbrev pub connected : List ℕ → ℕ → Premise → ℕ → ℕ → ℕ → Bool
+connected ts h p w v x = isHead ts (p .row) h && (eqb (p .value) w && eqb v x)
+
+-- ---- cong and pred, with the heads' numbers
+
+module _ (ts : List ℕ) (l v : ℕ) (ps : List Premise) where
+  pub cong-numbers : fits ts Congruence l v ps
+      ≡ (isHead ts l eqHead
+      && (eqb (head ts (arg ts l 0)) (head ts (arg ts l 1))
+      && (functionNumber (head ts (arg ts l 0))
+      && (pairs ts (args ts (arg ts l 0)) (args ts (arg ts l 1)) ps && eqb v 1))))
+  unfolding fits
+  cong-numbers = rw (function-numbers (head ts (arg ts l 0)))
+
+  pub pred-numbers : fits ts Predicate l v ps
+      ≡ leading ps (λ p qs.
+      freeNumber (head ts l)
+      && (eqb (head ts (p .row)) (head ts l)
+      && (eqb (p .value) v && pairs ts (args ts (p .row)) (args ts l) qs)))
+  unfolding fits
+  pred-numbers =
+      ap (λ (b : Bool). leading ps (λ p qs. b && (eqb (head ts (p .row)) (head ts l) && (eqb (p .value) v && pairs ts (args ts (p .row)) (args ts l) qs))))
+      (free-numbers (head ts l))
