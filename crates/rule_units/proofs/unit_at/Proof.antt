@@ -1,5 +1,6 @@
 -- `rule_units::unit_at` meets its contract.
-use mathlib.Core.Path.{refl, sym}
+use mathlib.Core.Path.{sym}
+use Rattle.calculus.proofs.Forms.{unit-none}
 use mathlib.Core.List.{[], _∷_}
 use Rattle.rule_units.proofs.Laws.{others-none}
 use borrow.Author.Needs.{needs}
@@ -36,7 +37,7 @@ returns c =
     let od = c .before .before .before .before .before .before .before .more-other .ensures [] (x .s ∷ x .t ∷ []) none in
     let oc = c .before .before .before .before .before .before .more-other2 .ensures (e .d ∷ []) (x .r ∷ x .s ∷ x .t ∷ []) od in
     let ob = c .before .before .before .before .before .more-other3 .ensures (e .c ∷ e .d ∷ []) (x .q ∷ x .r ∷ x .s ∷ x .t ∷ []) oc in
-    let ud = c .before .before .before .more-unit .ensures [] (x .t ∷ []) none refl in
+    let ud = c .before .before .before .more-unit .ensures [] (x .t ∷ []) none (sym (unit-none (y .w) (y .l .0) _)) in
     let uc = c .before .before .more-unit2 .ensures (e .d ∷ []) (x .s ∷ x .t ∷ []) od ud in
     let ub = c .before .more-unit3 .ensures (e .c ∷ e .d ∷ []) (x .r ∷ x .s ∷ x .t ∷ []) oc uc in
     c .more-unit4 .ensures (e .b ∷ e .c ∷ e .d ∷ []) (x .q ∷ x .r ∷ x .s ∷ x .t ∷ []) ob ub
