@@ -103,7 +103,8 @@ unfolding keptTo
 kept-out m [] e k = absurd (List·Memᴰ·not-nil k)
 kept-out m (x ∷ older) e k = go (leb (x .level) m) refl (λ h. kept-out m older e h) k
   where
-    go : (b : Bool) → leb (x .level) m ≡ b → (List·Memᴰ e (keptTo m older) → List·Memᴰ e older × (e .level ≤ m)) → List·Memᴰ e (cond b (x ∷ keptTo m older) (keptTo m older))
+    go : (b : Bool) → leb (x .level) m ≡ b → (List·Memᴰ e (keptTo m older) → List·Memᴰ e older × (e .level ≤ m))
+        → List·Memᴰ e (cond b (x ∷ keptTo m older) (keptTo m older))
         → List·Memᴰ e (x ∷ older) × (e .level ≤ m)
     go true q r h = pick (List·Memᴰ·cases-cons h)
       where
@@ -141,7 +142,8 @@ level-kept m [] s l = refl
 level-kept m (x ∷ older) s l = go (λ h. level-kept m older s h) (s (x .term)) refl (leb (x .level) m) refl l
   where
     go : (levelOf older s ≤ m → levelOf (keptTo m older) s ≡ levelOf older s) → (b : Bool) → s (x .term) ≡ b → (k : Bool) → leb (x .level) m ≡ k
-        → max (levelOf older s) (cond b (x .level) 0) ≤ m → levelOf (cond k (x ∷ keptTo m older) (keptTo m older)) s ≡ max (levelOf older s) (cond b (x .level) 0)
+        → max (levelOf older s) (cond b (x .level) 0) ≤ m
+        → levelOf (cond k (x ∷ keptTo m older) (keptTo m older)) s ≡ max (levelOf older s) (cond b (x .level) 0)
     go r b e true f h = rw (r (omega arith), e)
     go r true e false f h = absurd (subst T f (le→leb (x .level) m (omega arith)))
     go r false e false f h = r (omega arith) ∙ omega arith

@@ -7,8 +7,8 @@ use Prim.Native.Nat.{ℕ, zero, suc, _<_}
 use native.Mathlib.Omega.{arith}
 use native.Mathlib.Nat.{not-suc-le-zero, suc-ne-zero}
 use native.Mathlib.Decide.{decLt}
-use lib.Dec.{T, eqb, eqb→eq, leb→le, ltb→lt, eqb-refl, T-not}
-use Rattle.calculus.specs.Lists.{all, any, has, below}
+use lib.Dec.{T, eqb, eqb→eq, leb→le, ltb→lt, eqb-refl, T-not, not-T}
+use Rattle.calculus.specs.Lists.{num, all, any, has, below}
 use Rattle.calculus.specs.Numbers.{unless, orElse, firstRefusal}
 use Rattle.calculus.specs.Steps.{Answer, refused, answer}
 
@@ -38,8 +38,14 @@ pub or-r : (a b : Bool) → T b → T (a || b)
 or-r true b h = tt
 or-r false b h = h
 
+pub eqb-of : {m n : ℕ} → m ≡ n → T (eqb m n)
+eqb-of {m} e = subst (λ k. T (eqb m k)) e (eqb-refl m)
+
+pub neqb-of : {m n : ℕ} → m ≢ n → T (not (eqb m n))
+neqb-of {m} {n} h = not-T (eqb m n) (λ t. h (eqb→eq m n t))
+
 pub neq : (m n : ℕ) → T (not (eqb m n)) → m ≢ n
-neq m n h e = T-not (eqb m n) h (subst (λ k. T (eqb m k)) e (eqb-refl m))
+neq m n h e = T-not (eqb m n) h (eqb-of e)
 
 pub T-true : (b : Bool) → T b → b ≡ true
 T-true true h = refl
@@ -61,6 +67,22 @@ is-or-not false = inr refl
 
 pub true-or-false : {b : Bool} → b ≡ true → b ≡ false → ⊥
 true-or-false {b} p q = subst T (sym p ∙ q) tt
+
+-- truth values as numbers
+pub num-true : (b : Bool) → T b → num b ≡ 1
+num-true b h = ap num (T-true b h)
+
+pub num-false : (b : Bool) → ¬ (T b) → num b ≡ 0
+num-false true h = absurd (h tt)
+num-false false h = refl
+
+pub true-num : (b : Bool) → num b ≡ 1 → T b
+true-num true e = tt
+true-num false e = absurd (omega arith)
+
+pub false-num : (b : Bool) → num b ≡ 0 → ¬ (T b)
+false-num true e h = absurd (omega arith)
+false-num false e h = h
 
 -- both of two tests, either of them
 pub both-true : (a b : Bool) → (a && b) ≡ true → (a ≡ true) × (b ≡ true)

@@ -11,9 +11,9 @@ use borrow.Author.Tests.{lt-leb}
 use Rattle.calculus.specs.declared.Premise.{Premise}
 use Rattle.calculus.specs.declared.Head.the-variants.{Free, Unlisted}
 use Rattle.calculus.specs.declared.Rule.the-variants.{Congruence, Predicate}
-use Rattle.calculus.specs.Lists.{below, somewhere}
+use Rattle.calculus.specs.Lists.{all, below, somewhere}
 use Rattle.calculus.specs.Sheets.{blank}
-use Rattle.calculus.specs.Terms.{head, cells, args, arg, eqHead, selectHead, storeHead, firstFree, heads, headOf, isFree, isFunction, twins}
+use Rattle.calculus.specs.Terms.{head, cells, filled, args, arg, eqHead, selectHead, storeHead, firstFree, heads, headOf, isFree, isFunction, twins}
 use Rattle.calculus.specs.Rules.{leading, gives, others, allBut, unitAt, isHead, pairs, fits}
 
 -- ---- heads
@@ -79,6 +79,23 @@ twins-columns ts t u = rw (add-zero (t * 6), add-zero (u * 6)) (go (eqb (head ts
     go true true false d e = refl
     go true false c d e = refl
     go false b c d e = refl
+
+-- ---- the filled columns, with one more in front
+
+module _ (p : ℕ → Bool) (x : ℕ) (xs : List ℕ) where
+  pub all-blank : eqb x blank ≡ true → all p (filled (x ∷ xs)) ≡ true
+  all-blank e = rw e
+
+  pub all-filled : eqb x blank ≡ false → all p (filled (x ∷ xs)) ≡ (p x && all p (filled xs))
+  all-filled e = rw e
+
+  -- as a test without branches
+  pub all-more : all p (filled (x ∷ xs)) ≡ (eqb x blank || (p x && all p (filled xs)))
+  all-more = go (eqb x blank)
+    where
+      go : (g : Bool) → all p (cond g [] (x ∷ filled xs)) ≡ (g || (p x && all p (filled xs)))
+      go true = refl
+      go false = refl
 
 -- ---- some number below a bound
 

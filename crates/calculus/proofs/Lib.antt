@@ -2,8 +2,13 @@
 pub mod Facts
 pub mod Forms
 pub mod Entries
+pub mod Columns
 pub mod WellSorted
+pub mod Rows
 pub mod WellFormed
+pub mod Truths
 pub mod Running
+pub mod Boards
 pub mod Runs
 pub mod Slips
+pub mod Order

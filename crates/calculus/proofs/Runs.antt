@@ -1,12 +1,13 @@
 -- The starred runs of document 01 on the small board, as one table and one statement.
 use mathlib.Core.Path.{_≡_, refl}
 use mathlib.Core.List.{List, [], _∷_, _++_, map}
-use Prim.Native.Nat.{ℕ, _+_}
-use lib.ListN.{replicate}
+use Prim.Native.Nat.{ℕ, _-_, _/_, _%_, _≤_}
+use lib.ListN.{length, replicate}
+use borrow.Author.Tests.{le-leb}
 use Rattle.calculus.specs.Lists
 use Rattle.calculus.specs.Numbers
 use Rattle.calculus.specs.Sheets
-use Rattle.calculus.specs.Sheets.{Call, blank}
+use Rattle.calculus.specs.Sheets.{Call, lengthRefusal}
 use Rattle.calculus.specs.Sorts
 use Rattle.calculus.specs.Terms
 use Rattle.calculus.specs.Trail
@@ -14,117 +15,78 @@ use Rattle.calculus.specs.Inputs
 use Rattle.calculus.specs.Rules
 use Rattle.calculus.specs.Steps
 use Rattle.calculus.specs.Run
-use Rattle.calculus.specs.Run.{outcome, trailAfter, workAfter}
-use Rattle.calculus.specs.declared.Outcome.{Outcome}
+use Rattle.calculus.specs.Run.{callRefusal, outcome, trailAfter, workAfter}
+use Rattle.calculus.proofs.Boards.{same, neg, unit, decide, deduce, clash, resolve, clear, jump, remains, refutes, refuses, shown, sorts, terms, a, b, e, g, not-e, e-or-g, clash-g}
 
--- ---- the small board
-
-abbrev sorts : List ℕ
-sorts = blank ∷ blank ∷ []
-
--- a, b, e: a = b, fa: F(a), fb: F(b), g: fa = fb, not(e), or(e, g)
-abbrev terms : List ℕ
-terms =
-    16 ∷ 1 ∷ blank ∷ blank ∷ blank ∷ blank
-    ∷ 17 ∷ 1 ∷ blank ∷ blank ∷ blank ∷ blank
-    ∷ 0 ∷ 0 ∷ 0 ∷ 1 ∷ blank ∷ blank
-    ∷ 18 ∷ 1 ∷ 0 ∷ blank ∷ blank ∷ blank
-    ∷ 18 ∷ 1 ∷ 1 ∷ blank ∷ blank ∷ blank
-    ∷ 0 ∷ 0 ∷ 3 ∷ 4 ∷ blank ∷ blank
-    ∷ 1 ∷ 0 ∷ 2 ∷ blank ∷ blank ∷ blank
-    ∷ 3 ∷ 0 ∷ 2 ∷ 5 ∷ blank ∷ blank
-    ∷ []
-
-abbrev a : ℕ
-a = 0
-
-abbrev b : ℕ
-b = 1
-
-abbrev e : ℕ
-e = 2
-
-abbrev g : ℕ
-g = 5
-
-abbrev not-e : ℕ
-not-e = 6
-
-abbrev e-or-g : ℕ
-e-or-g = 7
-
--- ---- step rows
-
-abbrev decide : ℕ → ℕ → List ℕ
-decide t v = 0 ∷ blank ∷ t ∷ v ∷ blank ∷ blank ∷ blank ∷ blank ∷ blank ∷ []
-
--- deduce (1) or clash (2) by a rule from one premise
-abbrev from1 : ℕ → ℕ → ℕ → ℕ → ℕ → List ℕ
-from1 k r l v p = k ∷ r ∷ l ∷ v ∷ p ∷ blank ∷ blank ∷ blank ∷ blank ∷ []
-
--- and from two
-abbrev from2 : ℕ → ℕ → ℕ → ℕ → ℕ → ℕ → List ℕ
-from2 k r l v p q = k ∷ r ∷ l ∷ v ∷ p ∷ q ∷ blank ∷ blank ∷ blank ∷ []
-
--- resolve (3), clear (4), jump (5)
-abbrev conflict : ℕ → ℕ → List ℕ
-conflict k t = k ∷ blank ∷ t ∷ blank ∷ blank ∷ blank ∷ blank ∷ blank ∷ blank ∷ []
-
-abbrev clash-g : List ℕ
-clash-g = from1 2 9 g 1 e
+-- ---- logs
 
 abbrev same-e : List ℕ
-same-e = decide a 7 ++ decide b 7 ++ from2 1 0 e 1 a b ++ clash-g
+same-e = decide a 7 ++ decide b 7 ++ deduce same e 1 (a ∷ b ∷ []) ++ clash-g
 
 abbrev neg-e : List ℕ
-neg-e = decide a 7 ++ decide b 7 ++ from1 1 5 e 0 not-e ++ from2 2 0 e 1 a b
+neg-e = decide a 7 ++ decide b 7 ++ deduce neg e 0 (not-e ∷ []) ++ clash same e 1 (a ∷ b ∷ [])
 
 -- ---- the table
 
 abbrev Example : Type 0
 Example = record { input : List ℕ; log : List ℕ; result : List ℕ; left : List ℕ }
 
--- each run's input and steps, its result (verdict, steps, number, entries), and the entries left: term, value, level, decision or not
+abbrev example : List ℕ → List ℕ → List ℕ → List ℕ → Example
+example i l r t = record { input = i; log = l; result = r; left = t }
+
+-- an entry that is left: term, value, level, decision or not
+abbrev entry : ℕ → ℕ → ℕ → ℕ → List ℕ
+entry t v m d = t ∷ v ∷ m ∷ d ∷ []
+
+-- each run's input and steps, its result, and the entries left
 abbrev table : List Example
 table =
-    (record { input = []; log = []; result = 0 ∷ 0 ∷ 0 ∷ 0 ∷ []; left = [] })
-    ∷ (record { input = e ∷ 1 ∷ g ∷ 0 ∷ []; log = clash-g; result = 1 ∷ 1 ∷ 0 ∷ 2 ∷ []; left = e ∷ 1 ∷ 0 ∷ 0 ∷ g ∷ 0 ∷ 0 ∷ 0 ∷ [] })
-    ∷ (record { input = e ∷ 1 ∷ []; log = clash-g; result = 2 ∷ 0 ∷ 16 ∷ 1 ∷ []; left = e ∷ 1 ∷ 0 ∷ 0 ∷ [] })
-    ∷ (record { input = g ∷ 0 ∷ []; log = decide e 1 ++ clash-g ++ conflict 5 e; result = 0 ∷ 3 ∷ 0 ∷ 2 ∷ []; left = g ∷ 0 ∷ 0 ∷ 0 ∷ e ∷ 0 ∷ 0 ∷ 0 ∷ [] })
-    ∷ (record { input = []; log = decide a 7 ++ decide a 7; result = 2 ∷ 1 ∷ 14 ∷ 1 ∷ []; left = a ∷ 7 ∷ 1 ∷ 1 ∷ [] })
-    ∷ (record { input = []; log = conflict 3 a; result = 2 ∷ 0 ∷ 10 ∷ 0 ∷ []; left = [] })
-    ∷ (record { input = g ∷ 0 ∷ []; log = same-e ++ conflict 3 e; result = 2 ∷ 4 ∷ 19 ∷ 4 ∷ []; left = g ∷ 0 ∷ 0 ∷ 0 ∷ a ∷ 7 ∷ 1 ∷ 1 ∷ b ∷ 7 ∷ 2 ∷ 1 ∷ e ∷ 1 ∷ 2 ∷ 0 ∷ [] })
-    ∷ (record { input = g ∷ 0 ∷ []; log = same-e ++ conflict 5 e; result = 0 ∷ 5 ∷ 0 ∷ 2 ∷ []; left = g ∷ 0 ∷ 0 ∷ 0 ∷ e ∷ 0 ∷ 0 ∷ 0 ∷ [] })
-    ∷ (record { input = not-e ∷ 1 ∷ []; log = neg-e ++ conflict 4 b; result = 0 ∷ 5 ∷ 0 ∷ 3 ∷ []; left = not-e ∷ 1 ∷ 0 ∷ 0 ∷ a ∷ 7 ∷ 1 ∷ 1 ∷ e ∷ 0 ∷ 0 ∷ 0 ∷ [] })
-    ∷ (record { input = not-e ∷ 1 ∷ []; log = neg-e ++ conflict 4 a; result = 2 ∷ 4 ∷ 21 ∷ 4 ∷ []; left = not-e ∷ 1 ∷ 0 ∷ 0 ∷ a ∷ 7 ∷ 1 ∷ 1 ∷ b ∷ 7 ∷ 2 ∷ 1 ∷ e ∷ 0 ∷ 0 ∷ 0 ∷ [] })
-    ∷ (record { input = e-or-g ∷ 1 ∷ e ∷ 0 ∷ []; log = from2 1 7 g 1 e-or-g e; result = 0 ∷ 1 ∷ 0 ∷ 3 ∷ []; left = e-or-g ∷ 1 ∷ 0 ∷ 0 ∷ e ∷ 0 ∷ 0 ∷ 0 ∷ g ∷ 1 ∷ 0 ∷ 0 ∷ [] })
-    ∷ (record { input = e ∷ 2 ∷ []; log = decide a 7; result = 2 ∷ 0 ∷ 7 ∷ 0 ∷ []; left = [] })
+    example [] [] (remains 0 0) []
+    ∷ example (e ∷ 1 ∷ g ∷ 0 ∷ []) clash-g (refutes 1 2) (entry e 1 0 0 ++ entry g 0 0 0)
+    ∷ example (e ∷ 1 ∷ []) clash-g (refuses 0 16 1) (entry e 1 0 0)
+    ∷ example (g ∷ 0 ∷ []) (decide e 1 ++ clash-g ++ jump e) (remains 3 2) (entry g 0 0 0 ++ entry e 0 0 0)
+    ∷ example [] (decide a 7 ++ decide a 7) (refuses 1 14 1) (entry a 7 1 1)
+    ∷ example [] (resolve a) (refuses 0 10 0) []
+    ∷ example (g ∷ 0 ∷ []) (same-e ++ resolve e) (refuses 4 19 4) (entry g 0 0 0 ++ entry a 7 1 1 ++ entry b 7 2 1 ++ entry e 1 2 0)
+    ∷ example (g ∷ 0 ∷ []) (same-e ++ jump e) (remains 5 2) (entry g 0 0 0 ++ entry e 0 0 0)
+    ∷ example (not-e ∷ 1 ∷ []) (neg-e ++ clear b) (remains 5 3) (entry not-e 1 0 0 ++ entry a 7 1 1 ++ entry e 0 0 0)
+    ∷ example (not-e ∷ 1 ∷ []) (neg-e ++ clear a) (refuses 4 21 4) (entry not-e 1 0 0 ++ entry a 7 1 1 ++ entry b 7 2 1 ++ entry e 0 0 0)
+    ∷ example (e-or-g ∷ 1 ∷ e ∷ 0 ∷ []) (deduce unit g 1 (e-or-g ∷ e ∷ [])) (remains 1 3) (entry e-or-g 1 0 0 ++ entry e 0 0 0 ++ entry g 1 0 0)
+    ∷ example (e ∷ 2 ∷ []) (decide a 7) (refuses 0 7 0) []
     ∷ []
 
--- a run's call: workspace and trail buffer just long enough, full of old numbers
-abbrev call : Example → Call
-call r =
+-- the call: workspace and trail buffer just long enough, full of old numbers
+abbrev pub call : List ℕ → List ℕ → Call
+call input log =
     record {
       sorts = sorts;
       terms = terms;
-      inputs = r .input;
-      steps = r .log;
+      inputs = input;
+      steps = log;
       work = replicate 76 9;
       trail = replicate 32 9;
     }
 
 -- result, trail buffer and workspace of a call, as one list
-abbrev shown : Outcome → List ℕ → List ℕ → List ℕ
-shown o trail work = (o .verdict ∷ o .steps ∷ o .number ∷ o .entries ∷ []) ++ trail ++ work
+abbrev seen : Call → List ℕ
+seen x = shown (outcome x) ++ trailAfter x ++ workAfter x
 
-abbrev given : Example → List ℕ
-given r = shown (outcome (call r)) (trailAfter (call r)) (workAfter (call r))
-
--- what the table asks: the result, the entries with the old numbers behind them, a workspace of zeros
-abbrev asked : Example → List ℕ
-asked r = r .result ++ Run.written (r .left) (replicate 32 9) ++ replicate 76 0
+-- the result, the entries with the old numbers behind them, a workspace of zeros
+abbrev asked : List ℕ → List ℕ → List ℕ
+asked result left = result ++ (left ++ replicate (32 - length left) 9) ++ replicate 76 0
 
 -- each run gives what the table asks
-pub starred : map given table ≡ map asked table
+pub starred : map (λ (r : Example). seen (call (r .input) (r .log))) table ≡ map (λ (r : Example). asked (r .result) (r .left)) table
 unfolding Lists.firstWhere Numbers.unless Numbers.orElse Numbers.firstRefusal Sheets.lengthRefusal Sorts.isArray Sorts.isPlain Sorts.sortRefusal Sorts.sortsRefusal Terms.cells Terms.args Terms.arg Terms.earlier Terms.sameUse Terms.firstUse Terms.suits Terms.twins Terms.fresh Terms.termRefusal Terms.termsRefusal Trail.on Trail.entry Trail.holds Trail.levelOf Trail.keptTo Trail.trailNumbersOf Inputs.inputTrail Inputs.inputRefusal Inputs.inputsRefusal Rules.ruleOf Rules.bare Rules.single Rules.double Rules.leading Rules.unitAt Rules.fits Steps.answer Steps.premises Steps.kindOf Steps.shaped Steps.ready Steps.known Steps.decideRefusal Steps.decide Steps.inferenceRefusal Steps.deduceRefusal Steps.deduce Steps.clashRefusal Steps.clashed Steps.clash Steps.resolveRefusal Steps.resolve Steps.clearRefusal Steps.clear Steps.jumpRefusal Steps.jump Steps.flipRefusal Steps.flip Steps.rowRefusal Steps.stepBy Steps.step Run.follow Run.run Run.sheetsRefusal Run.callRefusal Run.endingOf Run.ending Run.outcome Run.trailAfter Run.workAfter
 starred = refl
+
+-- ---- the last starred run: e 2, and any log
+
+module _ (log : List ℕ) (whole : length log % 9 ≡ 0) (few : length log / 9 ≤ 65535) where
+  lengths-pass : lengthRefusal (call (e ∷ 2 ∷ []) log) ≡ 0
+  unfolding Sheets.lengthRefusal Numbers.unless
+  lengths-pass = rw (whole, le-leb (length log / 9) 65535 few)
+
+  pub starred-any : seen (call (e ∷ 2 ∷ []) log) ≡ asked (refuses 0 7 0) []
+  unfolding Lists.firstWhere Numbers.unless Numbers.orElse Numbers.firstRefusal Sorts.isArray Sorts.isPlain Sorts.sortRefusal Sorts.sortsRefusal Terms.cells Terms.args Terms.arg Terms.earlier Terms.sameUse Terms.firstUse Terms.suits Terms.twins Terms.fresh Terms.termRefusal Terms.termsRefusal Trail.on Trail.trailNumbersOf Inputs.inputTrail Inputs.inputRefusal Inputs.inputsRefusal Run.sheetsRefusal Run.callRefusal Run.endingOf Run.ending Run.outcome Run.trailAfter Run.workAfter
+  starred-any = rw lengths-pass

@@ -83,7 +83,8 @@ apart x older t new h = go (is-or-not (eqb (x .term) t))
     go (inr e) = e
 
 -- a term among the older entries is looked up there
-past-newest : {n : ℕ} (x : Entry) (older : Trail) (t : ℕ) → Placed n x older → on older t ≡ true → (on (x ∷ older) t ≡ true) × (entry (x ∷ older) t ≡ entry older t)
+past-newest : {n : ℕ} (x : Entry) (older : Trail) (t : ℕ) → Placed n x older → on older t ≡ true
+    → (on (x ∷ older) t ≡ true) × (entry (x ∷ older) t ≡ entry older t)
 unfolding on
 past-newest x older t p h = let e = apart x older t (p .new) h in (rw e h, entry-older x older t e)
 
@@ -128,7 +129,8 @@ unfolding keptTo on entry
 off-kept m [] t r h = refl
 off-kept m (x ∷ older) t r h = let q = newest x older r in go (q .0 .new) (λ k. off-kept m older t (q .1) k) (leb (x .level) m) refl (eqb (x .term) t) refl h
   where
-    go : on older (x .term) ≡ false → (m < levelAt older t → on (keptTo m older) t ≡ false) → (k : Bool) → leb (x .level) m ≡ k → (b : Bool) → eqb (x .term) t ≡ b
+    go : on older (x .term) ≡ false → (m < levelAt older t → on (keptTo m older) t ≡ false) → (k : Bool) → leb (x .level) m ≡ k → (b : Bool)
+        → eqb (x .term) t ≡ b
         → m < (cond b x (entry older t)) .level → on (cond k (x ∷ keptTo m older) (keptTo m older)) t ≡ false
     go new r true f true e h = let l : x .level ≤ m = leb→le _ _ (true-T _ f) in absurd (omega arith)
     go new r false f true e h = kept-off m older t (ap (on older) (sym (eqb→eq _ _ (true-T _ e))) ∙ new)
@@ -147,7 +149,8 @@ kept-well-formed m (x ∷ older) r =
     cond-case (WellFormed _) (leb (x .level) m) (x ∷ keptTo m older) (keptTo m older)
     (λ h. push-well-formed x (placed (q .0) (leb→le _ _ (true-T _ h))) (kept-well-formed m older (q .1))) (λ h. kept-well-formed m older (q .1))
   where
-    ruled-kept : (b : Bool) → x .level ≤ m → x .level ≡ cond b (1 + topLevel older) (levelOf older (x .why)) → x .level ≡ cond b (1 + topLevel (keptTo m older)) (levelOf (keptTo m older) (x .why))
+    ruled-kept : (b : Bool) → x .level ≤ m → x .level ≡ cond b (1 + topLevel older) (levelOf older (x .why))
+        → x .level ≡ cond b (1 + topLevel (keptTo m older)) (levelOf (keptTo m older) (x .why))
     ruled-kept true l e = let k : topLevel (keptTo m older) ≡ topLevel older = level-kept m older (λ u. true) (omega arith) in omega arith
     ruled-kept false l e = let k : levelOf (keptTo m older) (x .why) ≡ levelOf older (x .why) = level-kept m older (x .why) (omega arith) in omega arith
 
@@ -166,10 +169,22 @@ kept-well-formed m (x ∷ older) r =
 -- ---- one entry more is well-formed
 
 pub decision-well-formed : {n : ℕ} (tr : Trail) (t v : ℕ) → WellFormed n tr → t < n → on tr t ≡ false → WellFormed n (decision tr t v ∷ tr)
-decision-well-formed tr t v r l h = push-well-formed (decision tr t v) (record { new = h; row = l; why = λ u w. absurd (true-or-false w refl); low = λ u w. absurd (true-or-false w refl); level = refl }) r
+decision-well-formed tr t v r l h =
+    push-well-formed (decision tr t v)
+    (record {
+      new = h;
+      row = l;
+      why = λ u w. absurd (true-or-false w refl);
+      low = λ u w. absurd (true-or-false w refl);
+      level = refl;
+    })
+    r
 
-pub justified-well-formed : {n : ℕ} (tr : Trail) (t v : ℕ) (s : Set) → WellFormed n tr → t < n → on tr t ≡ false → Within s tr → WellFormed n (justified tr t v s ∷ tr)
-justified-well-formed tr t v s r l h w = push-well-formed (justified tr t v s) (record { new = h; row = l; why = w; low = λ u q. level-at tr s u (w u q) q; level = refl }) r
+pub justified-well-formed : {n : ℕ} (tr : Trail) (t v : ℕ) (s : Set) → WellFormed n tr → t < n → on tr t ≡ false → Within s tr
+    → WellFormed n (justified tr t v s ∷ tr)
+justified-well-formed tr t v s r l h w =
+    push-well-formed (justified tr t v s)
+    (record { new = h; row = l; why = w; low = λ u q. level-at tr s u (w u q) q; level = refl }) r
 
 -- ---- the trail and the conflict of a well-formed state
 
@@ -232,7 +247,12 @@ module _ (ts : List ℕ) where
       let a = inference-ok tr r l v ps _ e in
       let b = unless-ok _ 16 _ (omega arith) (a .1) in
       cond-case (Kept rows) (eqb (levelOf tr (clashSet l ps)) 0) refuted (allowed (conflict tr (clashSet l ps))) (λ _. tt)
-      (λ _. (i, λ t h. ⊎-elim (λ q. ap (on tr) (eqb→eq _ _ (true-T _ q)) ∙ T-true _ (and-l (on tr l) _ (b .0))) (λ q. a .0 t q) (one-true (eqb t l) (has ps t) h))))
+      (λ _. (
+        i,
+        λ t h.
+            ⊎-elim (λ q. ap (on tr) (eqb→eq _ _ (true-T _ q)) ∙ T-true _ (and-l (on tr l) _ (b .0))) (λ q. a .0 t q)
+            (one-true (eqb t l) (has ps t) h),
+      )))
 
   module _ (tr : Trail) (E : Set) (i : WellFormed rows tr) (inside : Within E tr) where
     resolve-kept : (a : ℕ) → Kept rows (resolve ts tr E a)
@@ -345,8 +365,9 @@ call-well-formed x = go (callRefusal x) refl
         let a = orElse-ok (lengthRefusal x) _ e in
         let b = orElse-ok (sortsRefusal (x .sorts)) _ (a .1) in
         let c = orElse-ok (termsRefusal (x .sorts) (x .terms)) _ (b .1) in
+        let n = inputRows (x .inputs) in
         run-well-formed (x .terms) (x .steps) (start x) 0 (stepRows (x .steps))
-        (input-well-formed (x .terms) (x .inputs) (inputRows (x .inputs)) (λ k l. first-ok (inputRows (x .inputs)) (inputRefusal (x .terms) (x .inputs)) k (c .1) l))
+        (input-well-formed (x .terms) (x .inputs) n (λ k l. first-ok n (inputRefusal (x .terms) (x .inputs)) k (c .1) l))
     go (suc c) e = none-well-formed
 
 -- ---- levels are small
@@ -361,7 +382,8 @@ top-length (x ∷ older) r =
     let k : levelOf older (x .why) ≤ topLevel older = level-le older (x .why) _ (λ e m w. level-ge older (λ u. true) e m tt) in
     go (x .decided) h k (q .0 .level)
   where
-    go : (b : Bool) → topLevel older ≤ length older → levelOf older (x .why) ≤ topLevel older → x .level ≡ cond b (1 + topLevel older) (levelOf older (x .why)) → max (topLevel older) (x .level) ≤ suc (length older)
+    go : (b : Bool) → topLevel older ≤ length older → levelOf older (x .why) ≤ topLevel older
+        → x .level ≡ cond b (1 + topLevel older) (levelOf older (x .why)) → max (topLevel older) (x .level) ≤ suc (length older)
     go true h k e = omega arith
     go false h k e = omega arith
 
@@ -375,7 +397,8 @@ level-more (x ∷ older) s p d = go (eqb (x .term) p) refl (level-more older s p
     gone e = ap (λ (y : Entry). y .level) (entry-off older p (ap (on older) (sym (eqb→eq _ _ (true-T _ e))) ∙ d .0))
 
     go : (b : Bool) → eqb (x .term) p ≡ b → levelOf older (λ u. eqb u p || s u) ≡ max (levelAt older p) (levelOf older s) → (c : Bool)
-        → max (levelOf older (λ u. eqb u p || s u)) (cond (b || c) (x .level) 0) ≡ max ((cond b x (entry older p)) .level) (max (levelOf older s) (cond c (x .level) 0))
+        → max (levelOf older (λ u. eqb u p || s u)) (cond (b || c) (x .level) 0)
+        ≡ max ((cond b x (entry older p)) .level) (max (levelOf older s) (cond c (x .level) 0))
     go true e h true = let z = gone e in omega arith
     go true e h false = let z = gone e in omega arith
     go false e h true = omega arith

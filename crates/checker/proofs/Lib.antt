@@ -1,4 +1,4 @@
 -- The laws.
 pub mod Laws
 pub mod Answers
-pub mod Refuted
+pub mod Meaning

@@ -14,20 +14,20 @@ use Rattle.calculus.specs.Sheets.{blank, termRows}
 use Rattle.calculus.specs.Terms.{sort, leftFilled}
 use Rattle.calculus.specs.Trail.{Set, Trail, Entry, everything, remove, union, intersection, entry, valueAt, levelAt, decidedAt, whyAt, premisesAt, holds, firstOrder, levelOf, keptTo}
 use Rattle.calculus.specs.Rules.{rowOf, ruleOf}
-use Rattle.calculus.specs.WellFormed.{Within, WellFormed, WellFormedState}
+use Rattle.calculus.specs.WellFormed.{Within, WellFormed, WellFormedState, Truthful, Coherent}
 use Rattle.calculus.specs.Steps as steps
 use Rattle.calculus.specs.Steps.{State, searching, conflict, Answer, allowed, refuted, refused, answer, premiseCells, premises, kindOf, isBlank, isFilled, inferenceShaped, termShaped, pairShaped, shaped, ready, known, clashed, inferenceRefusal, rowRefusal, stepBy, step}
 use Rattle.calculus.proofs.Facts.{and-l, and-r, T-true, T-false, true-T, neq, facts, unless-ok}
 use Rattle.calculus.proofs.Entries.{entry-in, level-kept, holds-at}
 use Rattle.calculus.proofs.WellFormed.{decided-high}
+use Rattle.calculus.proofs.Truths.{value-suits}
 use Rattle.figure.specs.Inferences.{Opposite, oppositeOfTrue, oppositeOfFalse}
-use Rattle.figure.specs.Transitions.{_∈_, Boolean, Suits, Assigned, justifiedAt, Level, Inferred, Action, decide, deduce, clash, resolve, clear, jump, flip, Result, next, unsat, Transition, Decide, Deduce, Fail, Conflict, Resolve, Undo, Backjump, UndoDecide}
+use Rattle.figure.specs.Transitions.{_∈_, Boolean, Assigned, justifiedAt, Level, Inferred, Action, decide, deduce, clash, resolve, clear, jump, flip, Result, next, unsat, Transition, Decide, Deduce, Fail, Conflict, Resolve, Undo, Backjump, UndoDecide}
 use Rattle.figure.specs.Spelling.{Filled, Blank, FromLeft, noColumn, blankColumn, filledColumn, Columns, Spells}
-use Rattle.figure.specs.Faithful.{answerOf, Coherent}
+use Rattle.figure.specs.Faithful.{answerOf}
 use Rattle.calculus.proofs.WellSorted.{WellSorted}
 use Rattle.figure.proofs.Rules.{Known, Truths, fits-infers}
 use Rattle.figure.proofs.Trails.{level-is, restricted-is, off-is, below-row, entry-of, assigned-is, one-value, premises-rows, premises-is, first-order-is, first-order-of, holds-of}
-use Rattle.figure.proofs.Truths.{value-suits}
 use Rattle.figure.proofs.Spelling.{from-left, no-premise}
 
 -- ---- answers that are no refusal
@@ -59,7 +59,7 @@ module _ (ts : List ℕ) where
   refute (next u) e t = absurd (let z : _≡_ {A = ℕ} 0 1 = cc in omega arith)
   refute unsat e t = t
 
-  module _ {ss : List ℕ} (W : WellSorted ss ts) {tr : Trail} (R : WellFormed (termRows ts) tr) (N : (e : Entry) → e ∈ tr → Suits ts (e .term) (e .value)) (r : Result) where
+  module _ {ss : List ℕ} (W : WellSorted ss ts) {tr : Trail} (R : WellFormed (termRows ts) tr) (N : Truthful ts tr) (r : Result) where
     -- ---- search rules
 
     decide-back : (t v : ℕ) → t < termRows ts → steps.decide ts tr t v ≡ answerOf r → Transition ts (searching tr) (decide t v) r
@@ -93,7 +93,8 @@ module _ (ts : List ℕ) where
           c .1,
         )
 
-    deduce-back : (n l v : ℕ) (ps : List ℕ) → l < termRows ts → v ≤ 1 → steps.deduce ts tr n l v ps ≡ answerOf r → Transition ts (searching tr) (deduce (ruleOf n) l v ps) r
+    deduce-back : (n l v : ℕ) (ps : List ℕ) → l < termRows ts → v ≤ 1 → steps.deduce ts tr n l v ps ≡ answerOf r
+        → Transition ts (searching tr) (deduce (ruleOf n) l v ps) r
     unfolding steps.deduce steps.deduceRefusal
     deduce-back n l v ps k small h =
         let a = answer-ok _ _ r h in
@@ -102,10 +103,16 @@ module _ (ts : List ℕ) where
         let d = unless-ok _ 15 _ (omega arith) (c .1) in
         let off = off-is tr l (d .0) in
         settle _ r (a .1)
-        (subst (λ qs. Transition ts (searching tr) (deduce (ruleOf n) l v qs) (next (searching (justifiedAt l v (levelOf tr (has qs)) (has qs) ∷ tr)))) (premises-rows tr ps)
+        (subst (λ qs. Transition ts (searching tr) (deduce (ruleOf n) l v qs) (next (searching (justifiedAt l v (levelOf tr (has qs)) (has qs) ∷ tr))))
+        (premises-rows tr ps)
         (Deduce k (b .0 (λ y. off (y .0) (y .1) (y .2))) (λ y. off (y .0) (y .1) (y .2)) (level-is tr (has (map rowOf (premisesAt tr ps))))))
 
-    clash-back : (n l v : ℕ) (ps : List ℕ) → l < termRows ts → v ≤ 1 → steps.clash ts tr n l v ps ≡ answerOf r → Transition ts (searching tr) (clash (ruleOf n) l v ps) r
+    -- the rows xs refute, or are the conflict
+    abbrev opened : List ℕ → Answer
+    opened xs = cond (eqb (levelOf tr (has xs)) 0) refuted (allowed (conflict tr (has xs)))
+
+    clash-back : (n l v : ℕ) (ps : List ℕ) → l < termRows ts → v ≤ 1 → steps.clash ts tr n l v ps ≡ answerOf r
+        → Transition ts (searching tr) (clash (ruleOf n) l v ps) r
     unfolding steps.clash steps.clashRefusal clashed
     clash-back n l v ps k small h =
         let a = answer-ok _ _ r h in
@@ -113,17 +120,18 @@ module _ (ts : List ℕ) where
         let c = unless-ok _ 16 _ (omega arith) (b .1) in
         let there = assigned-is tr l (opposite v) (c .0) in
         let i = b .0 (λ y. let q : v ≡ opposite v = one-value R l v (opposite v) y there in omega arith) in
-        let E = has (l ∷ ps) in
-        subst (λ qs. cond (eqb (levelOf tr (has (l ∷ qs))) 0) refuted (allowed (conflict tr (has (l ∷ qs)))) ≡ answerOf r → Transition ts (searching tr) (clash (ruleOf n) l v qs) r)
+        subst (λ qs. opened (l ∷ qs) ≡ answerOf r → Transition ts (searching tr) (clash (ruleOf n) l v qs) r)
         (premises-rows tr ps) (go i there) (a .1)
       where
         go : Inferred ts tr (ruleOf n) (premisesAt tr ps) l v (opposite v) → Assigned tr l (opposite v)
-            → cond (eqb (levelOf tr (has (l ∷ map rowOf (premisesAt tr ps)))) 0) refuted (allowed (conflict tr (has (l ∷ map rowOf (premisesAt tr ps))))) ≡ answerOf r
+            → opened (l ∷ map rowOf (premisesAt tr ps)) ≡ answerOf r
             → Transition ts (searching tr) (clash (ruleOf n) l v (map rowOf (premisesAt tr ps))) r
-        go i there e = pick (levelOf tr (has (l ∷ map rowOf (premisesAt tr ps)))) (level-is tr (has (l ∷ map rowOf (premisesAt tr ps)))) e
+        go i there e = pick (levelOf tr E) (level-is tr E) e
           where
-            pick : (m : ℕ) → Level tr (has (l ∷ map rowOf (premisesAt tr ps))) m
-                → cond (eqb m 0) refuted (allowed (conflict tr (has (l ∷ map rowOf (premisesAt tr ps))))) ≡ answerOf r
+            E : Set
+            E = has (l ∷ map rowOf (premisesAt tr ps))
+
+            pick : (m : ℕ) → Level tr E m → cond (eqb m 0) refuted (allowed (conflict tr E)) ≡ answerOf r
                 → Transition ts (searching tr) (clash (ruleOf n) l v (map rowOf (premisesAt tr ps))) r
             pick zero z e = refute r e (Fail i there z)
             pick (suc m) z e = settle _ r (rw (eqb·suc-zero m) at e) (Conflict i there z (omega arith))
@@ -145,7 +153,8 @@ module _ (ts : List ℕ) where
           (subst (λ H. Transition ts (conflict tr E) (resolve (a .term)) (next (conflict tr (union (remove E (a .term)) H)))) (sym w)
           (Resolve (m, T-true _ (c .0)) (sym d ∙ T-false _ (e .0)) (level-is tr E)
           (λ x g o l. T-not (holds tr (whyAt tr (a .term)) (firstOrder ts (levelOf tr E))) (f .0)
-          (holds-of tr (whyAt tr (a .term)) (firstOrder ts (levelOf tr E)) x (g .0, ap (λ (H : Set). H (x .term)) w ∙ g .1) (first-order-of ts (levelOf tr E) x o l)))))
+          (holds-of tr (whyAt tr (a .term)) (firstOrder ts (levelOf tr E)) x (g .0, ap (λ (H : Set). H (x .term)) w ∙ g .1)
+          (first-order-of ts (levelOf tr E) x o l)))))
 
       clear-back : (a : Entry) → a ∈ tr → steps.clear ts tr E (a .term) ≡ answerOf r → Transition ts (conflict tr E) (clear (a .term)) r
       unfolding steps.clear steps.clearRefusal
@@ -178,12 +187,14 @@ module _ (ts : List ℕ) where
           let k : levelOf tr S < levelAt tr (l .term) = ltb→lt _ _ (f .0) in
           let g : levelOf (keptTo (levelOf tr S) tr) S ≡ levelOf tr S = level-kept (levelOf tr S) tr S (omega arith) in
           settle _ r (b .1)
-          (subst (λ n. Transition ts (conflict tr E) (jump (l .term)) (next (searching (justifiedAt (l .term) (opposite (valueAt tr (l .term))) n S ∷ keptTo (levelOf tr S) tr)))) (sym g)
+          (subst (λ n. Transition ts (conflict tr E) (jump (l .term))
+          (next (searching (justifiedAt (l .term) (opposite (valueAt tr (l .term))) n S ∷ keptTo (levelOf tr S) tr)))) (sym g)
           (Backjump (m, T-true _ (c .0)) boolean
           (subst (λ x. Opposite (l .value) (opposite x)) (sym u) (opposite-there (l .value) (N l m boolean)))
           (level-is tr S) (omega arith) (restricted-is (levelOf tr S) tr)))
 
-      flip-back : (l k : Entry) → l ∈ tr → k ∈ tr → steps.flip ts tr E (l .term) (k .term) ≡ answerOf r → Transition ts (conflict tr E) (flip (l .term) (k .term)) r
+      flip-back : (l k : Entry) → l ∈ tr → k ∈ tr → steps.flip ts tr E (l .term) (k .term) ≡ answerOf r
+          → Transition ts (conflict tr E) (flip (l .term) (k .term)) r
       unfolding steps.flip steps.flipRefusal
       flip-back l k ml mk h =
           let ql = entry-of R l ml in
@@ -237,12 +248,15 @@ module _ (ts : List ℕ) where
             let c = unless-ok _ 17 _ (omega arith) (answer-ok _ _ r h .0) in
             at-entry (λ t. steps.jump ts tr E t ≡ answerOf r → Transition ts (conflict tr E) (jump t) r) l (T-true _ (c .0)) jump-back h
 
-        flip-at : (l k : ℕ) → steps.flip ts tr E l k ≡ answerOf r → Transition ts (conflict tr E) (flip l k) r
+        abbrev Flips : ℕ → ℕ → Type 0
+        Flips l k = steps.flip ts tr E l k ≡ answerOf r → Transition ts (conflict tr E) (flip l k) r
+
+        flip-at : (l k : ℕ) → Flips l k
         unfolding steps.flip steps.flipRefusal
         flip-at l k h =
             let c = unless-ok _ 17 _ (omega arith) (answer-ok _ _ r h .0) in
-            at-entry (λ t. steps.flip ts tr E t k ≡ answerOf r → Transition ts (conflict tr E) (flip t k) r) l (T-true _ (and-l (E l) _ (c .0)))
-            (λ e m. at-entry (λ t. steps.flip ts tr E (e .term) t ≡ answerOf r → Transition ts (conflict tr E) (flip (e .term) t) r) k (T-true _ (and-r (E l) _ (c .0)))
+            at-entry (λ t. Flips t k) l (T-true _ (and-l (E l) _ (c .0)))
+            (λ e m. at-entry (λ t. Flips (e .term) t) k (T-true _ (and-r (E l) _ (c .0)))
             (λ d n. flip-back e d m n)) h
 
 -- ---- what a row of the right shape spells
@@ -304,7 +318,8 @@ module _ (ts : List ℕ) {ss : List ℕ} (W : WellSorted ss ts) (x : Step) (r : 
   abbrev Spelled : State → Type 0
   Spelled s = (a : Action) × Spells x a × Transition ts s a r
 
-  by-kind : (k : Kind) (s : State) → kindOf (x .step) ≡ k → Coherent ts s → T (shaped x k) → T (ready s k) → x .term < termRows ts → stepBy ts k s x ≡ answerOf r → Spelled s
+  by-kind : (k : Kind) (s : State) → kindOf (x .step) ≡ k → Coherent ts s → T (shaped x k) → T (ready s k) → x .term < termRows ts
+      → stepBy ts k s x ≡ answerOf r → Spelled s
   unfolding WellFormedState shaped ready stepBy
   by-kind kinds.Decide (searching tr) e h p g l z =
       (decide (x .term) (x .value), decision-spelled x e p, decide-back ts W (h .wellFormed) (h .truths) r (x .term) (x .value) l z)

@@ -18,16 +18,15 @@ use Rattle.calculus.specs.Terms.{prop, sort}
 use Rattle.calculus.specs.Trail.{Set, Trail, Entry, everything, remove, union, intersection, valueAt, levelAt, decidedAt, whyAt, assigned, holds, firstOrder, levelOf, topLevel, keptTo}
 use Rattle.calculus.specs.Inputs.{valueSuits}
 use Rattle.calculus.specs.Rules.{rowOf, ruleOf, ruleListed, fits}
-use Rattle.calculus.specs.WellFormed.{WellFormed, WellFormedState}
+use Rattle.calculus.specs.WellFormed.{WellFormed, WellFormedState, Truthful, Coherent}
 use Rattle.calculus.specs.Steps as steps
 use Rattle.calculus.specs.Steps.{State, searching, conflict, Answer, allowed, refuted, answer, premiseCells, premises, kindOf, isBlank, isFilled, inferenceShaped, termShaped, pairShaped, shaped, ready, known, clashed, inferenceRefusal, rowRefusal, stepBy, step}
-use Rattle.calculus.proofs.Facts.{and-both, T-true, T-false, true-T, false-T, all-of}
+use Rattle.calculus.proofs.Facts.{eqb-of, neqb-of, and-both, T-true, T-false, true-T, false-T, all-of}
 use Rattle.calculus.proofs.Entries.{level-kept, holds-at}
 use Rattle.figure.specs.Inferences.{Opposite, oppositeOfTrue, oppositeOfFalse}
-use Rattle.figure.specs.Transitions.{_∈_, Boolean, Suits, Among, Assigned, Absent, FirstOrder, decisionAt, justifiedAt, Level, Restricted, Inferred, Action, Result, Transition, Decide, Deduce, Fail, Conflict, Resolve, Undo, Backjump, UndoDecide}
+use Rattle.figure.specs.Transitions.{Boolean, Suits, Among, Assigned, Absent, FirstOrder, decisionAt, justifiedAt, Level, Restricted, Inferred, Action, Result, Transition, Decide, Deduce, Fail, Conflict, Resolve, Undo, Backjump, UndoDecide}
 use Rattle.figure.specs.Spelling.{Filled, Blank, FromLeft, filledColumn, Columns, Spells}
-use Rattle.figure.specs.Faithful.{answerOf, Coherent}
-use Rattle.figure.proofs.Rows.{eqb-of, neqb-of}
+use Rattle.figure.specs.Faithful.{answerOf}
 use Rattle.figure.proofs.Rules.{opposite-sum, infers-fits, infers-listed}
 use Rattle.figure.proofs.Trails.{level-of, restricted-of, off-of, below-row, entry-of, assigned-of, assigned-is, premises-of, first-order-is, first-order-of, holds-of}
 use Rattle.figure.proofs.Spelling.{blanks-of, filled-of, left-of, listed}
@@ -107,7 +106,7 @@ module _ (ts : List ℕ) where
       and-both (ltb (x .term) (termRows ts)) _ (lt→ltb _ _ (subst (λ t. t < termRows ts) (sym (c .subject .0)) l))
       (subst (λ qs. T (all (λ p. ltb p (termRows ts)) qs)) (sym (premises-as c)) (all-of (λ p. ltb p (termRows ts)) ps (λ p m. lt→ltb _ _ (f p m))))
 
-  module _ {tr : Trail} (R : WellFormed (termRows ts) tr) (N : (e : Entry) → e ∈ tr → Suits ts (e .term) (e .value)) where
+  module _ {tr : Trail} (R : WellFormed (termRows ts) tr) (N : Truthful ts tr) where
     -- ---- search rules
 
     decide-answer : {t v m : ℕ} → Suits ts t v → Absent tr t → Level tr everything m
@@ -142,7 +141,8 @@ module _ (ts : List ℕ) where
         go (inl a) = i .new (e, m, q, a)
         go (inr b) = n (e, m, q, b)
 
-    deduce-answer : {r : Rule} {J : List Premise} {l v w m : ℕ} (n : ℕ) → Inferred ts tr r J l v w → ruleOf n ≡ r → ¬ Assigned tr l w → Level tr (has (map rowOf J)) m
+    deduce-answer : {r : Rule} {J : List Premise} {l v w m : ℕ} (n : ℕ) → Inferred ts tr r J l v w → ruleOf n ≡ r → ¬ Assigned tr l w
+        → Level tr (has (map rowOf J)) m
         → steps.deduce ts tr n l v (map rowOf J) ≡ allowed (searching (justifiedAt l v m (has (map rowOf J)) ∷ tr))
     unfolding steps.deduce steps.deduceRefusal
     deduce-answer {J = ps} {l} {v} n i e o z =
@@ -170,7 +170,8 @@ module _ (ts : List ℕ) where
     -- ---- conflict resolution rules
 
     module _ (E : Set) where
-      resolve-answer : {a : Entry} {m : ℕ} → Among tr E a → a .decided ≡ false → Level tr E m → ((d : Entry) → Among tr (a .why) d → FirstOrder ts d → d .level ≢ m)
+      resolve-answer : {a : Entry} {m : ℕ} → Among tr E a → a .decided ≡ false → Level tr E m
+          → ((d : Entry) → Among tr (a .why) d → FirstOrder ts d → d .level ≢ m)
           → steps.resolve ts tr E (a .term) ≡ allowed (conflict tr (union (remove E (a .term)) (a .why)))
       unfolding steps.resolve steps.resolveRefusal
       resolve-answer {a} {m} h j z f =
@@ -180,7 +181,9 @@ module _ (ts : List ℕ) where
           answer-of _ _
           (unless-of _ 17 _ (true-T _ (h .1))
           (unless-of _ 18 _ (false-T _ d)
-          (unless-of _ 19 _ (not-T (holds tr (whyAt tr (a .term)) (firstOrder ts (levelOf tr E))) (λ t. barred (subst (λ H. T (holds tr H (firstOrder ts (levelOf tr E)))) w t))) refl)))
+          (unless-of _ 19 _
+          (not-T (holds tr (whyAt tr (a .term)) (firstOrder ts (levelOf tr E))) (λ t.
+          barred (subst (λ H. T (holds tr H (firstOrder ts (levelOf tr E)))) w t))) refl)))
           ∙ (λ i. allowed (conflict tr (union (remove E (a .term)) (w i))))
         where
           barred : T (holds tr (a .why) (firstOrder ts (levelOf tr E))) → ⊥
@@ -189,7 +192,8 @@ module _ (ts : List ℕ) where
               let o = first-order-is ts (levelOf tr E) (y .0) (y .3) in
               f (y .0) (y .1, T-true _ (y .2)) (o .0) (o .1 ∙ level-of z)
 
-      clear-answer : {rest : Trail} {a : Entry} {m n : ℕ} → Among tr E a → FirstOrder ts a → a .level ≡ 1 + m → Level tr (remove E (a .term)) n → n < a .level → Restricted m tr rest
+      clear-answer : {rest : Trail} {a : Entry} {m n : ℕ} → Among tr E a → FirstOrder ts a → a .level ≡ 1 + m → Level tr (remove E (a .term)) n
+          → n < a .level → Restricted m tr rest
           → steps.clear ts tr E (a .term) ≡ allowed (searching rest)
       unfolding steps.clear steps.clearRefusal
       clear-answer {a = a} {m} {n} h o e z l r =
@@ -205,7 +209,8 @@ module _ (ts : List ℕ) where
           ∙ (λ i. allowed (searching (keptTo (c i) tr)))
           ∙ (λ i. allowed (searching (restricted-of r i)))
 
-      jump-answer : {rest : Trail} {l : Entry} {m w : ℕ} → Among tr E l → Boolean ts (l .term) → Opposite (l .value) w → Level tr (remove E (l .term)) m → m < l .level → Restricted m tr rest
+      jump-answer : {rest : Trail} {l : Entry} {m w : ℕ} → Among tr E l → Boolean ts (l .term) → Opposite (l .value) w
+          → Level tr (remove E (l .term)) m → m < l .level → Restricted m tr rest
           → steps.jump ts tr E (l .term) ≡ allowed (searching (justifiedAt (l .term) w m (remove E (l .term)) ∷ rest))
       unfolding steps.jump steps.jumpRefusal
       jump-answer {rest} {l} {m} {w} h b o z k r =
@@ -248,7 +253,8 @@ module _ (ts : List ℕ) where
           (unless-of _ 18 _ (and-both (not (decidedAt tr (l .term))) _ (false-T _ sl) (false-T _ sk))
           (unless-of _ 23 _
           (and-both (not (eqb (l .term) (k .term))) _ (neqb-of ne)
-          (holds-of tr (intersection (whyAt tr (l .term)) (whyAt tr (k .term))) (firstOrder ts (levelOf tr E)) d (dl .0, both) (first-order-of ts (levelOf tr E) d fo (e ∙ sym c)))) refl))))
+          (holds-of tr (intersection (whyAt tr (l .term)) (whyAt tr (k .term))) (firstOrder ts (levelOf tr E)) d (dl .0, both)
+          (first-order-of ts (levelOf tr E) d fo (e ∙ sym c)))) refl))))
           ∙ (λ i. allowed (searching (decisionAt (l .term) (v i) (1 + g i) ∷ t i)))
 
   -- ---- rows of the sheet

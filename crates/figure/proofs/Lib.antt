@@ -2,7 +2,6 @@
 pub mod Rows
 pub mod Rules
 pub mod Trails
-pub mod Truths
 pub mod Spelling
 pub mod Forth
 pub mod Back

@@ -1,7 +1,7 @@
 -- A rule's test passes exactly where the relation has an inference by that rule.
 use mathlib.Core.Path.{_≡_, refl, sym, ap, subst, subst₂, _∙_}
 use mathlib.Core.Logic.{_≢_, _⊎_, inl, inr}
-use mathlib.Core.Bool.{Bool, true, false, not, _&&_, _||_}
+use mathlib.Core.Bool.{Bool, not, _&&_, _||_}
 use mathlib.Core.List.{List, [], _∷_, _++_, map, List·Memᴰ, List·Memᴰ·head, List·Memᴰ·tail, List·Memᴰ·cases-cons, List·Memᴰ·not-nil, Memᴰ·map, Memᴰ·of-map}
 use Prim.Native.Nat.{ℕ, zero, suc, _+_, _≤_, _<_}
 use native.Mathlib.Omega.{arith}
@@ -15,11 +15,11 @@ use Rattle.calculus.specs.Sheets.{termRows}
 use Rattle.calculus.specs.Terms.{head, sort, args, arg, headOf, eqHead, notHead, andHead, orHead, selectHead, storeHead}
 use Rattle.calculus.specs.Terms as terms
 use Rattle.calculus.specs.Rules.{rowOf, valueOf, gives, bare, single, double, leading, notOf, andOf, orOf, evaluates, others, unitAt, isHead, isEq, equates, pairs, fits}
-use Rattle.calculus.proofs.Facts.{and-l, and-r, and-both, or-cases, or-l, or-r, facts, all-at, all-of, any-at, any-of, has-at, has-of}
+use Rattle.calculus.proofs.Facts.{num-true, num-false, eqb-of, neqb-of, and-l, and-r, and-both, or-cases, or-l, or-r, facts, all-at, all-of, any-at, any-of, has-at, has-of}
 use Rattle.calculus.proofs.Forms.{unitHere, unit-none, unit-last, unit-front, connected}
 use Rattle.figure.specs.Inferences.{assign, Opposite, oppositeOfTrue, oppositeOfFalse, Applied, Equation, orByTrue, andByFalse, Evaluates, negation, settled, unsettled, Pointwise, noPosition, position, Infers, same, differ, reflexivity, symmetry, transitivity, negated, part, unit, evaluation, congruence, predicate, read, skip}
 use Rattle.calculus.proofs.WellSorted.{eqList-eq, WellSorted}
-use Rattle.figure.proofs.Rows.{eqb-of, neqb-of, eqList-refl, args-short, column, function-head, free-head, function-test, free-test, equation-row, select-row, store-row, not-row, not-props, and-props, or-props}
+use Rattle.figure.proofs.Rows.{eqList-refl, args-short, column, function-head, free-head, function-test, free-test, equation-row, select-row, store-row, not-row, not-props, and-props, or-props}
 
 -- ---- truth values
 
@@ -93,14 +93,6 @@ unit-of w l (x ∷ xs) ys =
 
 -- ---- values of not, and, or
 
-num-true : (b : Bool) → T b → num b ≡ 1
-num-true true h = refl
-num-true false h = absurd h
-
-num-false : (b : Bool) → (T b → ⊥) → num b ≡ 0
-num-false true h = absurd (h tt)
-num-false false h = refl
-
 -- each of vs is a truth value
 abbrev Small : List ℕ → Type 0
 Small vs = (x : ℕ) → List·Memᴰ x vs → x ≤ 1
@@ -118,7 +110,8 @@ found w u o (y ∷ vs) s = go (found w u o vs (λ x m. s x (List·Memᴰ·tail m
         pick x (inl q) = q ∙ e
         pick x (inr k) = f x k
 
-    go : {w u : ℕ} → List·Memᴰ w vs ⊎ ((x : ℕ) → List·Memᴰ x vs → x ≡ u) → Opposite w u → (y : ℕ) → y ≤ 1 → List·Memᴰ w (y ∷ vs) ⊎ ((x : ℕ) → List·Memᴰ x (y ∷ vs) → x ≡ u)
+    go : {w u : ℕ} → List·Memᴰ w vs ⊎ ((x : ℕ) → List·Memᴰ x vs → x ≡ u) → Opposite w u → (y : ℕ) → y ≤ 1
+        → List·Memᴰ w (y ∷ vs) ⊎ ((x : ℕ) → List·Memᴰ x (y ∷ vs) → x ≡ u)
     go r oppositeOfTrue zero l = add 0 refl r
     go r oppositeOfTrue (suc zero) l = inl (List·Memᴰ·head refl)
     go r oppositeOfTrue (suc (suc y)) l = absurd (omega arith)
@@ -339,7 +332,8 @@ module _ {ss ts : List ℕ} (W : WellSorted ss ts) where
       let g : arg ts (p .row) 1 ≡ y = search facts in
       let w : p .value ≡ 1 = search facts in
       subst (λ v. Pointwise ts (x ∷ xs) (y ∷ ys) (assign v (p .row) ∷ ps)) (sym w)
-      (position (equation-from (p .row) x y (K p (List·Memᴰ·head refl)) e f g) (pairs-is xs ys ps (λ q m. K q (List·Memᴰ·tail m)) (and-r (equates ts x y 1 p) _ h)))
+      (position (equation-from (p .row) x y (K p (List·Memᴰ·head refl)) e f g)
+      (pairs-is xs ys ps (λ q m. K q (List·Memᴰ·tail m)) (and-r (equates ts x y 1 p) _ h)))
 
   module _ (l v : ℕ) (k : l < termRows ts) where
     abbrev Given : Rule → List Premise → Type 0
@@ -442,7 +436,8 @@ module _ {ss ts : List ℕ} (W : WellSorted ss ts) where
         with-first (Given Unit) ps _ h (λ p M t K N.
         go p M (or-cases (connected ts orHead p 1 v 1 && unitAt 0 l (args ts (p .row)) M) _ t))
       where
-        go : (p : Premise) (M : List Premise) → T (connected ts orHead p 1 v 1 && unitAt 0 l (args ts (p .row)) M) ⊎ T (connected ts andHead p 0 v 0 && unitAt 1 l (args ts (p .row)) M)
+        go : (p : Premise) (M : List Premise)
+            → T (connected ts orHead p 1 v 1 && unitAt 0 l (args ts (p .row)) M) ⊎ T (connected ts andHead p 0 v 0 && unitAt 1 l (args ts (p .row)) M)
             → Infers ts Unit (p ∷ M) l v
         go p M (inl t) =
             let e : head ts (p .row) ≡ orHead = search facts in
@@ -481,7 +476,8 @@ module _ {ss ts : List ℕ} (W : WellSorted ss ts) where
         done : (h : ℕ) → map rowOf ps ≡ args ts l → head ts l ≡ h → (w : ℕ) → v ≡ w → Evaluates h (map valueOf ps) w → Infers ts Evaluation ps l v
         done h e q w f x = into refl f (evaluation (record { headed = q; arguments = sym e }) x)
 
-        last : map rowOf ps ≡ args ts l → T (eqb (head ts l) andHead && eqb v (num (andOf (map valueOf ps)))) ⊎ T (eqb (head ts l) orHead && eqb v (num (orOf (map valueOf ps))))
+        last : map rowOf ps ≡ args ts l
+            → T (eqb (head ts l) andHead && eqb v (num (andOf (map valueOf ps)))) ⊎ T (eqb (head ts l) orHead && eqb v (num (orOf (map valueOf ps))))
             → Infers ts Evaluation ps l v
         last e (inl t) =
             let q : head ts l ≡ andHead = search facts in

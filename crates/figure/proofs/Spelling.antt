@@ -16,9 +16,8 @@ use Rattle.calculus.specs.Sheets.{blank}
 use Rattle.calculus.specs.Terms.{filled, leftFilled}
 use Rattle.calculus.specs.Rules.{rules, ruleOf, ruleListed}
 use Rattle.calculus.specs.Steps.{premiseCells, isBlank}
-use Rattle.calculus.proofs.Facts.{and-l, and-r, and-both, T-true, T-false, true-T}
+use Rattle.calculus.proofs.Facts.{eqb-of, neqb-of, and-l, and-r, and-both, T-true, T-false, true-T}
 use Rattle.figure.specs.Spelling.{FromLeft, noColumn, blankColumn, filledColumn}
-use Rattle.figure.proofs.Rows.{eqb-of, neqb-of}
 
 -- ---- premises from the left
 
@@ -30,7 +29,8 @@ pub from-left : (cs : List ℕ) → T (leftFilled cs) → FromLeft cs (filled cs
 from-left [] h = noColumn
 from-left (c ∷ cs) h = go (λ k. from-left cs k) (eqb c blank) refl h
   where
-    go : (T (leftFilled cs) → FromLeft cs (filled cs)) → (b : Bool) → eqb c blank ≡ b → T (cond b (all isBlank cs) (leftFilled cs)) → FromLeft (c ∷ cs) (cond b [] (c ∷ filled cs))
+    go : (T (leftFilled cs) → FromLeft cs (filled cs)) → (b : Bool) → eqb c blank ≡ b → T (cond b (all isBlank cs) (leftFilled cs))
+        → FromLeft (c ∷ cs) (cond b [] (c ∷ filled cs))
     go f true e h = blankColumn (eqb→eq c blank (true-T _ e)) (all-blank cs h)
     go f false e h = filledColumn (refl, λ q. subst T e (eqb-of q)) (f h)
 

@@ -14,17 +14,17 @@ use Rattle.calculus.specs.Sorts.{sortsRefusal}
 use Rattle.calculus.specs.Terms.{termsRefusal}
 use Rattle.calculus.specs.Trail.{Trail}
 use Rattle.calculus.specs.Rules.{rowOf, ruleOf}
-use Rattle.calculus.specs.WellFormed.{WellFormed, WellFormedState}
+use Rattle.calculus.specs.WellFormed.{WellFormed, WellFormedState, Coherent}
 use Rattle.calculus.specs.Steps.{State, kindOf, step}
 use Rattle.calculus.specs.Run.{run, start, sheetsRefusal, callRefusal}
 use Rattle.calculus.proofs.Facts.{true-T, T-true, unless-ok, orElse-ok, facts}
 use Rattle.figure.specs.Transitions.{Inferred, Action, Result, Transition, Decide, Deduce, Fail, Conflict, Resolve, Undo, Backjump, UndoDecide}
 use Rattle.figure.specs.Spelling.{Filled, FromLeft, noColumn, blankColumn, filledColumn, Columns, Spells, SixteenBits, Writable}
-use Rattle.figure.specs.Faithful.{Coherent, RulesFaithful, Faithful}
+use Rattle.figure.specs.Faithful.{RulesFaithful, Faithful}
 use Rattle.calculus.proofs.WellSorted.{well-sorted}
+use Rattle.calculus.proofs.Truths.{run-coherent, start-coherent}
 use Rattle.figure.proofs.Rules.{fits-infers, infers-fits, infers-short, opposite-sum}
 use Rattle.figure.proofs.Trails.{below-row}
-use Rattle.figure.proofs.Truths.{run-coherent, start-coherent}
 use Rattle.figure.proofs.Spelling.{rule-number}
 use Rattle.figure.proofs.Forth.{forth, assigned-row, premise-rows}
 use Rattle.figure.proofs.Back.{back}
@@ -94,14 +94,16 @@ module _ (ts : List ℕ) (short : termRows ts ≤ 256) where
   alone : (k t : ℕ) → k ≤ 6 → t < termRows ts → Written (kindOf k) blank t blank []
   alone k t i l = write k blank t blank [] i (omega arith) (omega arith) (omega arith) (omega arith) no-premises
 
-  inference-row : {tr : Trail} {r : Rule} {J : List Premise} {l v w : ℕ} (k : ℕ) → k ≤ 6 → WellFormed (termRows ts) tr → l < termRows ts → Inferred ts tr r J l v w
+  inference-row : {tr : Trail} {r : Rule} {J : List Premise} {l v w : ℕ} (k : ℕ) → k ≤ 6 → WellFormed (termRows ts) tr → l < termRows ts
+      → Inferred ts tr r J l v w
       → Written (kindOf k) (rule-number r .0) l v (map rowOf J)
   inference-row {r = r} {J = ps} {l} {v} k i R b h =
       let s = infers-short (h .inference) in
       let m = length-map ps rowOf in
       let o = opposite-sum (h .other) in
       let n = rule-number r .2 in
-      write k (rule-number r .0) l v (map rowOf ps) i (omega arith) (omega arith) (omega arith) (omega arith) (λ p q. let z = premise-rows ts R h p q in omega arith)
+      write k (rule-number r .0) l v (map rowOf ps) i (omega arith) (omega arith) (omega arith) (omega arith)
+      (λ p q. let z = premise-rows ts R h p q in omega arith)
 
   row-of : {s : State} {a : Action} {r : Result} → Coherent ts s → Writable a → Transition ts s a r → Row a
   unfolding WellFormedState kindOf

@@ -1,9 +1,7 @@
--- The claim is not empty: every sort sheet and every term sheet has an interpretation, so that no log refutes the empty input; and an input of the
--- small board that an interpretation endorses is refuted by no log.
+-- The claim is not empty: every sort sheet and every term sheet has an interpretation, so that no log refutes the empty input.
 use mathlib.Core.Path.{_≡_, refl, sym, _∙_}
 use mathlib.Core.Logic.{_≢_, ∥∥₁-elim}
-use mathlib.Core.Bool.{true}
-use mathlib.Core.List.{List, [], map}
+use mathlib.Core.List.{List, []}
 use Prim.Native.Nat.{ℕ, zero, suc, _≤_, _<_}
 use native.Mathlib.Omega.{arith}
 use Rattle.calculus.specs.Sheets.{Call, lengthRefusal}
@@ -14,7 +12,7 @@ use Rattle.calculus.proofs.Facts.{orElse-ok}
 use Rattle.calculus.proofs.WellSorted.{WellSorted, well-sorted}
 use Rattle.soundness.specs.Interpretation.{Elements, Function, Structure, Interpretation, Endorses}
 use Rattle.soundness.specs.Claim.{Given}
-use Rattle.soundness.proofs.Rows.{array-not-prop}
+use Rattle.calculus.proofs.Rows.{array-not-prop}
 use Rattle.soundness.proofs.Values.{has-values}
 use Rattle.soundness.proofs.Theorem.{sound}
 
@@ -28,7 +26,8 @@ total-function D from to f c =
       into = λ xs d y p. rw p (c xs d);
     }
 
--- every domain is the set of 0 alone
+-- ---- one element in every sort
+
 abbrev Point : ℕ → ℕ → Type 0
 Point zero x = x ≤ 1
 Point (suc s) x = x ≡ 0
@@ -37,23 +36,24 @@ point-zero : (s : ℕ) → Point s 0
 point-zero zero = omega arith
 point-zero (suc s) = refl
 
-point-is : (s x : ℕ) → 0 < s → Point s x → x ≡ 0
-point-is zero x l p = absurd (omega arith)
-point-is (suc s) x l p = p
+-- 0 and nothing else
+point-one : (s : ℕ) → 0 < s → Point s 0 × ((x : ℕ) → Point s x → x ≡ 0)
+point-one zero l = absurd (omega arith)
+point-one (suc s) l = (refl, λ x p. p)
 
 pub point : (ss ts : List ℕ) → Structure ss ts
 point ss ts =
     record {
       Domain = Point;
       truths = λ x. (λ p. p, λ p. p);
-      inhabited = λ s d. ∣ (0, point-zero s) ∣₁;
+      inhabited = λ s d. let one = point-one s (d .0) in ∣ (0, search) ∣₁;
       Apply = λ h xs y. y ≡ 0;
       free = λ t l f. total-function Point _ (sort ts t) (λ xs. 0) (λ xs d. point-zero (sort ts t));
       Selects = λ s xs y. y ≡ 0;
       select = λ s a. total-function Point _ (valueSort ss s) (λ xs. 0) (λ xs d. point-zero (valueSort ss s));
       Stores = λ s xs y. y ≡ 0;
       store = λ s a. total-function Point _ s (λ xs. 0) (λ xs d. point-zero s);
-      read-stored = λ s a i v b x h p q r m n. n ∙ sym (point-is (valueSort ss s) v (array-not-prop ss s h .2) r);
+      read-stored = λ s a i v b x h p q r m n. n ∙ sym (point-one (valueSort ss s) (array-not-prop ss s h .2) .1 v r);
       read-other = λ s a i j v b x y h p q r w o m n k. n ∙ sym k;
     }
 

@@ -1,7 +1,7 @@
 -- `step_rows::more_known` meets its contract.
 use mathlib.Core.Path.{sym}
 use lib.Dec.{ltb}
-use Rattle.step_rows.proofs.Laws.{all-more}
+use Rattle.calculus.proofs.Forms.{all-more}
 use Rattle.step_rows.proofs.more_known.Statement.{statement}
 use Rattle.step_rows.proofs.more_known.Tie as tie
 

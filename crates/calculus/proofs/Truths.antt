@@ -6,50 +6,44 @@ use mathlib.Core.List.{List, [], _∷_, List·Memᴰ, List·Memᴰ·cases-cons, 
 use Prim.Native.Nat.{ℕ, zero, suc, _≤_, _<_}
 use native.Mathlib.Omega.{arith}
 use lib.Dec.{T, eqb, leb, leb→le, T-not}
 use Rattle.calculus.specs.declared.Step.{Step}
 use Rattle.calculus.specs.declared.Kind.{Kind}
 use Rattle.calculus.specs.declared.Kind.the-variants.{Decide, Deduce, Clash, Resolve, Clear, Jump, Flip, Unlisted}
 use Rattle.calculus.specs.Sheets.{blank, inputRows}
-use Rattle.calculus.specs.Terms.{prop}
+use Rattle.calculus.specs.Terms.{sort, prop}
 use Rattle.calculus.specs.Trail.{Trail, Entry, levelOf, keptTo, decision}
 use Rattle.calculus.specs.Inputs.{given, inputTerm, inputValue, inputTrail, valueSuits, inputRefusal, inputsRefusal}
 use Rattle.calculus.specs.Steps.{State, searching, conflict, trailOf, Answer, allowed, refuted, refused, answer, stepAt, premises, kindOf, shaped, decideRefusal, decide, deduce, clashed, clashSet, clash, resolve, clear, jump, flip, rowRefusal, stepBy, step}
-use Rattle.calculus.specs.WellFormed.{WellFormedState}
+use Rattle.calculus.specs.WellFormed.{WellFormedState, Truthful, Coherent}
 use Rattle.calculus.specs.Run.{follow, run}
-use Rattle.calculus.proofs.Facts.{and-r, or-cases, facts, cond-case, unless-ok, first-ok, answer-case}
+use Rattle.calculus.proofs.Facts.{eqb-of, and-r, or-cases, facts, cond-case, unless-ok, first-ok, answer-case}
 use Rattle.calculus.proofs.Entries.{kept-out}
 use Rattle.calculus.proofs.WellFormed.{input-well-formed, step-well-formed}
-use Rattle.figure.specs.Transitions.{_∈_, Suits}
-use Rattle.figure.specs.Faithful.{Coherent}
-use Rattle.figure.proofs.Rows.{eqb-of}
 
 module _ (ts : List ℕ) where
-  abbrev Truthful : Trail → Type 0
-  Truthful tr = (e : Entry) → e ∈ tr → Suits ts (e .term) (e .value)
-
-  pub value-suits : (t v : ℕ) → T (valueSuits ts t v) → Suits ts t v
+  pub value-suits : (t v : ℕ) → T (valueSuits ts t v) → sort ts t ≡ 0 → v ≤ 1
   value-suits t v h = go (or-cases (not (prop ts t)) _ h)
     where
-      go : T (not (prop ts t)) ⊎ T (leb v 1) → Suits ts t v
+      go : T (not (prop ts t)) ⊎ T (leb v 1) → sort ts t ≡ 0 → v ≤ 1
       go (inl n) e = absurd (T-not (prop ts t) n (eqb-of e))
       go (inr l) e = leb→le v 1 l
 
-  none-truthful : Truthful []
+  none-truthful : Truthful ts []
   none-truthful e m = absurd (List·Memᴰ·not-nil m)
 
-  push-truthful : (x : Entry) (tr : Trail) → Suits ts (x .term) (x .value) → Truthful tr → Truthful (x ∷ tr)
+  push-truthful : (x : Entry) (tr : Trail) → (sort ts (x .term) ≡ 0 → x .value ≤ 1) → Truthful ts tr → Truthful ts (x ∷ tr)
   push-truthful x tr s h e m = go (List·Memᴰ·cases-cons m)
     where
-      go : (e ≡ x) ⊎ List·Memᴰ e tr → Suits ts (e .term) (e .value)
-      go (inl q) = subst (λ (y : Entry). Suits ts (y .term) (y .value)) (sym q) s
+      go : (e ≡ x) ⊎ List·Memᴰ e tr → (sort ts (e .term) ≡ 0 → e .value ≤ 1)
+      go (inl q) = subst (λ (y : Entry). sort ts (y .term) ≡ 0 → y .value ≤ 1) (sym q) s
       go (inr k) = h e k
 
-  kept-truthful : (m : ℕ) (tr : Trail) → Truthful tr → Truthful (keptTo m tr)
+  kept-truthful : (m : ℕ) (tr : Trail) → Truthful ts tr → Truthful ts (keptTo m tr)
   kept-truthful m tr h e k = h e (kept-out m tr e k .0)
 
   -- of an answer: the state after an allowed step
   abbrev After : Answer → Type 0
-  After (allowed s) = Truthful (trailOf s)
+  After (allowed s) = Truthful ts (trailOf s)
   After refuted = Unit {0}
   After (refused c) = Unit {0}
 
@@ -60,11 +54,12 @@ module _ (ts : List ℕ) where
   unfolding shaped
   inferred-value x h = search facts
 
-  step-by-truthful : (k : Kind) (s : State) (x : Step) → Truthful (trailOf s) → T (shaped x k) → After (stepBy ts k s x)
+  step-by-truthful : (k : Kind) (s : State) (x : Step) → Truthful ts (trailOf s) → T (shaped x k) → After (stepBy ts k s x)
   unfolding stepBy decide decideRefusal deduce clash clashed resolve clear jump flip shaped
   step-by-truthful Decide s x h p =
       after _ _ (λ e.
-      push-truthful (decision (trailOf s) (x .term) (x .value)) (trailOf s) (value-suits (x .term) (x .value) (unless-ok _ 22 _ (omega arith) e .0)) h)
+      push-truthful (decision (trailOf s) (x .term) (x .value)) (trailOf s)
+      (value-suits (x .term) (x .value) (unless-ok _ 22 _ (omega arith) e .0)) h)
   step-by-truthful Deduce s x h p = after _ _ (λ e. push-truthful _ (trailOf s) (λ q. inferred-value x p) h)
   step-by-truthful Clash s x h p =
       after _ _ (λ e.
@@ -76,7 +71,7 @@ module _ (ts : List ℕ) where
   step-by-truthful Flip s x h p = after _ _ (λ e. push-truthful _ _ (λ q. omega arith) (kept-truthful _ (trailOf s) h))
   step-by-truthful Unlisted s x h p = tt
 
-  step-truthful : (s : State) (x : Step) → Truthful (trailOf s) → After (step ts s x)
+  step-truthful : (s : State) (x : Step) → Truthful ts (trailOf s) → After (step ts s x)
   unfolding step rowRefusal
   step-truthful s x h = after _ _ (λ e. step-by-truthful (kindOf (x .step)) s x h (unless-ok _ 9 _ (omega arith) e .0))
 
@@ -96,7 +91,7 @@ module _ (ts : List ℕ) where
       go f refuted e = h
       go f (refused c) e = h
 
-  input-truthful : (is : List ℕ) (n : ℕ) → ((k : ℕ) → k < n → inputRefusal ts is k ≡ 0) → Truthful (inputTrail is n)
+  input-truthful : (is : List ℕ) (n : ℕ) → ((k : ℕ) → k < n → inputRefusal ts is k ≡ 0) → Truthful ts (inputTrail is n)
   unfolding inputTrail inputRefusal
   input-truthful is zero h = none-truthful
   input-truthful is (suc n) h =
