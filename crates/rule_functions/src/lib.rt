@@ -22,7 +22,8 @@ use rule_claims::is_eq;
 
 // The premises are true equalities of the arguments, one at every position: arguments a, b and premise p in front of the rest.
 fn more_pair(terms: &[u16], a: u16, b: u16, p: Premise, rest: bool) -> bool
-    ensures { λ r. ⌜ ((xs ys : List ℕ) (ps : List Premise) → rest ≡ pairs (now (terms .entry)) (filled xs) (filled ys) (stated ps) → r ≡ pairs (now (terms .entry)) (filled (a ∷ xs)) (filled (b ∷ ys)) (stated (p ∷ ps))) ⌝ }
+    ensures { λ r. ⌜ ((xs ys : List ℕ) (ps : List Premise) → rest ≡ pairs (now (terms .entry)) (filled xs) (filled ys) (stated ps)
+        → r ≡ pairs (now (terms .entry)) (filled (a ∷ xs)) (filled (b ∷ ys)) (stated (p ∷ ps))) ⌝ }
 {
     // Past the last premise no row is read.
     if p.row == BLANK {

@@ -36,11 +36,13 @@ others-none w p ps = go (gap p)
     go false = refl
 
 pub others-more : (w x : ℕ) (xs : List ℕ) (p : Premise) (ps : List Premise)
-    → others w (filled (x ∷ xs)) (stated (p ∷ ps)) ≡ ((eqb x blank && gap p) || (not (eqb x blank) && (not (gap p) && (gives x w p && others w (filled xs) (stated ps)))))
+    → others w (filled (x ∷ xs)) (stated (p ∷ ps))
+    ≡ ((eqb x blank && gap p) || (not (eqb x blank) && (not (gap p) && (gives x w p && others w (filled xs) (stated ps)))))
 unfolding stated
 others-more w x xs p ps = go (eqb x blank) (gap p)
   where
-    go : (g h : Bool) → others w (cond g [] (x ∷ filled xs)) (cond h [] (p ∷ stated ps)) ≡ ((g && h) || (not g && (not h && (gives x w p && others w (filled xs) (stated ps)))))
+    go : (g h : Bool) → others w (cond g [] (x ∷ filled xs)) (cond h [] (p ∷ stated ps))
+        ≡ ((g && h) || (not g && (not h && (gives x w p && others w (filled xs) (stated ps)))))
     go true true = refl
     go true false = refl
     go false true = refl

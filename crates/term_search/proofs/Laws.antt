@@ -93,7 +93,8 @@ least-low : (xs : List ℕ) (k t v : ℕ) → v ≡ least xs k t → v ≤ t
 least-low xs k t v e = rw e (smaller-low (getD xs (slot k) 0) t .1)
 
 -- what holds of every row with another key than row t holds of the rows before the least one of its slot
-before-least : (key : ℕ → ℕ) (p : ℕ → Bool) (xs : List ℕ) (t v : ℕ) → Noted key t xs → v ≡ least xs (key t) t → ((u : ℕ) → (key u ≡ key t → ⊥) → p u ≡ true) → below v p ≡ true
+before-least : (key : ℕ → ℕ) (p : ℕ → Bool) (xs : List ℕ) (t v : ℕ) → Noted key t xs → v ≡ least xs (key t) t
+    → ((u : ℕ) → (key u ≡ key t → ⊥) → p u ≡ true) → below v p ≡ true
 before-least key p xs t v N e f = below-of p v (λ u h. f u (λ s. other u h s))
   where
     other : (u : ℕ) → u < v → key u ≡ key t → ⊥

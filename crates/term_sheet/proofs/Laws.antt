@@ -60,7 +60,9 @@ fresh-is ts n r t F l h = go (eqb t r) refl
   where
     go : (g : Bool) → eqb t r ≡ g → fresh ts t ≡ not g
     go true q = let e : t ≡ r = eqb-true t r q in ap (fresh ts) e ∙ F .found (omega arith)
-    go false q = let d : t ≡ r → ⊥ = eqb-false t r q in T-true (fresh ts t) (below-at r (fresh ts) t (true-T (below r (fresh ts)) (F .before)) (omega (arith, d)))
+    go false q =
+        let d : t ≡ r → ⊥ = eqb-false t r q in
+        T-true (fresh ts t) (below-at r (fresh ts) t (true-T (below r (fresh ts)) (F .before)) (omega (arith, d)))
 
 row-is : (ss ts : List ℕ) (n r t : ℕ) → FirstRepeat ts n r → t ≤ r → t < n → termRefusal ss ts t ≡ rowRefusal ss ts t (not (eqb t r))
 unfolding rowRefusal termRefusal
@@ -109,7 +111,8 @@ module _ (ss ts : List ℕ) (t w : ℕ) {e : Term} {u : ℕ} (K : Known ss ts t 
   abbrev answer : Check
   answer = checkOf (rowRefusal ss ts t (not (eqb t w)))
 
-  flat : {n : ℕ} → n ≡ unless (all (before t) (cellsOf e)) 3 (unless (leftFilled (cellsOf e) && suits ss ts t (headOf (e .head))) 4 (unless (not (eqb t w)) 5 0))
+  flat : {n : ℕ}
+      → n ≡ unless (all (before t) (cellsOf e)) 3 (unless (leftFilled (cellsOf e) && suits ss ts t (headOf (e .head))) 4 (unless (not (eqb t w)) 5 0))
       → checkOf n ≡ answer
   flat q = ap checkOf (q ∙ sym (row-flat ss ts t (not (eqb t w)) (K .row)))
 

@@ -20,10 +20,12 @@ use Rattle.term_suits.specs.Suits.{Known, equates, connects}
 -- ---- arguments, one more column in front
 
 -- one side is at its end, and the other is not
-pub sorts-end : (f : ℕ → ℕ) (x y : ℕ) (xs ys : List ℕ) → (x ≡ y → ⊥) → (eqb x blank || eqb y blank) ≡ true → false ≡ eqList (map f (filled (x ∷ xs))) (map f (filled (y ∷ ys)))
+pub sorts-end : (f : ℕ → ℕ) (x y : ℕ) (xs ys : List ℕ) → (x ≡ y → ⊥) → (eqb x blank || eqb y blank) ≡ true
+    → false ≡ eqList (map f (filled (x ∷ xs))) (map f (filled (y ∷ ys)))
 sorts-end f x y xs ys d e = go (eqb x blank) refl (eqb y blank) refl e
   where
-    go : (g : Bool) → eqb x blank ≡ g → (h : Bool) → eqb y blank ≡ h → (g || h) ≡ true → false ≡ eqList (map f (cond g [] (x ∷ filled xs))) (map f (cond h [] (y ∷ filled ys)))
+    go : (g : Bool) → eqb x blank ≡ g → (h : Bool) → eqb y blank ≡ h → (g || h) ≡ true
+        → false ≡ eqList (map f (cond g [] (x ∷ filled xs))) (map f (cond h [] (y ∷ filled ys)))
     go true p true q r = absurd (d (eqb-true x blank p ∙ sym (eqb-true y blank q)))
     go true p false q r = refl
     go false p true q r = refl
@@ -42,13 +44,6 @@ sorts-same f x y xs ys e = rw (← e) (go (eqb x blank))
     go : (g : Bool) → eqList (map f (cond g [] (x ∷ filled xs))) (map f (cond g [] (x ∷ filled ys))) ≡ (g || eqList (map f (filled xs)) (map f (filled ys)))
     go true = refl
     go false = rw (eq-eqb (f x) (f x) refl)
-
--- a row whose first argument is blank has none
-pub all-blank : (p : ℕ → Bool) (x : ℕ) (xs : List ℕ) → x ≡ blank → true ≡ all p (filled (x ∷ xs))
-all-blank p x xs e = rw (eq-eqb x blank e)
-
-pub all-filled : (p : ℕ → Bool) (x : ℕ) (xs : List ℕ) → (x ≡ blank → ⊥) → all p (filled (x ∷ xs)) ≡ (p x && all p (filled xs))
-all-filled p x xs d = rw (ne-eqb x blank d)
 
 -- ---- the use of a head
 
@@ -74,7 +69,8 @@ unfolding sameUse
 alike ts u t e = let b = both-true (eqb (sort ts u) (sort ts t)) _ e in (eqb-true _ _ (b .0), b .1)
 
 -- a free head used for the first time
-pub free-first : (ss ts : List ℕ) (t u : ℕ) → u ≡ t → u ≡ firstUse ts t → (leb (sort ts t) (sortRows ss) && all (λ a. not (prop ts a)) (args ts t)) ≡ suits ss ts t Free
+pub free-first : (ss ts : List ℕ) (t u : ℕ) → u ≡ t → u ≡ firstUse ts t
+    → (leb (sort ts t) (sortRows ss) && all (λ a. not (prop ts a)) (args ts t)) ≡ suits ss ts t Free
 unfolding suits
 free-first ss ts t u e f = rw (← f, e, ← same-self ts t t refl, and-true)
 

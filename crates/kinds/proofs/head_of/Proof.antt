@@ -27,13 +27,15 @@ returns-6 c = search needs
 
 returns-7 : tie.Need-returns-7
 returns-7 c =
-    let h : 6 ≤ c .before .before .args .h = omega arith in
-    head-past (c .before .before .args .h) true h (c .if1 .taken)
+    let start = c .before .before in
+    let h : 6 ≤ start .args .h = omega arith in
+    head-past (start .args .h) true h (c .if1 .taken)
 
 returns-8 : tie.Need-returns-8
 returns-8 c =
-    let h : 6 ≤ c .before .before .args .h = omega arith in
-    head-past (c .before .before .args .h) false h (c .if1 .left)
+    let start = c .before .before in
+    let h : 6 ≤ start .args .h = omega arith in
+    head-past (start .args .h) false h (c .if1 .left)
 
 pub head-of-spec : {M : Type 1} → statement M
 head-of-spec =

@@ -40,14 +40,15 @@ returns-7 c = rw (c .match .keys7)
 returns-8 : tie.Need-returns-8
 unfolding kindOf
 returns-8 c =
-    let h1 : 1 ≤ c .before .args .n = past (omega arith) (c .match .rest .0 .0 .0 .0 .0 .0 .1) in
-    let h2 : 2 ≤ c .before .args .n = past h1 (c .match .rest .0 .0 .0 .0 .0 .1) in
-    let h3 : 3 ≤ c .before .args .n = past h2 (c .match .rest .0 .0 .0 .0 .1) in
-    let h4 : 4 ≤ c .before .args .n = past h3 (c .match .rest .0 .0 .0 .1) in
-    let h5 : 5 ≤ c .before .args .n = past h4 (c .match .rest .0 .0 .1) in
-    let h6 : 6 ≤ c .before .args .n = past h5 (c .match .rest .0 .1) in
-    let h7 : 7 ≤ c .before .args .n = past h6 (c .match .rest .1) in
-    sym (List·getD-eq-default kinds Unlisted {n = c .before .args .n} h7)
+    let start = c .before in
+    let h1 : 1 ≤ start .args .n = past (omega arith) (c .match .rest .0 .0 .0 .0 .0 .0 .1) in
+    let h2 : 2 ≤ start .args .n = past h1 (c .match .rest .0 .0 .0 .0 .0 .1) in
+    let h3 : 3 ≤ start .args .n = past h2 (c .match .rest .0 .0 .0 .0 .1) in
+    let h4 : 4 ≤ start .args .n = past h3 (c .match .rest .0 .0 .0 .1) in
+    let h5 : 5 ≤ start .args .n = past h4 (c .match .rest .0 .0 .1) in
+    let h6 : 6 ≤ start .args .n = past h5 (c .match .rest .0 .1) in
+    let h7 : 7 ≤ start .args .n = past h6 (c .match .rest .1) in
+    sym (List·getD-eq-default kinds Unlisted {n = start .args .n} h7)
 
 pub kind-of-spec : {M : Type 1} → statement M
 kind-of-spec =

@@ -24,13 +24,17 @@ all-pairs-requires c κs = search needs
 returns : tie.Need-returns
 unfolding fits cells args
 returns c =
-    let k = c .before .before .before .before in
+    let at-all-pairs = c .before .before .before .before in
+    let at-after-first = at-all-pairs .before in
+    let at-is-free = at-after-first .before in
+    let at-term-at2 = at-is-free .before in
+    let at-term-at = at-term-at2 .before in
     rw (
-      k .all-pairs .ensures,
-      k .before .after-first .ensures,
-      k .before .before .is-free .ensures,
-      k .before .before .before .term-at2 .ensures,
-      k .before .before .before .before .term-at .ensures,
+      at-all-pairs .all-pairs .ensures,
+      at-after-first .after-first .ensures,
+      at-is-free .is-free .ensures,
+      at-term-at2 .term-at2 .ensures,
+      at-term-at .term-at .ensures,
       stated-four,
       leading-flat,
     )

@@ -49,8 +49,10 @@ loop-again c = (omega (arith, ltb-true), search checked-more)
 returns-2 : tie.Need-returns-2 Inv-loop μ-loop
 unfolding sortsRefusal
 returns-2 c =
-    let e : c .before .loop .k ≡ length (c .before .before .before .args .sorts .now) / 2 = omega (arith, ltb-false) in
-    sym (ap checkOf (rw e at (c .before .loop .inv .1)))
+    let at-loop = c .before in
+    let start = at-loop .before .before in
+    let e : at-loop .loop .k ≡ length (start .args .sorts .now) / 2 = omega (arith, ltb-false) in
+    sym (ap checkOf (rw e at (at-loop .loop .inv .1)))
 
 pub check-sorts-spec : {M : Type 1} → statement M
 check-sorts-spec =

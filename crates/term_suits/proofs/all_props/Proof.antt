@@ -23,7 +23,11 @@ returns c =
     let at-more-prop2 = at-more-prop3 .before in
     let at-more-prop = at-more-prop2 .before in
     let start = at-more-prop .before .before in
-    let e = start .args .e in c .more-prop4 .ensures (e .b ∷ e .c ∷ e .d ∷ []) (at-more-prop3 .more-prop3 .ensures (e .c ∷ e .d ∷ []) (at-more-prop2 .more-prop2 .ensures (e .d ∷ []) (at-more-prop .more-prop .ensures [] refl)))
+    let e = start .args .e in
+    let d = at-more-prop .more-prop .ensures [] refl in
+    let two = at-more-prop2 .more-prop2 .ensures (e .d ∷ []) d in
+    let three = at-more-prop3 .more-prop3 .ensures (e .c ∷ e .d ∷ []) two in
+    c .more-prop4 .ensures (e .b ∷ e .c ∷ e .d ∷ []) three
 
 pub all-props-spec : {M : Type 1} → statement M
 all-props-spec =

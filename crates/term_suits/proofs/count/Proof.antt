@@ -23,7 +23,11 @@ returns c =
     let at-more-count2 = at-more-count3 .before in
     let at-more-count = at-more-count2 .before in
     let start = at-more-count .before in
-    let e = start .args .e in c .more-count4 .ensures .0 (e .b ∷ e .c ∷ e .d ∷ []) (at-more-count3 .more-count3 .ensures .0 (e .c ∷ e .d ∷ []) (at-more-count2 .more-count2 .ensures .0 (e .d ∷ []) (at-more-count .more-count .ensures .0 [] refl)))
+    let e = start .args .e in
+    let d = at-more-count .more-count .ensures .0 [] refl in
+    let two = at-more-count2 .more-count2 .ensures .0 (e .d ∷ []) d in
+    let three = at-more-count3 .more-count3 .ensures .0 (e .c ∷ e .d ∷ []) two in
+    c .more-count4 .ensures .0 (e .b ∷ e .c ∷ e .d ∷ []) three
 
 pub count-spec : {M : Type 1} → statement M
 count-spec =
