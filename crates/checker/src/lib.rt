@@ -54,7 +54,7 @@ fn check_sheets(sorts: &[u16], terms: &[u16]) -> Check
     requires { ⌜ (length (now sorts) ≤ 64) × (length (now terms) ≤ mostNumbers) ⌝ }
     ensures { λ r. ⌜ r ≡ checkOf (orElse (sortsRefusal (now (sorts .entry))) (termsRefusal (now (sorts .entry)) (now (terms .entry)))) ⌝ }
 {
-    let c = sheets::check_sorts(sorts);
+    let c = sort_sheet::check_sorts(sorts);
     let Check::Passed = c else {
         return c;
     };

@@ -1,14 +1,10 @@
-// Rows of the term sheet and of the step sheet, read into structs by value; and what their numbers stand for.
+// Rows of the term sheet and of the step sheet, read into structs by value.
 ghost use mathlib.Core.Path.{_≡_};
 ghost use Prim.Native.Nat.{_+_, _*_, _≤_};
 ghost use lib.ListN.{length, getD};
-ghost use Rattle.calculus.specs.Terms.{termAt, headOf};
-ghost use Rattle.calculus.specs.Rules.{ruleOf};
-ghost use Rattle.calculus.specs.Steps.{stepAt, kindOf};
-use calculus::Head;
-use calculus::Kind;
+ghost use Rattle.calculus.specs.Terms.{termAt};
+ghost use Rattle.calculus.specs.Steps.{stepAt};
 use calculus::Row;
-use calculus::Rule;
 use calculus::Step;
 use calculus::Term;
 
@@ -64,64 +60,5 @@ pub fn step_at(log: &[u16], n: usize) -> Step
         r: log[i + 6],
         s: log[i + 7],
         t: log[i + 8],
-    }
-}
-
-// What a number in the head column stands for.
-pub fn head_of(h: u16) -> Head
-    ensures { λ r. ⌜ r ≡ headOf h ⌝ }
-{
-    match h {
-        0 => Head::Equality,
-        1 => Head::Negation,
-        2 => Head::Conjunction,
-        3 => Head::Disjunction,
-        4 => Head::Select,
-        5 => Head::Store,
-        _ => {
-            if (16 <= h) & (h < BLANK) {
-                Head::Free
-            } else {
-                Head::Unlisted
-            }
-        }
-    }
-}
-
-// What a number in the rule column stands for.
-pub fn rule_of(n: u16) -> Rule
-    ensures { λ r. ⌜ r ≡ ruleOf n ⌝ }
-{
-    match n {
-        0 => Rule::Same,
-        1 => Rule::Differ,
-        2 => Rule::Reflexivity,
-        3 => Rule::Symmetry,
-        4 => Rule::Transitivity,
-        5 => Rule::Negated,
-        6 => Rule::Part,
-        7 => Rule::Unit,
-        8 => Rule::Evaluation,
-        9 => Rule::Congruence,
-        10 => Rule::Predicate,
-        11 => Rule::Read,
-        12 => Rule::Skip,
-        _ => Rule::Unlisted,
-    }
-}
-
-// What a number in the step column stands for.
-pub fn kind_of(n: u16) -> Kind
-    ensures { λ r. ⌜ r ≡ kindOf n ⌝ }
-{
-    match n {
-        0 => Kind::Decide,
-        1 => Kind::Deduce,
-        2 => Kind::Clash,
-        3 => Kind::Resolve,
-        4 => Kind::Clear,
-        5 => Kind::Jump,
-        6 => Kind::Flip,
-        _ => Kind::Unlisted,
     }
 }

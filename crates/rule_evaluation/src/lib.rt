@@ -20,7 +20,8 @@ use rule_claims::OR;
 
 // The premises' rows are the arguments: premise p and argument a in front of the rest.
 fn more_same(p: Premise, a: u16, rest: bool) -> bool
-    ensures { λ r. ⌜ ((ps : List Premise) (xs : List ℕ) → rest ≡ eqList (map rowOf (stated ps)) (filled xs) → r ≡ eqList (map rowOf (stated (p ∷ ps))) (filled (a ∷ xs))) ⌝ }
+    ensures { λ r. ⌜ ((ps : List Premise) (xs : List ℕ) → rest ≡ eqList (map rowOf (stated ps)) (filled xs)
+        → r ≡ eqList (map rowOf (stated (p ∷ ps))) (filled (a ∷ xs))) ⌝ }
 {
     (p.row == a) & ((p.row == BLANK) | rest)
 }

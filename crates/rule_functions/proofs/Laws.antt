@@ -20,7 +20,8 @@ pairs-none ts p ps = go (gap p)
 
 pub pairs-more : (ts : List ℕ) (a b : ℕ) (xs ys : List ℕ) (p : Premise) (ps : List Premise)
     → pairs ts (filled (a ∷ xs)) (filled (b ∷ ys)) (stated (p ∷ ps))
-    ≡ ((eqb a blank && (eqb b blank && gap p)) || (not (eqb a blank) && (not (eqb b blank) && (not (gap p) && (equates ts a b 1 p && pairs ts (filled xs) (filled ys) (stated ps))))))
+    ≡ ((eqb a blank && (eqb b blank && gap p))
+    || (not (eqb a blank) && (not (eqb b blank) && (not (gap p) && (equates ts a b 1 p && pairs ts (filled xs) (filled ys) (stated ps))))))
 unfolding stated
 pairs-more ts a b xs ys p ps = go (eqb a blank) (eqb b blank) (gap p)
   where
@@ -36,7 +37,8 @@ pairs-more ts a b xs ys p ps = go (eqb a blank) (eqb b blank) (gap p)
 -- past the last premise
 pub pairs-gap : (ts : List ℕ) (a b : ℕ) (xs ys : List ℕ) (p : Premise) (ps : List Premise) → gap p ≡ true
     → pairs ts (filled (a ∷ xs)) (filled (b ∷ ys)) (stated (p ∷ ps)) ≡ (eqb a blank && eqb b blank)
-pairs-gap ts a b xs ys p ps e = pairs-more ts a b xs ys p ps ∙ rw e (go (eqb a blank) (eqb b blank) (equates ts a b 1 p && pairs ts (filled xs) (filled ys) (stated ps)))
+pairs-gap ts a b xs ys p ps e =
+    pairs-more ts a b xs ys p ps ∙ rw e (go (eqb a blank) (eqb b blank) (equates ts a b 1 p && pairs ts (filled xs) (filled ys) (stated ps)))
   where
     go : (f g r : Bool) → ((f && (g && true)) || (not f && (not g && (not true && r)))) ≡ (f && g)
     go true true r = refl

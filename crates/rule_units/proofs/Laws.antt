@@ -1,5 +1,5 @@
 -- What one more argument and one more premise in front make of the lists of unit, as a test without branches.
-use mathlib.Core.Path.{_≡_, refl, sym}
+use mathlib.Core.Path.{_≡_, refl, sym, _∙_}
 use mathlib.Core.Bool.{Bool, true, false, not, _&&_, _||_, cond, or-false}
 use mathlib.Core.List.{List, [], _∷_}
 use Prim.Native.Nat.{ℕ}
@@ -9,6 +9,7 @@ use Rattle.calculus.specs.declared.Rule.the-variants as rule
 use Rattle.calculus.specs.Sheets.{blank}
 use Rattle.calculus.specs.Terms.{filled, cells, args, argsOf, termAt, andHead, orHead}
 use Rattle.calculus.specs.Rules.{fits, gives, others, unitAt}
+use Rattle.calculus.proofs.Forms.{unit-none, unit-last, unit-front}
 use Rattle.rule_claims.specs.Claims.{gap, stated}
 use Rattle.rule_claims.proofs.Laws.{leading-flat}
 
@@ -35,11 +36,13 @@ others-none w p ps = go (gap p)
     go false = refl
 
 pub others-more : (w x : ℕ) (xs : List ℕ) (p : Premise) (ps : List Premise)
-    → others w (filled (x ∷ xs)) (stated (p ∷ ps)) ≡ ((eqb x blank && gap p) || (not (eqb x blank) && (not (gap p) && (gives x w p && others w (filled xs) (stated ps)))))
+    → others w (filled (x ∷ xs)) (stated (p ∷ ps))
+    ≡ ((eqb x blank && gap p) || (not (eqb x blank) && (not (gap p) && (gives x w p && others w (filled xs) (stated ps)))))
 unfolding stated
 others-more w x xs p ps = go (eqb x blank) (gap p)
   where
-    go : (g h : Bool) → others w (cond g [] (x ∷ filled xs)) (cond h [] (p ∷ stated ps)) ≡ ((g && h) || (not g && (not h && (gives x w p && others w (filled xs) (stated ps)))))
+    go : (g h : Bool) → others w (cond g [] (x ∷ filled xs)) (cond h [] (p ∷ stated ps))
+        ≡ ((g && h) || (not g && (not h && (gives x w p && others w (filled xs) (stated ps)))))
     go true true = refl
     go true false = refl
     go false true = refl
@@ -53,6 +56,6 @@ unit-more w l x xs p ps = go (eqb x blank) (gap p)
   where
     go : (g h : Bool) → unitAt w l (cond g [] (x ∷ filled xs)) (cond h [] (p ∷ stated ps))
         ≡ (not g && ((eqb x l && others w (filled xs) (cond h [] (p ∷ stated ps))) || (not h && (gives x w p && unitAt w l (filled xs) (stated ps)))))
-    go true h = refl
-    go false true = sym (or-false (eqb x l && others w (filled xs) []))
-    go false false = refl
+    go true h = unit-none w l _
+    go false true = unit-last w l x (filled xs) ∙ sym (or-false (eqb x l && others w (filled xs) []))
+    go false false = unit-front w l x (filled xs) p (stated ps)

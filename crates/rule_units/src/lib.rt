@@ -20,7 +20,8 @@ use rule_claims::connected;
 
 // The premises are the arguments, each with value w: argument a and premise p in front of the rest.
 fn more_other(w: u16, a: u16, p: Premise, rest: bool) -> bool
-    ensures { λ r. ⌜ ((xs : List ℕ) (ps : List Premise) → rest ≡ others w (filled xs) (stated ps) → r ≡ others w (filled (a ∷ xs)) (stated (p ∷ ps))) ⌝ }
+    ensures { λ r. ⌜ ((xs : List ℕ) (ps : List Premise) → rest ≡ others w (filled xs) (stated ps)
+        → r ≡ others w (filled (a ∷ xs)) (stated (p ∷ ps))) ⌝ }
 {
     ((a == BLANK) & (p.row == BLANK))
         | (!(a == BLANK) & (!(p.row == BLANK) & (((p.row == a) & (p.value == w)) & rest)))
@@ -29,7 +30,8 @@ fn more_other(w: u16, a: u16, p: Premise, rest: bool) -> bool
 // The premises are the arguments but l, each with value w: argument a and premise p in front of the rest.
 // `here` is the answer where a itself is l, `rest` where l stands further on.
 fn more_unit(w: u16, l: Row, a: u16, p: Premise, here: bool, rest: bool) -> bool
-    ensures { λ r. ⌜ ((xs : List ℕ) (ps : List Premise) → here ≡ others w (filled xs) (stated (p ∷ ps)) → rest ≡ unitAt w (l .0) (filled xs) (stated ps) → r ≡ unitAt w (l .0) (filled (a ∷ xs)) (stated (p ∷ ps))) ⌝ }
+    ensures { λ r. ⌜ ((xs : List ℕ) (ps : List Premise) → here ≡ others w (filled xs) (stated (p ∷ ps)) → rest ≡ unitAt w (l .0) (filled xs) (stated ps)
+        → r ≡ unitAt w (l .0) (filled (a ∷ xs)) (stated (p ∷ ps))) ⌝ }
 {
     !(a == BLANK)
         & (((a == l.0) & here) | (!(p.row == BLANK) & (((p.row == a) & (p.value == w)) & rest)))

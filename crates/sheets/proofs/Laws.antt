@@ -7,6 +7,7 @@ use native.Mathlib.Nat.{not-suc-le-zero}
 use native.Mathlib.Numerals.{add-one}
 use lib.Dec.{leb}
 use borrow.Author.Tests.{leb-true, leb-false, not-true, not-false}
+use Rattle.calculus.specs.declared.Check.{Check}
 use Rattle.calculus.specs.declared.Check.the-variants.{Passed, Refused}
 use Rattle.calculus.proofs.Facts.{unless-yes, unless-no}
 use Rattle.calculus.specs.Numbers.{unless, orElse, firstRefusal, checkOf}
@@ -57,3 +58,11 @@ first-at f (suc n) t a d h = go (leb n t) refl (λ l. first-at f n t a d l)
 
 pub first-found : (f : ℕ → ℕ) (n t c : ℕ) → firstRefusal t f ≡ 0 → checkOf (f t) ≡ Refused c → t < n → Refused c ≡ checkOf (firstRefusal n f)
 first-found f n t c a e h = sym (ap checkOf (first-at f n t a (refused-some (f t) c e) h) ∙ e)
+
+-- a loop over rows: r is what the check of row t answers, after rows without trouble
+module _ (f : ℕ → ℕ) (t : ℕ) {r : Check} (before : firstRefusal t f ≡ 0) (here : r ≡ checkOf (f t)) where
+  pub checked-more : r ≡ Passed → firstRefusal (t + 1) f ≡ 0
+  checked-more e = first-more f t before (sym here ∙ e)
+
+  pub checked-found : (n c : ℕ) → r ≡ Refused c → t < n → Refused c ≡ checkOf (firstRefusal n f)
+  checked-found n c e l = first-found f n t c before (sym here ∙ e) l

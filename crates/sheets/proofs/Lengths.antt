@@ -39,11 +39,14 @@ lengths-passed x e =
     let i = unless-ok (within x) 30 _ (omega arith) (w .1) in
     let r = unless-ok (roomy x) 32 _ (omega arith) (i .1) in
     let ws =
-    and-four (eqb (length (x .sorts) % 2) 0) (eqb (length (x .terms) % 6) 0) (eqb (length (x .inputs) % 2) 0) (eqb (length (x .steps) % 9) 0) (T-true (whole x) (w .0)) in
+    and-four (eqb (length (x .sorts) % 2) 0) (eqb (length (x .terms) % 6) 0) (eqb (length (x .inputs) % 2) 0) (eqb (length (x .steps) % 9) 0)
+    (T-true (whole x) (w .0)) in
     let is =
-    and-four (leb (sortRows (x .sorts)) 32) (leb (termRows (x .terms)) 256) (leb (inputRows (x .inputs)) 256) (leb (stepRows (x .steps)) 65535) (T-true (within x) (i .0)) in
+    and-four (leb (sortRows (x .sorts)) 32) (leb (termRows (x .terms)) 256) (leb (inputRows (x .inputs)) 256) (leb (stepRows (x .steps)) 65535)
+    (T-true (within x) (i .0)) in
     let rs =
-    both-true (leb (workWords (termRows (x .terms))) (length (x .work))) (leb (trailNumbers (termRows (x .terms))) (length (x .trail))) (T-true (roomy x) (r .0)) in
+    both-true (leb (workWords (termRows (x .terms))) (length (x .work))) (leb (trailNumbers (termRows (x .terms))) (length (x .trail)))
+    (T-true (roomy x) (r .0)) in
     let s2 : length (x .sorts) % 2 ≡ 0 = eqb-true (length (x .sorts) % 2) 0 (ws .0) in
     let t6 : length (x .terms) % 6 ≡ 0 = eqb-true (length (x .terms) % 6) 0 (ws .1) in
     let n2 : length (x .inputs) % 2 ≡ 0 = eqb-true (length (x .inputs) % 2) 0 (ws .2) in
@@ -69,7 +72,9 @@ fit-term ts t v e = ltb→lt t (termRows ts) (unless-ok (ltb t (termRows ts)) 6 
 pub fit-value : (ts : List ℕ) (t v : ℕ) → checkOf (fitRefusal ts t v) ≡ Passed → (not (eqb v blank) && valueSuits ts t v) ≡ true
 unfolding fitRefusal
 fit-value ts t v e =
-    T-true (not (eqb v blank) && valueSuits ts t v) (unless-ok (not (eqb v blank) && valueSuits ts t v) 7 0 (omega arith) (unless-ok (ltb t (termRows ts)) 6 _ (omega arith) (passed-zero _ e) .1) .0)
+    let row = unless-ok (ltb t (termRows ts)) 6 _ (omega arith) (passed-zero _ e) in
+    let value = unless-ok (not (eqb v blank) && valueSuits ts t v) 7 0 (omega arith) (row .1) in
+    T-true (not (eqb v blank) && valueSuits ts t v) (value .0)
 
 pub row-fits : (ts : List ℕ) (t v : ℕ) (g : Bool) → checkOf (fitRefusal ts t v) ≡ Passed → inputRowRefusal ts t v g ≡ givenRefusal g
 unfolding inputRowRefusal orElse

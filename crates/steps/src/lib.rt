@@ -69,7 +69,7 @@ pub fn step(terms: &[u16], work: &mut [u64], w: usize, n: usize, st: Status, x: 
     ensures { λ r. ⌜ Answers w n (now (terms .entry)) (now (work .entry)) (now (work .exit))
         (step (now (terms .entry)) (stateIn w n (now (work .entry)) st) x) r ⌝ }
 {
-    let k = rows::kind_of(x.step);
+    let k = kinds::kind_of(x.step);
     if !step_rows::shaped(x, k) {
         return Answer::Refused(9);
     }

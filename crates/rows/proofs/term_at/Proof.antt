@@ -100,7 +100,13 @@ cell-requires-6 : tie.Need-cell-requires-6
 cell-requires-6 c κs = search needs
 
 returns-2 : tie.Need-returns-2
-returns-2 c = rw (c .cell6 .ensures, c .before .cell5 .ensures, c .before .before .cell4 .ensures, c .before .before .before .cell3 .ensures, c .before .before .before .before .cell2 .ensures, c .before .before .before .before .before .cell .ensures)
+returns-2 c =
+    let at-cell5 = c .before in
+    let at-cell4 = at-cell5 .before in
+    let at-cell3 = at-cell4 .before in
+    let at-cell2 = at-cell3 .before in
+    let at-cell = at-cell2 .before in
+    rw (c .cell6 .ensures, at-cell5 .cell5 .ensures, at-cell4 .cell4 .ensures, at-cell3 .cell3 .ensures, at-cell2 .cell2 .ensures, at-cell .cell .ensures)
 
 pub term-at-spec : {M : Type 1} → statement M
 term-at-spec =

@@ -21,12 +21,15 @@ none-requires c κs = search needs
 returns : tie.Need-returns
 unfolding fits cells arg
 returns c =
-    let k = c .before .before .before .before .before .before .before .before in
+    let at-none = c .before .before .before .before .before .before .before .before in
+    let at-term-at3 = at-none .before in
+    let at-term-at2 = at-term-at3 .before in
+    let at-term-at = at-term-at2 .before in
     rw (
-      k .none .ensures,
-      k .before .term-at3 .ensures,
-      k .before .before .term-at2 .ensures,
-      k .before .before .before .term-at .ensures,
+      at-none .none .ensures,
+      at-term-at3 .term-at3 .ensures,
+      at-term-at2 .term-at2 .ensures,
+      at-term-at .term-at .ensures,
       bare-flat,
     )
 

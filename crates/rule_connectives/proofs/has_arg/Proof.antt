@@ -19,10 +19,14 @@ more-has-requires-4 c κs = search needs
 
 returns : tie.Need-returns
 returns c =
-    let e = c .before .before .before .before .args .e in
-    let d = c .before .before .before .more-has .ensures [] refl in
-    let k = c .before .before .more-has2 .ensures (e .d ∷ []) d in
-    let b = c .before .more-has3 .ensures (e .c ∷ e .d ∷ []) k in
+    let at-more-has3 = c .before in
+    let at-more-has2 = at-more-has3 .before in
+    let at-more-has = at-more-has2 .before in
+    let start = at-more-has .before in
+    let e = start .args .e in
+    let d = at-more-has .more-has .ensures [] refl in
+    let k = at-more-has2 .more-has2 .ensures (e .d ∷ []) d in
+    let b = at-more-has3 .more-has3 .ensures (e .c ∷ e .d ∷ []) k in
     c .more-has4 .ensures (e .b ∷ e .c ∷ e .d ∷ []) b
 
 pub has-arg-spec : {M : Type 1} → statement M

@@ -5,7 +5,9 @@ use Rattle.rule_connectives.proofs.more_has.Statement.{statement}
 use Rattle.rule_connectives.proofs.more_has.Tie as tie
 
 returns : tie.Need-returns
-returns c xs e = rw e (sym (has-more (c .before .args .l .0) (c .before .args .x) xs))
+returns c xs e =
+    let start = c .before in
+    rw e (sym (has-more (start .args .l .0) (start .args .x) xs))
 
 pub more-has-spec : {M : Type 1} → statement M
 more-has-spec = tie.close (tie.spec returns)

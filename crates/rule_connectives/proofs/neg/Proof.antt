@@ -18,11 +18,13 @@ one-requires c κs = search needs
 returns : tie.Need-returns
 unfolding fits cells arg
 returns c =
-    let k = c .before .before .before in
+    let at-one = c .before .before .before in
+    let at-opposed = at-one .before in
+    let at-term-at = at-opposed .before in
     rw (
-      k .one .ensures,
-      k .before .opposed .ensures,
-      k .before .before .term-at .ensures,
+      at-one .one .ensures,
+      at-opposed .opposed .ensures,
+      at-term-at .term-at .ensures,
       single-flat,
     )
 

@@ -23,7 +23,19 @@ one-requires c κs = search needs
 
 returns : tie.Need-returns
 unfolding fits cells args
-returns c = rw (c .one .ensures, c .before .connected2 .ensures, c .before .before .connected .ensures, c .before .before .before .has-arg .ensures, c .before .before .before .before .term-at .ensures, single-flat)
+returns c =
+    let at-connected2 = c .before in
+    let at-connected = at-connected2 .before in
+    let at-has-arg = at-connected .before in
+    let at-term-at = at-has-arg .before in
+    rw (
+      c .one .ensures,
+      at-connected2 .connected2 .ensures,
+      at-connected .connected .ensures,
+      at-has-arg .has-arg .ensures,
+      at-term-at .term-at .ensures,
+      single-flat,
+    )
 
 pub part-spec : {M : Type 1} → statement M
 part-spec =

@@ -15,10 +15,11 @@ none-requires c κs = search needs
 returns : tie.Need-returns
 unfolding fits cells arg
 returns c =
-    let k = c .before .before .before in
+    let at-none = c .before .before .before in
+    let at-term-at = at-none .before in
     rw (
-      k .none .ensures,
-      k .before .term-at .ensures,
+      at-none .none .ensures,
+      at-term-at .term-at .ensures,
       bare-flat,
     )
 

@@ -18,11 +18,13 @@ two-requires c κs = search needs
 returns : tie.Need-returns
 unfolding fits cells arg
 returns c =
-    let k = c .before .before in
+    let at-two = c .before .before in
+    let at-is-eq = at-two .before in
+    let at-term-at = at-is-eq .before in
     rw (
-      k .two .ensures,
-      k .before .is-eq .ensures,
-      k .before .before .term-at .ensures,
+      at-two .two .ensures,
+      at-is-eq .is-eq .ensures,
+      at-term-at .term-at .ensures,
       double-flat,
     )
 

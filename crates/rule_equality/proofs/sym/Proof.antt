@@ -21,12 +21,15 @@ one-requires c κs = search needs
 returns : tie.Need-returns
 unfolding fits cells arg
 returns c =
-    let k = c .before .before .before in
+    let at-one = c .before .before .before in
+    let at-is-eq = at-one .before in
+    let at-term-at2 = at-is-eq .before in
+    let at-term-at = at-term-at2 .before in
     rw (
-      k .one .ensures,
-      k .before .is-eq .ensures,
-      k .before .before .term-at2 .ensures,
-      k .before .before .before .term-at .ensures,
+      at-one .one .ensures,
+      at-is-eq .is-eq .ensures,
+      at-term-at2 .term-at2 .ensures,
+      at-term-at .term-at .ensures,
       single-flat,
     )
 

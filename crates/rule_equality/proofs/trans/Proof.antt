@@ -27,14 +27,19 @@ two-requires c κs = search needs
 returns : tie.Need-returns
 unfolding fits cells arg
 returns c =
-    let k = c .before .before .before .before in
+    let at-two = c .before .before .before .before in
+    let at-is-eq2 = at-two .before in
+    let at-is-eq = at-is-eq2 .before in
+    let at-term-at3 = at-is-eq .before in
+    let at-term-at2 = at-term-at3 .before in
+    let at-term-at = at-term-at2 .before in
     rw (
-      k .two .ensures,
-      k .before .is-eq2 .ensures,
-      k .before .before .is-eq .ensures,
-      k .before .before .before .term-at3 .ensures,
-      k .before .before .before .before .term-at2 .ensures,
-      k .before .before .before .before .before .term-at .ensures,
+      at-two .two .ensures,
+      at-is-eq2 .is-eq2 .ensures,
+      at-is-eq .is-eq .ensures,
+      at-term-at3 .term-at3 .ensures,
+      at-term-at2 .term-at2 .ensures,
+      at-term-at .term-at .ensures,
       double-flat,
     )
 

@@ -24,11 +24,16 @@ more-and-requires-5 c κs = search needs
 returns : tie.Need-returns
 unfolding stated
 returns c =
-    let x = c .before .before .before .before .before .args .x in
-    let t = c .before .before .before .before .more-and .ensures [] refl in
-    let s = c .before .before .before .more-and2 .ensures (x .t ∷ []) t in
-    let r = c .before .before .more-and3 .ensures (x .s ∷ x .t ∷ []) s in
-    let q = c .before .more-and4 .ensures (x .r ∷ x .s ∷ x .t ∷ []) r in
+    let at-more-and4 = c .before in
+    let at-more-and3 = at-more-and4 .before in
+    let at-more-and2 = at-more-and3 .before in
+    let at-more-and = at-more-and2 .before in
+    let start = at-more-and .before in
+    let x = start .args .x in
+    let t = at-more-and .more-and .ensures [] refl in
+    let s = at-more-and2 .more-and2 .ensures (x .t ∷ []) t in
+    let r = at-more-and3 .more-and3 .ensures (x .s ∷ x .t ∷ []) s in
+    let q = at-more-and4 .more-and4 .ensures (x .r ∷ x .s ∷ x .t ∷ []) r in
     c .more-and5 .ensures (x .q ∷ x .r ∷ x .s ∷ x .t ∷ []) q
 
 pub all-true-spec : {M : Type 1} → statement M

@@ -24,11 +24,16 @@ more-or-requires-5 c κs = search needs
 returns : tie.Need-returns
 unfolding stated
 returns c =
-    let x = c .before .before .before .before .before .args .x in
-    let t = c .before .before .before .before .more-or .ensures [] refl in
-    let s = c .before .before .before .more-or2 .ensures (x .t ∷ []) t in
-    let r = c .before .before .more-or3 .ensures (x .s ∷ x .t ∷ []) s in
-    let q = c .before .more-or4 .ensures (x .r ∷ x .s ∷ x .t ∷ []) r in
+    let at-more-or4 = c .before in
+    let at-more-or3 = at-more-or4 .before in
+    let at-more-or2 = at-more-or3 .before in
+    let at-more-or = at-more-or2 .before in
+    let start = at-more-or .before in
+    let x = start .args .x in
+    let t = at-more-or .more-or .ensures [] refl in
+    let s = at-more-or2 .more-or2 .ensures (x .t ∷ []) t in
+    let r = at-more-or3 .more-or3 .ensures (x .s ∷ x .t ∷ []) s in
+    let q = at-more-or4 .more-or4 .ensures (x .r ∷ x .s ∷ x .t ∷ []) r in
     c .more-or5 .ensures (x .q ∷ x .r ∷ x .s ∷ x .t ∷ []) q
 
 pub any-true-spec : {M : Type 1} → statement M

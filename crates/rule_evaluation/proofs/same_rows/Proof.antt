@@ -20,12 +20,16 @@ more-same-requires-4 c κs = search needs
 
 returns : tie.Need-returns
 returns c =
-    let y = c .before .before .before .before .before .args in
+    let at-more-same3 = c .before in
+    let at-more-same2 = at-more-same3 .before in
+    let at-more-same = at-more-same2 .before in
+    let start = at-more-same .before .before in
+    let y = start .args in
     let e = y .e in
     let x = y .x in
-    let d = c .before .before .before .more-same .ensures (x .t ∷ []) [] (sym (same-none (x .t) [])) in
-    let k = c .before .before .more-same2 .ensures (x .s ∷ x .t ∷ []) (e .d ∷ []) d in
-    let b = c .before .more-same3 .ensures (x .r ∷ x .s ∷ x .t ∷ []) (e .c ∷ e .d ∷ []) k in
+    let d = at-more-same .more-same .ensures (x .t ∷ []) [] (sym (same-none (x .t) [])) in
+    let k = at-more-same2 .more-same2 .ensures (x .s ∷ x .t ∷ []) (e .d ∷ []) d in
+    let b = at-more-same3 .more-same3 .ensures (x .r ∷ x .s ∷ x .t ∷ []) (e .c ∷ e .d ∷ []) k in
     c .more-same4 .ensures (x .q ∷ x .r ∷ x .s ∷ x .t ∷ []) (e .b ∷ e .c ∷ e .d ∷ []) b
 
 pub same-rows-spec : {M : Type 1} → statement M

@@ -20,13 +20,17 @@ more-pair-requires-4 c κs = search needs
 
 returns : tie.Need-returns
 returns c =
-    let y = c .before .before .before .before .before .before .args in
+    let at-more-pair3 = c .before in
+    let at-more-pair2 = at-more-pair3 .before in
+    let at-more-pair = at-more-pair2 .before in
+    let start = at-more-pair .before .before .before in
+    let y = start .args in
     let f = y .f in
     let g = y .g in
     let x = y .x in
-    let d = c .before .before .before .more-pair .ensures [] [] (x .t ∷ []) (sym (pairs-none (y .terms .now) (x .t) [])) in
-    let k = c .before .before .more-pair2 .ensures (f .d ∷ []) (g .d ∷ []) (x .s ∷ x .t ∷ []) d in
-    let b = c .before .more-pair3 .ensures (f .c ∷ f .d ∷ []) (g .c ∷ g .d ∷ []) (x .r ∷ x .s ∷ x .t ∷ []) k in
+    let d = at-more-pair .more-pair .ensures [] [] (x .t ∷ []) (sym (pairs-none (y .terms .now) (x .t) [])) in
+    let k = at-more-pair2 .more-pair2 .ensures (f .d ∷ []) (g .d ∷ []) (x .s ∷ x .t ∷ []) d in
+    let b = at-more-pair3 .more-pair3 .ensures (f .c ∷ f .d ∷ []) (g .c ∷ g .d ∷ []) (x .r ∷ x .s ∷ x .t ∷ []) k in
     c .more-pair4 .ensures (f .b ∷ f .c ∷ f .d ∷ []) (g .b ∷ g .c ∷ g .d ∷ []) (x .q ∷ x .r ∷ x .s ∷ x .t ∷ []) b
 
 pub all-pairs-spec : {M : Type 1} → statement M

@@ -21,8 +21,11 @@ is-eq-requires c κs = search needs
 returns-2 : tie.Need-returns-2
 unfolding cells arg
 returns-2 c xs ys ps e =
-    let y = c .before .before .before .before .before .before .before .before .args in
-    rw (c .before .before .before .is-eq .ensures, c .before .before .before .before .term-at .ensures, e) (sym (pairs-more (y .terms .now) (y .a) (y .b) xs ys (y .p) ps))
+    let at-is-eq = c .before .before .before in
+    let at-term-at = at-is-eq .before in
+    let start = at-term-at .before .before .before .before in
+    let y = start .args in
+    rw (at-is-eq .is-eq .ensures, at-term-at .term-at .ensures, e) (sym (pairs-more (y .terms .now) (y .a) (y .b) xs ys (y .p) ps))
 
 pub more-pair-spec : {M : Type 1} → statement M
 more-pair-spec = tie.close (tie.spec returns term-at-requires is-eq-requires returns-2)

@@ -20,10 +20,14 @@ unit-at-requires c κs = search needs
 
 returns : tie.Need-returns
 returns c =
-    let k = c .before .before .before .before .before in
-    let t = k .before .term-at .ensures in
-    rw (c .before .unit-at .ensures, c .before .before .connected .ensures, k .after-first .ensures, stated-four, t)
-    (unit-or _ _ _ _ _ (rw t at (c .before .before .before .if1 .taken)))
+    let at-unit-at = c .before in
+    let at-connected = at-unit-at .before in
+    let at-if1 = at-connected .before in
+    let at-after-first = at-if1 .before .before in
+    let at-term-at = at-after-first .before in
+    let t = at-term-at .term-at .ensures in
+    rw (at-unit-at .unit-at .ensures, at-connected .connected .ensures, at-after-first .after-first .ensures, stated-four, t)
+    (unit-or _ _ _ _ _ (rw t at (at-if1 .if1 .taken)))
 
 connected-requires-2 : tie.Need-connected-requires-2
 connected-requires-2 c κs = search needs
@@ -33,10 +37,14 @@ unit-at-requires-2 c κs = search needs
 
 returns-2 : tie.Need-returns-2
 returns-2 c =
-    let k = c .before .before .before .before .before in
-    let t = k .before .term-at .ensures in
-    rw (c .before .unit-at2 .ensures, c .before .before .connected2 .ensures, k .after-first .ensures, stated-four, t)
-    (unit-and _ _ _ _ _ (ne-eqb _ _ (rw t at (c .before .before .before .if1 .left))))
+    let at-unit-at2 = c .before in
+    let at-connected2 = at-unit-at2 .before in
+    let at-if1 = at-connected2 .before in
+    let at-after-first = at-if1 .before .before in
+    let at-term-at = at-after-first .before in
+    let t = at-term-at .term-at .ensures in
+    rw (at-unit-at2 .unit-at2 .ensures, at-connected2 .connected2 .ensures, at-after-first .after-first .ensures, stated-four, t)
+    (unit-and _ _ _ _ _ (ne-eqb _ _ (rw t at (at-if1 .if1 .left))))
 
 pub unit-spec : {M : Type 1} → statement M
 unit-spec =

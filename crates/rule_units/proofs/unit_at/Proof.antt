@@ -1,5 +1,6 @@
 -- `rule_units::unit_at` meets its contract.
-use mathlib.Core.Path.{refl, sym}
+use mathlib.Core.Path.{sym}
+use Rattle.calculus.proofs.Forms.{unit-none}
 use mathlib.Core.List.{[], _∷_}
 use Rattle.rule_units.proofs.Laws.{others-none}
 use borrow.Author.Needs.{needs}
@@ -29,16 +30,23 @@ more-unit-requires-4 c κs = search needs
 
 returns : tie.Need-returns
 returns c =
-    let y = c .before .before .before .before .before .before .before .before .before .args in
+    let at-more-unit3 = c .before in
+    let at-more-unit2 = at-more-unit3 .before in
+    let at-more-unit = at-more-unit2 .before in
+    let at-more-other3 = at-more-unit .before .before in
+    let at-more-other2 = at-more-other3 .before in
+    let at-more-other = at-more-other2 .before in
+    let start = at-more-other .before .before in
+    let y = start .args in
     let e = y .e in
     let x = y .x in
     let none = sym (others-none (y .w) (x .s) (x .t ∷ [])) in
-    let od = c .before .before .before .before .before .before .before .more-other .ensures [] (x .s ∷ x .t ∷ []) none in
-    let oc = c .before .before .before .before .before .before .more-other2 .ensures (e .d ∷ []) (x .r ∷ x .s ∷ x .t ∷ []) od in
-    let ob = c .before .before .before .before .before .more-other3 .ensures (e .c ∷ e .d ∷ []) (x .q ∷ x .r ∷ x .s ∷ x .t ∷ []) oc in
-    let ud = c .before .before .before .more-unit .ensures [] (x .t ∷ []) none refl in
-    let uc = c .before .before .more-unit2 .ensures (e .d ∷ []) (x .s ∷ x .t ∷ []) od ud in
-    let ub = c .before .more-unit3 .ensures (e .c ∷ e .d ∷ []) (x .r ∷ x .s ∷ x .t ∷ []) oc uc in
+    let od = at-more-other .more-other .ensures [] (x .s ∷ x .t ∷ []) none in
+    let oc = at-more-other2 .more-other2 .ensures (e .d ∷ []) (x .r ∷ x .s ∷ x .t ∷ []) od in
+    let ob = at-more-other3 .more-other3 .ensures (e .c ∷ e .d ∷ []) (x .q ∷ x .r ∷ x .s ∷ x .t ∷ []) oc in
+    let ud = at-more-unit .more-unit .ensures [] (x .t ∷ []) none (sym (unit-none (y .w) (y .l .0) _)) in
+    let uc = at-more-unit2 .more-unit2 .ensures (e .d ∷ []) (x .s ∷ x .t ∷ []) od ud in
+    let ub = at-more-unit3 .more-unit3 .ensures (e .c ∷ e .d ∷ []) (x .r ∷ x .s ∷ x .t ∷ []) oc uc in
     c .more-unit4 .ensures (e .b ∷ e .c ∷ e .d ∷ []) (x .q ∷ x .r ∷ x .s ∷ x .t ∷ []) ob ub
 
 pub unit-at-spec : {M : Type 1} → statement M

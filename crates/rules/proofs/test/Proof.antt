@@ -1,4 +1,5 @@
 -- `rules::test` meets its contract.
+use Rattle.rules.proofs.Laws.{tested}
 use Rattle.calculus.specs.Rules.{fits}
 use borrow.Author.Needs.{needs}
 use Rattle.rules.proofs.test.Statement.{statement}
@@ -125,43 +126,43 @@ enum-told-14 : tie.Need-enum-told-14
 enum-told-14 c = search needs
 
 returns : tie.Need-returns
-returns c = rw (c .before .before .enum-told .given .1, c .answer .ensures, c .before .same .ensures)
+returns c = search tested
 
 returns-2 : tie.Need-returns-2
-returns-2 c = rw (c .before .before .enum-told2 .given .1, c .answer2 .ensures, c .before .differ .ensures)
+returns-2 c = search tested
 
 returns-3 : tie.Need-returns-3
-returns-3 c = rw (c .before .before .enum-told3 .given .1, c .answer3 .ensures, c .before .refl .ensures)
+returns-3 c = search tested
 
 returns-4 : tie.Need-returns-4
-returns-4 c = rw (c .before .before .enum-told4 .given .1, c .answer4 .ensures, c .before .sym .ensures)
+returns-4 c = search tested
 
 returns-5 : tie.Need-returns-5
-returns-5 c = rw (c .before .before .enum-told5 .given .1, c .answer5 .ensures, c .before .trans .ensures)
+returns-5 c = search tested
 
 returns-6 : tie.Need-returns-6
-returns-6 c = rw (c .before .before .enum-told6 .given .1, c .answer6 .ensures, c .before .neg .ensures)
+returns-6 c = search tested
 
 returns-7 : tie.Need-returns-7
-returns-7 c = rw (c .before .before .enum-told7 .given .1, c .answer7 .ensures, c .before .part .ensures)
+returns-7 c = search tested
 
 returns-8 : tie.Need-returns-8
-returns-8 c = rw (c .before .before .enum-told8 .given .1, c .answer8 .ensures, c .before .unit .ensures)
+returns-8 c = search tested
 
 returns-9 : tie.Need-returns-9
-returns-9 c = rw (c .before .before .enum-told9 .given .1, c .answer9 .ensures, c .before .eval .ensures)
+returns-9 c = search tested
 
 returns-10 : tie.Need-returns-10
-returns-10 c = rw (c .before .before .enum-told10 .given .1, c .answer10 .ensures, c .before .cong .ensures)
+returns-10 c = search tested
 
 returns-11 : tie.Need-returns-11
-returns-11 c = rw (c .before .before .enum-told11 .given .1, c .answer11 .ensures, c .before .pred .ensures)
+returns-11 c = search tested
 
 returns-12 : tie.Need-returns-12
-returns-12 c = rw (c .before .before .enum-told12 .given .1, c .answer12 .ensures, c .before .read .ensures)
+returns-12 c = search tested
 
 returns-13 : tie.Need-returns-13
-returns-13 c = rw (c .before .before .enum-told13 .given .1, c .answer13 .ensures, c .before .skip .ensures)
+returns-13 c = search tested
 
 returns-14 : tie.Need-returns-14
 unfolding fits

@@ -19,11 +19,17 @@ sort-of-requires c κs = search needs
 
 returns-2 : tie.Need-returns-2
 unfolding fitRefusal
-returns-2 c = rw (← c .before .before .sort-of .ensures) (ap checkOf (pass _ 6 _ _ (c .before .before .before .if1 .left) (stop _ 7 _ (c .if2 .taken))))
+returns-2 c =
+    let at-sort-of = c .before .before in
+    let at-if1 = at-sort-of .before in
+    rw (← at-sort-of .sort-of .ensures) (ap checkOf (pass _ 6 _ _ (at-if1 .if1 .left) (stop _ 7 _ (c .if2 .taken))))
 
 returns-3 : tie.Need-returns-3
 unfolding fitRefusal
-returns-3 c = rw (← c .before .before .sort-of .ensures) (ap checkOf (pass _ 6 _ _ (c .before .before .before .if1 .left) (pass _ 7 _ _ (c .if2 .left) refl)))
+returns-3 c =
+    let at-sort-of = c .before .before in
+    let at-if1 = at-sort-of .before in
+    rw (← at-sort-of .sort-of .ensures) (ap checkOf (pass _ 6 _ _ (at-if1 .if1 .left) (pass _ 7 _ _ (c .if2 .left) refl)))
 
 pub check-input-spec : {M : Type 1} → statement M
 check-input-spec = tie.close (tie.spec cast-i returns sort-of-requires returns-2 returns-3)

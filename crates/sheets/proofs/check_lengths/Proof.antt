@@ -26,11 +26,17 @@ mul-if3-2 c = search needs
 
 returns-3 : tie.Need-returns-3
 unfolding lengthRefusal
-returns-3 c = ap checkOf (pass _ 31 _ _ (c .before .before .if1 .left) (pass _ 30 _ _ (c .before .if2 .left) (stop _ 32 _ (c .if3 .taken))))
+returns-3 c =
+    let at-if2 = c .before in
+    let at-if1 = at-if2 .before in
+    ap checkOf (pass _ 31 _ _ (at-if1 .if1 .left) (pass _ 30 _ _ (at-if2 .if2 .left) (stop _ 32 _ (c .if3 .taken))))
 
 returns-4 : tie.Need-returns-4
 unfolding lengthRefusal
-returns-4 c = ap checkOf (pass _ 31 _ _ (c .before .before .if1 .left) (pass _ 30 _ _ (c .before .if2 .left) (pass _ 32 _ _ (c .if3 .left) refl)))
+returns-4 c =
+    let at-if2 = c .before in
+    let at-if1 = at-if2 .before in
+    ap checkOf (pass _ 31 _ _ (at-if1 .if1 .left) (pass _ 30 _ _ (at-if2 .if2 .left) (pass _ 32 _ _ (c .if3 .left) refl)))
 
 pub check-lengths-spec : {M : Type 1} → statement M
 check-lengths-spec =

@@ -20,9 +20,12 @@ more-known-requires-3 c κs = search needs
 
 returns-2 : tie.Need-returns-2
 returns-2 c =
-    let x = c .before .before .before .before .before .args .x in
-    let t = c .before .before .more-known .ensures [] refl in
-    let s = c .before .more-known2 .ensures (x .t ∷ []) t in
+    let at-more-known2 = c .before in
+    let at-more-known = at-more-known2 .before in
+    let start = at-more-known .before .before .before in
+    let x = start .args .x in
+    let t = at-more-known .more-known .ensures [] refl in
+    let s = at-more-known2 .more-known2 .ensures (x .t ∷ []) t in
     c .more-known3 .ensures (x .s ∷ x .t ∷ []) s
 
 pub late-known-spec : {M : Type 1} → statement M

@@ -22,8 +22,11 @@ more-known-requires-2 c κs = search needs
 returns-2 : tie.Need-returns-2
 unfolding premises
 returns-2 c =
-    let x = c .before .before .before .before .before .args .x in
-    let q = c .before .more-known .ensures (x .r ∷ x .s ∷ x .t ∷ []) (c .before .before .late-known .ensures) in
+    let at-more-known = c .before in
+    let at-late-known = at-more-known .before in
+    let start = at-late-known .before .before .before in
+    let x = start .args .x in
+    let q = at-more-known .more-known .ensures (x .r ∷ x .s ∷ x .t ∷ []) (at-late-known .late-known .ensures) in
     c .more-known2 .ensures (x .q ∷ x .r ∷ x .s ∷ x .t ∷ []) q
 
 pub premises-known-spec : {M : Type 1} → statement M

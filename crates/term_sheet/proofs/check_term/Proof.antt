@@ -1,58 +1,49 @@
--- `term_sheet::check_term` meets its contract.
-use Rattle.term_sheet.proofs.Laws.{row-flat, ragged, unfit, repeats, fine}
-use Rattle.calculus.proofs.Facts.{unless-no}
-use Rattle.calculus.specs.Numbers.{checkOf}
-use borrow.Author.Tests.{not-true, not-false, eq-eqb, ne-eqb}
-use mathlib.Core.Bool.{not}
-use mathlib.Core.Path.{sym, ap, _∙_}
+use Rattle.term_sheet.proofs.Laws.{row-ragged, row-late, head-known, row-unfit, row-repeats, row-fine}
 use borrow.Author.Needs.{needs}
 use Rattle.term_sheet.proofs.check_term.Statement.{statement}
 use Rattle.term_sheet.proofs.check_term.Tie as tie
+use Rattle.term_sheet.proofs.check_term.Reads as reads
+use Rattle.term_sheet.proofs.check_term.Lts as lts
+use Rattle.kinds.proofs.head_of.Reads as head-of-reads
+use Rattle.term_sheet.proofs.all_earlier.Reads as all-earlier-reads
+use Rattle.term_sheet.proofs.in_place.Reads as in-place-reads
+use Rattle.term_suits.proofs.suits_head.Reads as suits-head-reads
 
+-- src/lib.rt:47:9
 in-place-requires : tie.Need-in-place-requires
 in-place-requires c κs = search needs
 
+-- src/lib.rt:48:12
 all-earlier-requires : tie.Need-all-earlier-requires
 all-earlier-requires c κs = search needs
 
+-- src/lib.rt:49:13
 returns : tie.Need-returns
-returns c =
-    let a = c .before .before .before .before .before .before .args in
-    let p = sym (c .before .before .before .in-place .ensures) ∙ not-true _ (c .before .before .if1 .taken) in
-    rw (row-flat (a .sorts .now) (a .terms .now) (a .t .0) _ (c .before .before .before .before .before .before .pre .row)) (ap checkOf (ragged _ _ _ _ (sym (c .before .all-earlier .ensures) ∙ c .if2 .taken) p))
+returns c = search row-ragged
 
+-- src/lib.rt:51:9
 returns-2 : tie.Need-returns-2
-returns-2 c =
-    let a = c .before .before .before .before .before .before .args in
-    rw (row-flat (a .sorts .now) (a .terms .now) (a .t .0) _ (c .before .before .before .before .before .before .pre .row)) (ap checkOf (sym (unless-no 3 _ (sym (c .before .all-earlier .ensures) ∙ c .if2 .left))))
+returns-2 c = search row-late
 
+-- src/lib.rt:53:9
 head-of-requires : tie.Need-head-of-requires
 head-of-requires c κs = search needs
 
+-- src/lib.rt:54:9
 suits-head-requires : tie.Need-suits-head-requires
-suits-head-requires c κs =
-    (c .before .before .before .before .before .pre, rw (c .head-of .ensures, c .before .before .before .before .before .pre .row))
+suits-head-requires c κs = (search needs, search head-known)
 
+-- src/lib.rt:55:9
 returns-3 : tie.Need-returns-3
-returns-3 c =
-    let a = c .before .before .before .before .before .before .before .args in
-    let p = sym (c .before .before .before .before .in-place .ensures) ∙ not-false _ (c .before .before .before .if1 .left) in
-    rw (row-flat (a .sorts .now) (a .terms .now) (a .t .0) _ (c .before .before .before .before .before .before .before .pre .row)) (ap checkOf (unfit _ _ _ _ p (rw (c .before .before .head-of .ensures) at (sym (c .before .suits-head .ensures) ∙ not-true _ (c .if3 .taken)))))
+returns-3 c = search row-unfit
 
-cast-if4 : tie.Need-cast-if4
-cast-if4 c = search needs
-
+-- src/lib.rt:58:9
 returns-4 : tie.Need-returns-4
-returns-4 c =
-    let a = c .before .before .before .before .before .before .before .before .before .args in
-    let p = sym (c .before .before .before .before .before .before .in-place .ensures) ∙ not-false _ (c .before .before .before .before .before .if1 .left) in
-    rw (row-flat (a .sorts .now) (a .terms .now) (a .t .0) _ (c .before .before .before .before .before .before .before .before .before .pre .row)) (ap checkOf (repeats _ _ _ _ p (rw (c .before .before .before .before .head-of .ensures) at (sym (c .before .before .before .suits-head .ensures) ∙ not-false _ (c .before .before .if3 .left))) (ap not (eq-eqb _ _ (c .if4 .taken)))))
+returns-4 c = search row-repeats
 
+-- src/lib.rt:43:1
 returns-5 : tie.Need-returns-5
-returns-5 c =
-    let a = c .before .before .before .before .before .before .before .before .before .args in
-    let p = sym (c .before .before .before .before .before .before .in-place .ensures) ∙ not-false _ (c .before .before .before .before .before .if1 .left) in
-    rw (row-flat (a .sorts .now) (a .terms .now) (a .t .0) _ (c .before .before .before .before .before .before .before .before .before .pre .row)) (ap checkOf (fine _ _ _ _ p (rw (c .before .before .before .before .head-of .ensures) at (sym (c .before .before .before .suits-head .ensures) ∙ not-false _ (c .before .before .if3 .left))) (ap not (ne-eqb _ _ (c .if4 .left)))))
+returns-5 c = search row-fine
 
 pub check-term-spec : {M : Type 1} → statement M
 check-term-spec =
@@ -65,6 +56,5 @@ check-term-spec =
     head-of-requires
     suits-head-requires
     returns-3
-    cast-if4
     returns-4
     returns-5)

@@ -1,0 +1,2 @@
+-- What the test of a rule answers.
+pub mod Laws

@@ -1,0 +1,2 @@
+-- Laws of the searches among term rows.
+pub mod Laws

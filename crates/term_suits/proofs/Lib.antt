@@ -1,0 +1,2 @@
+-- Laws of a row's arguments and of its head.
+pub mod Laws
