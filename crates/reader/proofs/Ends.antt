@@ -9,11 +9,14 @@ use lib.ListN.{length, replicate}
 use Rattle.text_names.proofs.Table.{length-names}
 use Rattle.text_rows.specs.View.{keptOf}
 use Rattle.text_rows.specs.declared.Counts.{Counts}
-use Rattle.reader.specs.declared.Progress.{Progress}
+use Rattle.text_stream.specs.declared.Progress.{Progress}
 use Rattle.reader.specs.declared.Fault.{Fault}
 use Rattle.reader.specs.declared.ReadOutcome.{ReadOutcome}
-use Rattle.reader.specs.Text.{Control, isSteps, faultOf, counted, outcomeOf}
-use Rattle.reader.specs.Stream.{controlOf, streamOf, streamFault, streamCode, holdRows, codeOf, leftSheet, Finished}
+use Rattle.text_lines.specs.Lines.{Control}
+use Rattle.reader.specs.Text.{isSteps, faultOf, counted, outcomeOf}
+use Rattle.text_lines.specs.View.{controlOf}
+use Rattle.text_stream.specs.Stream.{streamOf}
+use Rattle.reader.specs.Stream.{streamFault, streamCode, holdRows, codeOf, leftSheet, Finished}
 
 -- the fault, test after test
 module _ (c : Control) (whole : Bool) (n : ℕ) where

@@ -9,11 +9,12 @@ use lib.ListN.{length, replicate}
 use Rattle.text_fields.specs.Split.{pieces, same}
 use Rattle.text_names.specs.Table.{padTo}
 use Rattle.text_names.proofs.Laws.{length-padTo}
-use Rattle.reader.specs.declared.Progress.{Progress}
+use Rattle.text_stream.specs.declared.Progress.{Progress}
 use Rattle.reader.specs.declared.ReadOutcome.{ReadOutcome}
 use Rattle.reader.specs.Text.{Lent, last, lastLine, linesFold, startState, fits, textState, textFault, textCode, textOutcome, textSheet, TextRead}
-use Rattle.reader.specs.Stream.{Stream, feedAll, freshStream, streamOf, startProgress, streamFault, streamCode, holdRows, leftSheet, Finished}
-use Rattle.reader.proofs.Sheets.{pad-none}
+use Rattle.text_stream.specs.Stream.{Stream, feedAll, freshStream, streamOf}
+use Rattle.reader.specs.Stream.{startProgress, streamFault, streamCode, holdRows, leftSheet, Finished}
+use Rattle.text_lines.proofs.Sheets.{pad-none}
 use Rattle.reader.proofs.Sizes.{sized-sorts, sized-terms, sized-inputs, sized-steps}
 use Rattle.reader.proofs.Whole.{Follows, padded, whole-text}
 

@@ -11,9 +11,10 @@ use Rattle.text_fields.specs.Shape.{shapeOf}
 use Rattle.text_fields.specs.declared.Shape.{Shape}
 use Rattle.text_fields.specs.declared.Shape.the-variants.{Good, Faulty}
 use Rattle.text_rows.specs.Rows.{Kept, Taken, refused, shaped, below, fresh, isTaken, sortAdded, sortRow, termAdded, termRow, inputAdded, inputRow, stepAdded, stepRow}
-use Rattle.reader.specs.declared.Sheet.{Sheet}
-use Rattle.reader.specs.declared.Sheet.the-variants.{Sorts, Terms, Inputs, Steps}
-use Rattle.reader.specs.Text.{Control, Effect, State, quiet, bad, enter, headerOf, header, nextSheet, rowOf, row, readLine, numbered, lineEffect, applied, lineStep, startState}
+use Rattle.text_lines.specs.declared.Sheet.{Sheet}
+use Rattle.text_lines.specs.declared.Sheet.the-variants.{Sorts, Terms, Inputs, Steps}
+use Rattle.text_lines.specs.Lines.{Control, Effect, quiet, bad, enter, headerOf, header, nextSheet, rowOf, row, readLine, numbered, lineEffect}
+use Rattle.reader.specs.Text.{State, applied, lineStep, startState}
 
 -- how many numbers the rows of the sheets have
 pub record Sizes : Type 0 where

@@ -4,37 +4,24 @@ use mathlib.Core.Path.{_≡_, refl, ap, sym, _∙_}
 use mathlib.Core.Bool.{Bool, true, false}
 use mathlib.Core.List.{List, [], _∷_, _++_, append-assoc}
 use native.Mathlib.Omega.{arith}
-use borrow.Author.Tests.{lt-leb, ltb-true, ltb-false, leb-true, leb-false, eqb-true}
-use lib.Dec.{eqb, leb, ltb}
-use lib.ListN.{length, take, length-take, length-append}
+use borrow.Author.Tests.{ltb-true, ltb-false}
+use lib.Dec.{eqb, ltb}
+use lib.ListN.{length, take, length-append}
 use lib.Seq.{take-all, take-append-le}
 use Rattle.text_fields.specs.Split.{pick, pieces, prepend}
 use Rattle.text_fields.specs.Class.{classOf, isNewline}
-use Rattle.text_fields.specs.declared.ByteClass.the-variants.{Space, Newline, Name, Other}
 use Rattle.text_names.specs.Table.{padTo}
 use Rattle.text_position.specs.Place.{nextLine}
-use Rattle.reader.specs.declared.Sheet.{Sheet}
-use Rattle.reader.specs.declared.Sheet.the-variants.{Sorts, Terms, Inputs, Steps}
-use Rattle.reader.specs.Text.{Control, Effect, State, Lent, lineEffect, readLine, numbered, bad, quiet, applied, lineStep, linesFold, last, lastLine, startState}
-use Rattle.reader.specs.Stream.{Sheets, Stream, stored, stepByte, feedAll, freshStream}
-use Rattle.reader.proofs.Sheets.{store-row, append-nil}
+use Rattle.text_lines.specs.declared.Sheet.{Sheet}
+use Rattle.text_lines.specs.declared.Sheet.the-variants.{Sorts, Terms, Inputs, Steps}
+use Rattle.text_lines.specs.Lines.{Effect, lineEffect}
+use Rattle.reader.specs.Text.{State, Lent, applied, lineStep, linesFold, last, lastLine, startState}
+use Rattle.text_lines.specs.View.{Sheets, stored}
+use Rattle.text_stream.specs.Stream.{Stream, stepByte, feedAll, freshStream}
+use Rattle.text_lines.proofs.Lines.{effect-cut}
+use Rattle.text_lines.proofs.Sheets.{store-row, append-nil}
+use Rattle.text_stream.proofs.Bytes.{newline-is}
 use Rattle.reader.proofs.Sizes.{Sized, sized-step, sized-sorts, sized-terms, sized-inputs, sized-steps, step-control, start-sized}
-
--- a byte ends a line just when it is 10
-pub newline-is : (b : ℕ) → isNewline (classOf b) ≡ eqb b 10
-newline-is b = one (eqb b 32) refl where
-  three : (x y : Bool) → eqb b 10 ≡ false → isNewline (pick x (pick y Name Other) Other) ≡ eqb b 10
-  three true true e = sym e
-  three true false e = sym e
-  three false y e = sym e
-
-  two : (t : Bool) → eqb b 10 ≡ t → isNewline (pick t Newline (pick (leb 33 b) (pick (leb b 126) Name Other) Other)) ≡ eqb b 10
-  two true e = sym e
-  two false e = three (leb 33 b) (leb b 126) e
-
-  one : (t : Bool) → eqb b 32 ≡ t → isNewline (pick t Space (pick (eqb b 10) Newline (pick (leb 33 b) (pick (leb b 126) Name Other) Other))) ≡ eqb b 10
-  one true e = let z : b ≡ 32 = eqb-true b 32 e in rw z
-  one false e = two (eqb b 10) refl
 
 -- p goes in front of the first piece
 front : List ℕ → List (List ℕ) → List (List ℕ)
@@ -79,19 +66,6 @@ line-more k s l (x ∷ xs) = step (eqb x 10) where
   step : (t : Bool) → reached k s (l ∷ pick t ([] ∷ pieces 10 xs) (prepend x (pieces 10 xs))) ≡ reached (nextLine k) (lineStep s k l) (pick t ([] ∷ pieces 10 xs) (prepend x (pieces 10 xs)))
   step true = refl
   step false = behind (pieces 10 xs)
-
--- of a line that is too long the first 526 bytes say so
-pub effect-cut : (c : Control) (n : ℕ) (p : List ℕ) → lineEffect c n (take 526 p) ≡ lineEffect c n p
-unfolding lineEffect
-effect-cut c n p = go (leb (length p) 525) refl where
-  go : (t : Bool) → leb (length p) 525 ≡ t
-      → pick (eqb (c .code) 0) (pick (leb (length (take 526 p)) 525) (readLine (numbered c n) (take 526 p)) (bad (numbered c n) 31 0)) (quiet c)
-      ≡ pick (eqb (c .code) 0) (pick (leb (length p) 525) (readLine (numbered c n) p) (bad (numbered c n) 31 0)) (quiet c)
-  go true e = let h = leb-true (length p) 525 e in rw (take-all 526 p (omega arith))
-  go false e =
-      let h = leb-false (length p) 525 e in
-      let k : 525 < length (take 526 p) = rw length-take (omega arith) in
-      rw (lt-leb (length (take 526 p)) 525 k, e)
 
 -- sheets of given lengths that hold the rows and then zeros
 abbrev pub padded : Lent → State → Sheets

@@ -8,7 +8,8 @@ use Rattle.text_fields.specs.Split.{bytes}
 use Rattle.text_fields.specs.Words.{refOf}
 use Rattle.text_fields.specs.Shape.{shapeOf}
 use Rattle.text_rows.specs.Rows.{isTaken, headOf, sortRow, termRow, inputRow, stepRow}
-use Rattle.reader.specs.Text.{Lent, readLine, lineEffect, lineStep, textState, textFault, textCode, textOutcome, textSheet}
+use Rattle.text_lines.specs.Lines.{readLine, lineEffect}
+use Rattle.reader.specs.Text.{Lent, lineStep, textState, textFault, textCode, textOutcome, textSheet}
 use Rattle.reader.specs.declared.ReadOutcome.{ReadOutcome}
 
 -- what a text that is read leaves in the four sheets

@@ -2,7 +2,7 @@
 use mathlib.Core.Path.{_≡_, ap, _∙_}
 use lib.ListN.{length}
 use Rattle.reader.specs.Text.{Lent, startState}
-use Rattle.reader.specs.Stream.{Stream, streamOf, feedAll, freshStream}
+use Rattle.text_stream.specs.Stream.{Stream, streamOf, feedAll, freshStream}
 use Rattle.reader.proofs.Whole.{padded}
 use Rattle.reader.proofs.Final.{fresh-is, read-is}
 use borrow.Author.Needs.{needs}

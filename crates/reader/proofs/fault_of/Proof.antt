@@ -4,7 +4,7 @@ use mathlib.Core.Path.{sym, _∙_}
 use mathlib.Core.List.{List}
 use borrow.Author.Tests.{eq-eqb, ne-eqb, not-true, not-false}
 use lib.Dec.{eqb}
-use Rattle.reader.specs.Stream.{controlOf}
+use Rattle.text_lines.specs.View.{controlOf}
 use Rattle.reader.proofs.Ends.{fault-line, fault-sheet, fault-header, fault-rest, fault-none}
 use borrow.Author.Needs.{needs}
 use Rattle.reader.proofs.fault_of.Statement.{statement}
