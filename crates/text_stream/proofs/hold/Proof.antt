@@ -41,8 +41,7 @@ loop-again : tie.Need-loop-again Inv-loop μ-loop
 loop-again c =
     let stored = c .before .before .before .put-byte in
     let at = c .before .before .before .before .before .before .before in
-    let start = at .before .before .before in
-    (
+    let start = at .before .before .before in (
       omega arith,
       omega arith,
       λ k s. hold-more (at .loop .pos) (at .loop .line) (start .args .l .now) (at .loop .i) k s (start .pre .0) (omega arith) (omega arith)
