@@ -152,7 +152,7 @@ fn empty_line(core: Core) -> Step
 }
 
 // A row of a sheet.
-fn sheet_row(sheet: Sheet, counts: Counts, line: &[u8], names: &mut [u8; 39008]) -> Row
+fn sheet_row(sheet: Sheet, counts: Counts, line: &[u8], names: &mut [u8; 47232]) -> Row
     requires { ⌜ Bounded counts ⌝ }
     ensures { λ r. ⌜ takenOf r (now (names .exit)) ≡ rowOf sheet (keptOf counts (now (names .entry))) (pieces 32 (now (line .entry))) ⌝ }
     ensures { λ r. ⌜ Within r ⌝ }
@@ -189,7 +189,7 @@ fn row_line(core: Core, taken: Row) -> Step
 }
 
 // A line that is not too long, after good ones.
-fn read_line(core: Core, line: &[u8], names: &mut [u8; 39008]) -> Step
+fn read_line(core: Core, line: &[u8], names: &mut [u8; 47232]) -> Step
     requires { ⌜ Bounded (core .counts) ⌝ }
     ensures { λ r. ⌜ effectOf r (now (names .exit)) ≡ readLine (controlOf core (now (names .entry))) (now (line .entry)) ⌝ }
     ensures { λ r. ⌜ StepBounded r ⌝ }
@@ -224,7 +224,7 @@ fn number_line(core: Core, n: usize) -> Core
 }
 
 // A finished line: the first `at` bytes of the buffer.
-fn end_line(core: Core, n: usize, at: usize, line: &[u8], names: &mut [u8; 39008]) -> Step
+fn end_line(core: Core, n: usize, at: usize, line: &[u8], names: &mut [u8; 47232]) -> Step
     requires { ⌜ Bounded (core .counts) ⌝ }
     requires { ⌜ at ≤ length (now line) + (at - 526) ⌝ }
     ensures { λ r. ⌜ effectOf r (now (names .exit)) ≡ lineEffect (controlOf core (now (names .entry))) n (take at (now (line .entry))) ⌝ }
@@ -302,7 +302,7 @@ fn feed_newline(
     n: usize,
     at: usize,
     line: &[u8],
-    names: &mut [u8; 39008],
+    names: &mut [u8; 47232],
     sorts: &mut [u16],
     terms: &mut [u16],
     inputs: &mut [u16],
@@ -330,7 +330,7 @@ fn feed_byte(
     f: Progress,
     b: u8,
     line: &mut [u8; 526],
-    names: &mut [u8; 39008],
+    names: &mut [u8; 47232],
     sorts: &mut [u16],
     terms: &mut [u16],
     inputs: &mut [u16],
@@ -370,7 +370,7 @@ fn feed_bytes(
     start: Progress,
     piece: &[u8],
     line: &mut [u8; 526],
-    names: &mut [u8; 39008],
+    names: &mut [u8; 47232],
     sorts: &mut [u16],
     terms: &mut [u16],
     inputs: &mut [u16],
@@ -395,7 +395,7 @@ fn feed_bytes(
 fn feed_line(
     f: Progress,
     l: &[u8],
-    names: &mut [u8; 39008],
+    names: &mut [u8; 47232],
     sorts: &mut [u16],
     terms: &mut [u16],
     inputs: &mut [u16],
@@ -435,7 +435,7 @@ fn feed_part(
     rest: &[u8],
     n: usize,
     line: &mut [u8; 526],
-    names: &mut [u8; 39008],
+    names: &mut [u8; 47232],
     sorts: &mut [u16],
     terms: &mut [u16],
     inputs: &mut [u16],
@@ -475,7 +475,7 @@ pub fn feed(
     start: Progress,
     piece: &[u8],
     line: &mut [u8; 526],
-    names: &mut [u8; 39008],
+    names: &mut [u8; 47232],
     sorts: &mut [u16],
     terms: &mut [u16],
     inputs: &mut [u16],
@@ -675,7 +675,7 @@ fn leave_sheet(code: u16, sheet: &mut [u16])
 pub fn finish(
     f: Progress,
     line: &mut [u8; 526],
-    names: &mut [u8; 39008],
+    names: &mut [u8; 47232],
     sorts: &mut [u16],
     terms: &mut [u16],
     inputs: &mut [u16],
@@ -715,7 +715,7 @@ pub extern "C" fn cdsat_read(
         r (now (sorts .exit)) (now (terms .exit)) (now (inputs .exit)) (now (steps .exit)) ⌝ }
 {
     let mut line = [0u8; 526];
-    let mut names = [0u8; 39008];
+    let mut names = [0u8; 47232];
     let start = begin(sorts, terms, inputs, steps);
     let f = feed(
         start,
