@@ -16,7 +16,7 @@ struct Read {
 fn read_all(
     start: Progress,
     line: &mut [u8; 526],
-    names: &mut [u8; 39008],
+    names: &mut [u8; 47232],
     sorts: &mut [u16],
     terms: &mut [u16],
     inputs: &mut [u16],
@@ -104,7 +104,7 @@ fn run_log(r: ReadOutcome, sorts: &[u16], terms: &[u16], inputs: &[u16], steps: 
 
 fn main() {
     let mut line = [0u8; 526];
-    let mut names = [0u8; 39008];
+    let mut names = [0u8; 47232];
     let mut sorts = [0u16; 64];
     let mut terms = [0u16; 1536];
     let mut inputs = [0u16; 512];

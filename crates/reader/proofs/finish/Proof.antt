@@ -65,7 +65,7 @@ returns c =
     let the-leave-sheet3 = c .before .before .before .before .before .before .before .leave-sheet3 in
     let the-leave-sheet4 = c .before .before .before .leave-sheet4 in
     let l : length (a .line .now) ≡ 526 = omega (arith, the-clear-bytes-arg) in
-    let m : length (a .names .now) ≡ 39008 = omega (arith, the-clear-bytes-arg2) in
+    let m : length (a .names .now) ≡ 47232 = omega (arith, the-clear-bytes-arg2) in
     finished (a .f) (a .line .now) (a .names .now) (a .sorts .now) (a .terms .now) (a .inputs .now) (a .steps .now)
     (the-fault-of .result) (the-fault-of .ensures (a .names .now)) (the-holds-rows .result)
     (the-holds-rows .ensures) (the-final-code .result) (the-final-code .ensures) (c .outcome-of .result) _ _ _ _ _
