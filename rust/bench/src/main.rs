@@ -168,7 +168,8 @@ impl Bench {
             .collect();
         for (read, sheets) in readers.iter().zip(&mut buffers) {
             let (number, rows) = read(&text, sheets);
-            if number != 0 || rows[1] != 256 || rows[3] != 1_024 {
+            let good = number == 0 && rows[1] == 256 && rows[3] == 1_024;
+            if good == text.starts_with(b"\n") {
                 return Err(format!("the text is read as {number}, {rows:?}"));
             }
         }
@@ -219,7 +220,8 @@ fn all(bench: &Bench) -> Result<(), String> {
     bench.read("text reader", work::text())?;
     bench.read("text, long names", work::long_names())?;
     bench.read("text, one byte's tag", work::one_byte_tag())?;
-    bench.read("text, one tag", work::one_tag())
+    bench.read("text, one tag", work::one_tag())?;
+    bench.read("text, newlines", work::newlines())
 }
 
 fn main() -> ExitCode {

@@ -386,3 +386,8 @@ pub fn one_tag() -> (String, Vec<u8>) {
     };
     named_text("256 names of one tag", &names_that(|name| tag(name) == 0))
 }
+
+/// Newlines alone: the first line is bad, and all others have only to be counted.
+pub fn newlines() -> (String, Vec<u8>) {
+    ("100,000 newlines".into(), vec![b'\n'; 100_000])
+}
