@@ -39,13 +39,17 @@ module _ (c : Control) (whole : Bool) (n : ℕ) where
         fault-none w = rw (eq-eqb (c .code) 0 e, s, h, w)
 
 -- what is returned
-pub outcome-counts : (code : ℕ) (f : Fault) (n : Counts) (t : List ℕ) (a b c d : ℕ) → a ≡ counted code (n .sorts) → b ≡ counted code (n .terms) → c ≡ counted code (n .inputs) → d ≡ counted code (n .steps)
-    → _≡_ {A = ReadOutcome} (record { code = code; sorts = a; terms = b; inputs = c; steps = d; line = f .line; place = f .place }) (outcomeOf code f (keptOf n t))
+pub outcome-counts : (code : ℕ) (f : Fault) (n : Counts) (t : List ℕ) (a b c d : ℕ)
+    → a ≡ counted code (n .sorts) → b ≡ counted code (n .terms) → c ≡ counted code (n .inputs) → d ≡ counted code (n .steps)
+    → _≡_ {A = ReadOutcome} (record { code = code; sorts = a; terms = b; inputs = c; steps = d; line = f .line; place = f .place })
+    (outcomeOf code f (keptOf n t))
 outcome-counts code f n t a b c d p q r s = rw (p, q, r, s, length-names t 0 (n .sorts), length-names t 32 (n .terms))
 
 -- the end
-module _ (f : Progress) (line t a b c d : List ℕ) (fault : Fault) (is : fault ≡ faultOf (controlOf (f .core) t) (eqb (f .pos .at) 0) (f .pos .line)) (room : Bool)
-    (has : room ≡ holdRows (f .core .counts .sorts) (f .core .counts .terms) (f .core .counts .inputs) (f .core .counts .steps) (length a) (length b) (length c) (length d))
+module _ (f : Progress) (line t a b c d : List ℕ)
+    (fault : Fault) (is : fault ≡ faultOf (controlOf (f .core) t) (eqb (f .pos .at) 0) (f .pos .line))
+    (room : Bool) (has : room ≡ holdRows (f .core .counts .sorts) (f .core .counts .terms) (f .core .counts .inputs) (f .core .counts .steps)
+    (length a) (length b) (length c) (length d))
     (code : ℕ) (code-of : code ≡ codeOf (fault .code) room) where
   fault-is : fault ≡ streamFault (streamOf f line t a b c d)
   unfolding streamFault
@@ -56,7 +60,8 @@ module _ (f : Progress) (line t a b c d : List ℕ) (fault : Fault) (is : fault 
   code-is = code-of ∙ rw (has, fault-is, length-names t 0 (f .core .counts .sorts), length-names t 32 (f .core .counts .terms))
 
   pub finished : (r : ReadOutcome) (line′ names′ a′ b′ c′ d′ : List ℕ) → r ≡ outcomeOf code fault (keptOf (f .core .counts) t)
-      → line′ ≡ replicate 526 0 → names′ ≡ replicate 47232 0 → a′ ≡ leftSheet code a → b′ ≡ leftSheet code b → c′ ≡ leftSheet code c → d′ ≡ leftSheet code d
+      → line′ ≡ replicate 526 0 → names′ ≡ replicate 47232 0
+      → a′ ≡ leftSheet code a → b′ ≡ leftSheet code b → c′ ≡ leftSheet code c → d′ ≡ leftSheet code d
       → Finished (streamOf f line t a b c d) r line′ names′ a′ b′ c′ d′
   finished r line′ names′ a′ b′ c′ d′ o l m p q u v =
       record {

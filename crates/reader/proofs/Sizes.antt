@@ -76,14 +76,14 @@ module _ (k : Kept) (fs : List (List ℕ)) where
   adds-sort : Adds Sorts k (sortRow k fs)
   unfolding sortRow Adds
   adds-sort =
-      adds-shaped Sorts k (shapeOf 3 0 fs) _ (adds-below Sorts k (length (k .sorts)) 32 _ (adds-fresh Sorts k (isTaken (k .sorts) (getD fs 0 [])) (sortAdded k fs)
-      (rw (one-more (k .sorts) (getD fs 0 []) 2))))
+      adds-shaped Sorts k (shapeOf 3 0 fs) _ (adds-below Sorts k (length (k .sorts)) 32 _
+      (adds-fresh Sorts k (isTaken (k .sorts) (getD fs 0 [])) (sortAdded k fs) (rw (one-more (k .sorts) (getD fs 0 []) 2))))
 
   adds-term : Adds Terms k (termRow k fs)
   unfolding termRow Adds
   adds-term =
-      adds-shaped Terms k (shapeOf 7 0 fs) _ (adds-below Terms k (length (k .terms)) 256 _ (adds-fresh Terms k (isTaken (k .terms) (getD fs 0 [])) (termAdded k fs)
-      (rw (one-more (k .terms) (getD fs 0 []) 6))))
+      adds-shaped Terms k (shapeOf 7 0 fs) _ (adds-below Terms k (length (k .terms)) 256 _
+      (adds-fresh Terms k (isTaken (k .terms) (getD fs 0 [])) (termAdded k fs) (rw (one-more (k .terms) (getD fs 0 []) 6))))
 
   adds-input : Adds Inputs k (inputRow k fs)
   unfolding inputRow Adds
