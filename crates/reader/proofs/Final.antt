@@ -11,7 +11,7 @@ use Rattle.text_names.specs.Table.{padTo}
 use Rattle.text_names.proofs.Laws.{length-padTo}
 use Rattle.text_stream.specs.declared.Progress.{Progress}
 use Rattle.reader.specs.declared.ReadOutcome.{ReadOutcome}
-use Rattle.reader.specs.Text.{Lent, lentOf, last, lastLine, linesFold, startState, fits, textState, textFault, textCode, textOutcome, textSheet, TextRead}
+use Rattle.reader.specs.Text.{Lent, lentOf, last, linesFold, startState, fits, textState, textFault, textCode, textOutcome, textSheet, TextRead}
 use Rattle.text_stream.specs.Stream.{Stream, feedAll, freshStream, streamOf}
 use Rattle.reader.specs.Stream.{startProgress, streamFault, streamCode, holdRows, leftSheet, Begun, Finished}
 use Rattle.text_lines.proofs.Sheets.{pad-none}

@@ -6,7 +6,7 @@ use mathlib.Core.List.{List, [], _∷_, _++_}
 use lib.Dec.{eqb, leb}
 use lib.ListN.{length, replicate}
 use Rattle.text_fields.specs.Split.{pick}
-use Rattle.text_lines.specs.View.{Sheets, sheetsOf}
+use Rattle.text_lines.specs.View.{Sheets}
 use Rattle.text_lines.specs.declared.Sheet.the-variants.{Sorts}
 use Rattle.text_stream.specs.Stream.{Stream, feedAll, freshStream}
 use Rattle.text_stream.specs.declared.Progress.{Progress}

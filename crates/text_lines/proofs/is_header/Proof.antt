@@ -1,8 +1,5 @@
 -- Whether a line is a sheet's header, by sheet.
-use mathlib.Core.Path.{sym, ap, _∙_}
 use Rattle.text_fields.specs.Split.{same}
-use Rattle.text_lines.specs.Lines.{headerOf}
-use Rattle.text_lines.specs.declared.Sheet.{Sheet}
 use borrow.Author.Needs.{needs}
 use Rattle.text_lines.proofs.is_header.Statement.{statement}
 use Rattle.text_lines.proofs.is_header.Tie as tie
@@ -44,28 +41,16 @@ same-requires-4 : tie.Need-same-requires-4
 same-requires-4 c κs = search needs
 
 returns : tie.Need-returns
-returns c =
-    let a = c .before .before .before .before .before .args in
-    let the-enum-told = c .before .before .enum-told in
-    c .same .ensures ∙ sym (ap (λ (s : Sheet). same (a .line .now) (headerOf s)) (the-enum-told .given .1))
+returns c = rw (c .before .before .enum-told .given .1) (c .same .ensures)
 
 returns-2 : tie.Need-returns-2
-returns-2 c =
-    let a = c .before .before .before .before .before .args in
-    let the-enum-told2 = c .before .before .enum-told2 in
-    c .same2 .ensures ∙ sym (ap (λ (s : Sheet). same (a .line .now) (headerOf s)) (the-enum-told2 .given .1))
+returns-2 c = rw (c .before .before .enum-told2 .given .1) (c .same2 .ensures)
 
 returns-3 : tie.Need-returns-3
-returns-3 c =
-    let a = c .before .before .before .before .before .args in
-    let the-enum-told3 = c .before .before .enum-told3 in
-    c .same3 .ensures ∙ sym (ap (λ (s : Sheet). same (a .line .now) (headerOf s)) (the-enum-told3 .given .1))
+returns-3 c = rw (c .before .before .enum-told3 .given .1) (c .same3 .ensures)
 
 returns-4 : tie.Need-returns-4
-returns-4 c =
-    let a = c .before .before .before .before .before .args in
-    let the-enum-told4 = c .before .before .enum-told4 in
-    c .same4 .ensures ∙ sym (ap (λ (s : Sheet). same (a .line .now) (headerOf s)) (the-enum-told4 .given .1))
+returns-4 c = rw (c .before .before .enum-told4 .given .1) (c .same4 .ensures)
 
 pub is-header-spec : {M : Type 1} → statement M
 is-header-spec =

@@ -16,17 +16,19 @@ bad-line-requires c κs = rw (c .before .number-line .ensures .1) (c .before .be
 
 returns : tie.Need-returns
 returns c =
-    let numbered = c .before .before .number-line in
-    let start = c .before .before .before .before in
+    let numbered = c .before .before in
+    let start = numbered .before .before in
     let control = controlOf (start .args .core) (start .args .names .now) in
-    let here = numbered .ensures .0 (start .args .names .now) in (
+    let here = numbered .number-line .ensures .0 (start .args .names .now) in (
       c .bad-line .ensures .0 (start .args .names .now) ∙ ap (λ (k : Control). bad k 31 0) here
           ∙ effect-long control (start .args .n) (start .args .l .now) (start .pre .1) (c .before .if1 .taken),
       c .bad-line .ensures .1,
     )
 
 read-line-requires : tie.Need-read-line-requires
-read-line-requires c κs = rw (c .before .before .number-line .ensures .1) (c .before .before .before .before .pre .0)
+read-line-requires c κs =
+    let numbered = c .before .before in
+    rw (numbered .number-line .ensures .1) (numbered .before .before .pre .0)
 
 returns-2 : tie.Need-returns-2
 returns-2 c =

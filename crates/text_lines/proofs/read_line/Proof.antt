@@ -24,10 +24,10 @@ empty-line-requires c κs = search needs
 
 returns-2 : tie.Need-returns-2
 returns-2 c =
-    let a = c .before .before .before .before .before .args in
-    let the-if1 = c .before .before .if1 in (
+    let first = c .before .before in
+    let a = first .before .before .before .args in (
       c .empty-line .ensures .0 (a .names .now) ∙ read-empty (controlOf (a .core) (a .names .now)) (a .line .now)
-          (not-false _ (the-if1 .left)) (c .before .if2 .taken),
+          (not-false _ (first .if1 .left)) (c .before .if2 .taken),
       c .empty-line .ensures .1,
     )
 
@@ -39,12 +39,11 @@ row-line-requires c κs = search needs
 
 returns-3 : tie.Need-returns-3
 returns-3 c =
-    let a = c .before .before .before .before .before .before .before .before .args in
-    let the-if1 = c .before .before .before .before .before .if1 in
-    let the-if2 = c .before .before .before .before .if2 in (
-      c .row-line .ensures .0 (a .names .now) _ ∙ ap (row (controlOf (a .core) (a .names .now)))
-          (c .before .sheet-row .ensures .0) ∙ read-row (controlOf (a .core) (a .names .now)) (a .line .now)
-          (not-false _ (the-if1 .left)) (the-if2 .left),
+    let second = c .before .before .before .before in
+    let a = second .before .before .before .before .args in
+    let control = controlOf (a .core) (a .names .now) in (
+      c .row-line .ensures .0 (a .names .now) _ ∙ ap (row control) (c .before .sheet-row .ensures .0)
+          ∙ read-row control (a .line .now) (not-false _ (second .before .if1 .left)) (second .if2 .left),
       c .row-line .ensures .1,
     )
 

@@ -1,9 +1,4 @@
 -- A row, by sheet.
-use mathlib.Core.Path.{sym, ap, _∙_}
-use Rattle.text_fields.specs.Split.{pieces}
-use Rattle.text_rows.specs.View.{keptOf}
-use Rattle.text_lines.specs.Lines.{rowOf}
-use Rattle.text_lines.specs.declared.Sheet.{Sheet}
 use borrow.Author.Needs.{needs}
 use Rattle.text_lines.proofs.sheet_row.Statement.{statement}
 use Rattle.text_lines.proofs.sheet_row.Tie as tie
@@ -33,40 +28,16 @@ step-row-requires : tie.Need-step-row-requires
 step-row-requires c κs = search needs
 
 returns : tie.Need-returns
-returns c =
-    let a = c .before .before .before .before .before .args in
-    let the-enum-told = c .before .before .enum-told in (
-      c .sort-row .ensures .0 ∙ sym
-          (ap (λ (s : Sheet). rowOf s (keptOf (a .counts) (a .names .now)) (pieces 32 (a .line .now))) (the-enum-told .given .1)),
-      c .sort-row .ensures .1,
-    )
+returns c = rw (c .before .before .enum-told .given .1) (c .sort-row .ensures)
 
 returns-2 : tie.Need-returns-2
-returns-2 c =
-    let a = c .before .before .before .before .before .args in
-    let the-enum-told2 = c .before .before .enum-told2 in (
-      c .term-row .ensures .0 ∙ sym
-          (ap (λ (s : Sheet). rowOf s (keptOf (a .counts) (a .names .now)) (pieces 32 (a .line .now))) (the-enum-told2 .given .1)),
-      c .term-row .ensures .1,
-    )
+returns-2 c = rw (c .before .before .enum-told2 .given .1) (c .term-row .ensures)
 
 returns-3 : tie.Need-returns-3
-returns-3 c =
-    let a = c .before .before .before .before .before .args in
-    let the-enum-told3 = c .before .before .enum-told3 in (
-      c .input-row .ensures .0 ∙ sym
-          (ap (λ (s : Sheet). rowOf s (keptOf (a .counts) (a .names .now)) (pieces 32 (a .line .now))) (the-enum-told3 .given .1)),
-      c .input-row .ensures .1,
-    )
+returns-3 c = rw (c .before .before .enum-told3 .given .1) (c .input-row .ensures)
 
 returns-4 : tie.Need-returns-4
-returns-4 c =
-    let a = c .before .before .before .before .before .args in
-    let the-enum-told4 = c .before .before .enum-told4 in (
-      c .step-row .ensures .0 ∙ sym
-          (ap (λ (s : Sheet). rowOf s (keptOf (a .counts) (a .names .now)) (pieces 32 (a .line .now))) (the-enum-told4 .given .1)),
-      c .step-row .ensures .1,
-    )
+returns-4 c = rw (c .before .before .enum-told4 .given .1) (c .step-row .ensures)
 
 pub sheet-row-spec : {M : Type 1} → statement M
 sheet-row-spec =

@@ -39,13 +39,14 @@ loop-less c = omega arith
 
 loop-again : tie.Need-loop-again Inv-loop μ-loop
 loop-again c =
-    let l = c .before .before .before .before .before .before .loop in
-    let a = c .before .before .before .before .before .before .before .before .before .args in
-    let the-store = c .before .before .store in (
+    let put = c .before .before in
+    let at = put .before .before .before .before in
+    let a = at .before .before .before .args in
+    let l = at .loop in (
       omega arith,
       omega arith,
-      ap (λ (s : List ℕ). sets s (a .at + (l .j + 1)) (drop (l .j + 1) (a .cells .now))) (the-store .ensures) ∙ sym
-          (sets-more (l .sheet) (a .at) (a .cells .now) (l .j) (omega arith)) ∙ l .inv .2,
+      ap (λ (s : List ℕ). sets s (a .at + (l .j + 1)) (drop (l .j + 1) (a .cells .now))) (put .store .ensures)
+          ∙ sym (sets-more (l .sheet) (a .at) (a .cells .now) (l .j) (omega arith)) ∙ l .inv .2,
     )
 
 same-length : tie.Need-same-length Inv-loop μ-loop

@@ -39,13 +39,13 @@ loop-less c = omega arith
 
 loop-again : tie.Need-loop-again Inv-loop μ-loop
 loop-again c =
-    let stored = c .before .before .before .put-byte in
-    let at = c .before .before .before .before .before .before .before in
+    let put = c .before .before .before in
+    let at = put .before .before .before .before in
     let start = at .before .before .before in (
       omega arith,
       omega arith,
       λ k s. hold-more (at .loop .pos) (at .loop .line) (start .args .l .now) (at .loop .i) k s (start .pre .0) (omega arith) (omega arith)
-          (stored .ensures) (c .advanced-by .ensures) ∙ at .loop .inv .2 k s,
+          (put .put-byte .ensures) (c .advanced-by .ensures) ∙ at .loop .inv .2 k s,
     )
 
 same-length : tie.Need-same-length Inv-loop μ-loop

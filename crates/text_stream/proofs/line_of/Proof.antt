@@ -1,7 +1,7 @@
 -- A finished line: where it stands, or what is held of it.
-use mathlib.Core.Path.{_≡_, sym, ap, _∙_}
+use mathlib.Core.Path.{sym, _∙_}
 use native.Mathlib.Omega.{arith}
-use lib.ListN.{take, length-take}
+use lib.ListN.{length-take}
 use lib.Seq.{take-all}
 use Rattle.text_fields.proofs.Laws.{pick-false}
 use borrow.Author.Needs.{needs}
@@ -19,8 +19,8 @@ returns-2 c = sym (pick-false _ _ (c .before .before .if1 .left))
 
 returns-3 : tie.Need-returns-3
 returns-3 c =
-    let held = c .before .before .args .line .now in
-    sym (pick-false _ _ (c .before .if1 .left) ∙ take-all (c .before .before .args .at) held (omega arith))
+    let a = c .before .before .args in
+    sym (pick-false _ _ (c .before .if1 .left) ∙ take-all (a .at) (a .line .now) (omega arith))
 
 pub line-of-spec : {M : Type 1} → statement M
 line-of-spec = tie.close (tie.spec returns slice-aggregate-result returns-2 returns-3)
