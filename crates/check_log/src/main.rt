@@ -3,82 +3,41 @@ ghost use Rattle.text_rows.specs.View.{Bounded};
 use calculus::Outcome;
 use libc::STDERR_FILENO;
 use libc::STDOUT_FILENO;
-use reader::Progress;
 use reader::ReadOutcome;
+use text_stream::Progress;
 
-// After one read: whether to go on, whether the read failed, and what the reader carries.
-struct Turn {
-    more: bool,
+// After the last read: whether it failed, and what the reader carries.
+struct Read {
     failed: bool,
     f: Progress,
-}
-
-// Reads once.
-fn read_some(
-    f: Progress,
-    line: &mut [u8; 526],
-    names: &mut [u8; 39008],
-    sorts: &mut [u16],
-    terms: &mut [u16],
-    inputs: &mut [u16],
-    steps: &mut [u16],
-) -> Turn
-    requires { ⌜ Bounded (f .core .counts) ⌝ }
-    ensures { λ r. ⌜ Bounded (r .f .core .counts) ⌝ }
-{
-    let mut buf = io::large_buffer();
-    let got = libc::read(0, &mut buf);
-    if got < 0 {
-        return Turn {
-            more: false,
-            failed: true,
-            f,
-        };
-    }
-    if got == 0 {
-        return Turn {
-            more: false,
-            failed: false,
-            f,
-        };
-    }
-    let n = io::count(got, &buf);
-    let next = reader::feed(f, &buf[..n], line, names, sorts, terms, inputs, steps);
-    Turn {
-        more: true,
-        failed: false,
-        f: next,
-    }
 }
 
 // Reads to the end. Nothing says that the input ends, so the turns are counted down, from a number that no run uses up.
 fn read_all(
     start: Progress,
     line: &mut [u8; 526],
-    names: &mut [u8; 39008],
+    names: &mut [u8; 47232],
     sorts: &mut [u16],
     terms: &mut [u16],
     inputs: &mut [u16],
     steps: &mut [u16],
-) -> Turn
+) -> Read
     requires { ⌜ Bounded (start .core .counts) ⌝ }
     ensures { λ r. ⌜ Bounded (r .f .core .counts) ⌝ }
 {
     let mut f = start;
     let mut turns = u64::MAX;
     while turns > 0 {
-        let t = read_some(f, line, names, sorts, terms, inputs, steps);
-        f = t.f;
-        if !t.more {
-            return t;
+        let mut buf = io::large_buffer();
+        let got = libc::read(0, &mut buf);
+        if got <= 0 {
+            return Read { failed: got < 0, f };
         }
+        let n = io::count(got, &buf);
+        f = text_stream::feed(f, &buf[..n], line, names, sorts, terms, inputs, steps);
         turns -= 1;
     }
-    Turn {
-        more: false,
-        failed: true,
-        f,
-    }
+    Read { failed: true, f }
 }
 
 // The two lines of a result.
@@ -145,7 +104,7 @@ fn run_log(r: ReadOutcome, sorts: &[u16], terms: &[u16], inputs: &[u16], steps: 
 
 fn main() {
     let mut line = [0u8; 526];
-    let mut names = [0u8; 39008];
+    let mut names = [0u8; 47232];
     let mut sorts = [0u16; 64];
     let mut terms = [0u16; 1536];
     let mut inputs = [0u16; 512];

@@ -1,6 +1,6 @@
 -- A text that was fed from the start and finished leaves what the definition of the text form says.
 use Prim.Native.Nat.{ℕ, min}
-use mathlib.Core.Path.{_≡_, _∙_}
+use mathlib.Core.Path.{_≡_, ap, _∙_}
 use mathlib.Core.List.{List, [], _∷_}
 use native.Mathlib.Omega.{arith}
 use borrow.Author.Tests.{ne-eqb}
@@ -9,16 +9,18 @@ use lib.ListN.{length, replicate}
 use Rattle.text_fields.specs.Split.{pieces, same}
 use Rattle.text_names.specs.Table.{padTo}
 use Rattle.text_names.proofs.Laws.{length-padTo}
-use Rattle.reader.specs.declared.Progress.{Progress}
+use Rattle.text_stream.specs.declared.Progress.{Progress}
 use Rattle.reader.specs.declared.ReadOutcome.{ReadOutcome}
-use Rattle.reader.specs.Text.{Lent, last, lastLine, linesFold, startState, fits, textState, textFault, textCode, textOutcome, textSheet, TextRead}
-use Rattle.reader.specs.Stream.{Stream, feedAll, freshStream, streamOf, startProgress, streamFault, streamCode, holdRows, leftSheet, Finished}
-use Rattle.reader.proofs.Sheets.{pad-none}
+use Rattle.reader.specs.Text.{Lent, lentOf, last, linesFold, startState, fits, textState, textFault, textCode, textOutcome, textSheet, TextRead}
+use Rattle.text_stream.specs.Stream.{Stream, feedAll, freshStream, streamOf}
+use Rattle.reader.specs.Stream.{startProgress, streamFault, streamCode, holdRows, leftSheet, Begun, Finished}
+use Rattle.text_lines.proofs.Sheets.{pad-none}
 use Rattle.reader.proofs.Sizes.{sized-sorts, sized-terms, sized-inputs, sized-steps}
-use Rattle.reader.proofs.Whole.{Follows, padded, whole-text}
+use Rattle.reader.proofs.Whole.{Follows, reached, padded, whole-text}
 
 -- before the first byte
-pub fresh-is : (n : Lent) (f : Progress) (line t a b c d : List ℕ) → f ≡ startProgress → a ≡ replicate (n .sorts) 0 → b ≡ replicate (n .terms) 0 → c ≡ replicate (n .inputs) 0 → d ≡ replicate (n .steps) 0
+pub fresh-is : (n : Lent) (f : Progress) (line t a b c d : List ℕ) → f ≡ startProgress
+    → a ≡ replicate (n .sorts) 0 → b ≡ replicate (n .terms) 0 → c ≡ replicate (n .inputs) 0 → d ≡ replicate (n .steps) 0
     → streamOf f line t a b c d ≡ freshStream (padded n startState)
 fresh-is n f line t a b c d e p q u v = rw (e, p, q, u, v, pad-none (n .sorts), pad-none (n .terms), pad-none (n .inputs), pad-none (n .steps))
 
@@ -32,7 +34,7 @@ unfolding textSheet
 left-padded code n rows = rw (length-padTo n rows)
 
 module _ (n : Lent) (bs : List ℕ) (s : Stream) (is : s ≡ feedAll (freshStream (padded n startState)) bs) where
-  ran : Follows n s (record { state = linesFold 1 startState (pieces 10 bs); rest = last (pieces 10 bs); line = lastLine 1 (pieces 10 bs) })
+  ran : Follows n s (reached 1 startState (pieces 10 bs))
   ran = rw is (whole-text n bs)
 
   control-is : s .control ≡ textState bs .control
@@ -81,3 +83,13 @@ module _ (n : Lent) (bs : List ℕ) (s : Stream) (is : s ≡ feedAll (freshStrea
         inputs-is = h .inputs-is ∙ rw (code-is, sheets-are) (left-padded (textCode n bs) (n .inputs) (st .inputs));
         steps-is = h .steps-is ∙ rw (code-is, sheets-are) (left-padded (textCode n bs) (n .steps) (st .steps));
       }
+
+-- a whole text, begun, fed and finished
+pub whole-read : (text a b c d : List ℕ) {f : Progress} {a₁ b₁ c₁ d₁ : List ℕ} → Begun a b c d f a₁ b₁ c₁ d₁
+    → (line names : List ℕ) (s : Stream) → s ≡ feedAll (streamOf f line names a₁ b₁ c₁ d₁) text
+    → {r : ReadOutcome} {line′ names′ a′ b′ c′ d′ : List ℕ} → Finished s r line′ names′ a′ b′ c′ d′
+    → TextRead text (lentOf a b c d) r a′ b′ c′ d′
+whole-read text a b c d {f} {a₁} {b₁} {c₁} {d₁} h line names s is end =
+    let n = lentOf a b c d in
+    let fresh = fresh-is n f line names a₁ b₁ c₁ d₁ (h .starts) (h .sorts-is) (h .terms-is) (h .inputs-is) (h .steps-is) in
+    read-is n text s (is ∙ ap (λ (x : Stream). feedAll x text) fresh) _ _ _ _ _ _ _ end

@@ -3,9 +3,11 @@ use Prim.Native.Nat.{ℕ}
 use mathlib.Core.Path.{_≡_, refl, ap, sym, _∙_}
 use mathlib.Core.List.{List, [], _∷_}
 use Rattle.reader.specs.Text.{Lent, startState}
-use Rattle.reader.specs.Stream.{Sheets, Stream, feedAll, freshStream, fedPieces, joined, zeroSheets, ReadInPieces}
-use Rattle.reader.proofs.Bytes.{feed-append}
-use Rattle.reader.proofs.Sheets.{pad-none}
+use Rattle.text_lines.specs.View.{Sheets}
+use Rattle.text_stream.specs.Stream.{Stream, feedAll, freshStream}
+use Rattle.reader.specs.Stream.{fedPieces, joined, zeroSheets, ReadInPieces}
+use Rattle.text_stream.proofs.Bytes.{feed-append}
+use Rattle.text_lines.proofs.Sheets.{pad-none}
 use Rattle.reader.proofs.Whole.{padded}
 use Rattle.reader.proofs.Final.{read-is}
 

@@ -11,9 +11,10 @@ use Rattle.text_fields.specs.Shape.{shapeOf}
 use Rattle.text_fields.specs.declared.Shape.{Shape}
 use Rattle.text_fields.specs.declared.Shape.the-variants.{Good, Faulty}
 use Rattle.text_rows.specs.Rows.{Kept, Taken, refused, shaped, below, fresh, isTaken, sortAdded, sortRow, termAdded, termRow, inputAdded, inputRow, stepAdded, stepRow}
-use Rattle.reader.specs.declared.Sheet.{Sheet}
-use Rattle.reader.specs.declared.Sheet.the-variants.{Sorts, Terms, Inputs, Steps}
-use Rattle.reader.specs.Text.{Control, Effect, State, quiet, bad, enter, headerOf, header, nextSheet, rowOf, row, readLine, numbered, lineEffect, applied, lineStep, startState}
+use Rattle.text_lines.specs.declared.Sheet.{Sheet}
+use Rattle.text_lines.specs.declared.Sheet.the-variants.{Sorts, Terms, Inputs, Steps}
+use Rattle.text_lines.specs.Lines.{Control, Effect, quiet, bad, enter, headerOf, header, nextSheet, rowOf, row, readLine, numbered, lineEffect}
+use Rattle.reader.specs.Text.{State, applied, lineStep, startState}
 
 -- how many numbers the rows of the sheets have
 pub record Sizes : Type 0 where
@@ -75,14 +76,14 @@ module _ (k : Kept) (fs : List (List ℕ)) where
   adds-sort : Adds Sorts k (sortRow k fs)
   unfolding sortRow Adds
   adds-sort =
-      adds-shaped Sorts k (shapeOf 3 0 fs) _ (adds-below Sorts k (length (k .sorts)) 32 _ (adds-fresh Sorts k (isTaken (k .sorts) (getD fs 0 [])) (sortAdded k fs)
-      (rw (one-more (k .sorts) (getD fs 0 []) 2))))
+      adds-shaped Sorts k (shapeOf 3 0 fs) _ (adds-below Sorts k (length (k .sorts)) 32 _
+      (adds-fresh Sorts k (isTaken (k .sorts) (getD fs 0 [])) (sortAdded k fs) (rw (one-more (k .sorts) (getD fs 0 []) 2))))
 
   adds-term : Adds Terms k (termRow k fs)
   unfolding termRow Adds
   adds-term =
-      adds-shaped Terms k (shapeOf 7 0 fs) _ (adds-below Terms k (length (k .terms)) 256 _ (adds-fresh Terms k (isTaken (k .terms) (getD fs 0 [])) (termAdded k fs)
-      (rw (one-more (k .terms) (getD fs 0 []) 6))))
+      adds-shaped Terms k (shapeOf 7 0 fs) _ (adds-below Terms k (length (k .terms)) 256 _
+      (adds-fresh Terms k (isTaken (k .terms) (getD fs 0 [])) (termAdded k fs) (rw (one-more (k .terms) (getD fs 0 []) 6))))
 
   adds-input : Adds Inputs k (inputRow k fs)
   unfolding inputRow Adds

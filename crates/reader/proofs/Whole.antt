@@ -4,37 +4,24 @@ use mathlib.Core.Path.{_≡_, refl, ap, sym, _∙_}
 use mathlib.Core.Bool.{Bool, true, false}
 use mathlib.Core.List.{List, [], _∷_, _++_, append-assoc}
 use native.Mathlib.Omega.{arith}
-use borrow.Author.Tests.{lt-leb, ltb-true, ltb-false, leb-true, leb-false, eqb-true}
-use lib.Dec.{eqb, leb, ltb}
-use lib.ListN.{length, take, length-take, length-append}
+use borrow.Author.Tests.{ltb-true, ltb-false}
+use lib.Dec.{eqb, ltb}
+use lib.ListN.{length, take, length-append}
 use lib.Seq.{take-all, take-append-le}
 use Rattle.text_fields.specs.Split.{pick, pieces, prepend}
 use Rattle.text_fields.specs.Class.{classOf, isNewline}
-use Rattle.text_fields.specs.declared.ByteClass.the-variants.{Space, Newline, Name, Other}
 use Rattle.text_names.specs.Table.{padTo}
 use Rattle.text_position.specs.Place.{nextLine}
-use Rattle.reader.specs.declared.Sheet.{Sheet}
-use Rattle.reader.specs.declared.Sheet.the-variants.{Sorts, Terms, Inputs, Steps}
-use Rattle.reader.specs.Text.{Control, Effect, State, Lent, lineEffect, readLine, numbered, bad, quiet, applied, lineStep, linesFold, last, lastLine, startState}
-use Rattle.reader.specs.Stream.{Sheets, Stream, stored, stepByte, feedAll, freshStream}
-use Rattle.reader.proofs.Sheets.{store-row, append-nil}
+use Rattle.text_lines.specs.declared.Sheet.{Sheet}
+use Rattle.text_lines.specs.declared.Sheet.the-variants.{Sorts, Terms, Inputs, Steps}
+use Rattle.text_lines.specs.Lines.{Effect, lineEffect}
+use Rattle.reader.specs.Text.{State, Lent, applied, lineStep, linesFold, last, lastLine, startState}
+use Rattle.text_lines.specs.View.{Sheets, sheetsOf, stored}
+use Rattle.text_stream.specs.Stream.{Stream, stepByte, feedAll, freshStream}
+use Rattle.text_lines.proofs.Lines.{effect-cut}
+use Rattle.text_lines.proofs.Sheets.{store-row, append-nil}
+use Rattle.text_stream.proofs.Bytes.{newline-is}
 use Rattle.reader.proofs.Sizes.{Sized, sized-step, sized-sorts, sized-terms, sized-inputs, sized-steps, step-control, start-sized}
-
--- a byte ends a line just when it is 10
-pub newline-is : (b : ℕ) → isNewline (classOf b) ≡ eqb b 10
-newline-is b = one (eqb b 32) refl where
-  three : (x y : Bool) → eqb b 10 ≡ false → isNewline (pick x (pick y Name Other) Other) ≡ eqb b 10
-  three true true e = sym e
-  three true false e = sym e
-  three false y e = sym e
-
-  two : (t : Bool) → eqb b 10 ≡ t → isNewline (pick t Newline (pick (leb 33 b) (pick (leb b 126) Name Other) Other)) ≡ eqb b 10
-  two true e = sym e
-  two false e = three (leb 33 b) (leb b 126) e
-
-  one : (t : Bool) → eqb b 32 ≡ t → isNewline (pick t Space (pick (eqb b 10) Newline (pick (leb 33 b) (pick (leb b 126) Name Other) Other))) ≡ eqb b 10
-  one true e = let z : b ≡ 32 = eqb-true b 32 e in rw z
-  one false e = two (eqb b 10) refl
 
 -- p goes in front of the first piece
 front : List ℕ → List (List ℕ) → List (List ℕ)
@@ -64,41 +51,29 @@ pub record Reached : Type 0 where
   pub rest : List ℕ
   pub line : ℕ
 
-reached : ℕ → State → List (List ℕ) → Reached
+abbrev pub reached : ℕ → State → List (List ℕ) → Reached
 reached k s ps = record { state = linesFold k s ps; rest = last ps; line = lastLine k ps }
 
 -- a piece before other pieces is a line
 line-more : (k : ℕ) (s : State) (l : List ℕ) (bs : List ℕ) → reached k s (l ∷ pieces 10 bs) ≡ reached (nextLine k) (lineStep s k l) (pieces 10 bs)
-unfolding reached
 line-more k s l [] = refl
 line-more k s l (x ∷ xs) = step (eqb x 10) where
   behind : (ps : List (List ℕ)) → reached k s (l ∷ prepend x ps) ≡ reached (nextLine k) (lineStep s k l) (prepend x ps)
   behind [] = refl
   behind (p ∷ ps) = refl
 
-  step : (t : Bool) → reached k s (l ∷ pick t ([] ∷ pieces 10 xs) (prepend x (pieces 10 xs))) ≡ reached (nextLine k) (lineStep s k l) (pick t ([] ∷ pieces 10 xs) (prepend x (pieces 10 xs)))
+  step : (t : Bool) → reached k s (l ∷ pick t ([] ∷ pieces 10 xs) (prepend x (pieces 10 xs)))
+      ≡ reached (nextLine k) (lineStep s k l) (pick t ([] ∷ pieces 10 xs) (prepend x (pieces 10 xs)))
   step true = refl
   step false = behind (pieces 10 xs)
-
--- of a line that is too long the first 526 bytes say so
-pub effect-cut : (c : Control) (n : ℕ) (p : List ℕ) → lineEffect c n (take 526 p) ≡ lineEffect c n p
-unfolding lineEffect
-effect-cut c n p = go (leb (length p) 525) refl where
-  go : (t : Bool) → leb (length p) 525 ≡ t
-      → pick (eqb (c .code) 0) (pick (leb (length (take 526 p)) 525) (readLine (numbered c n) (take 526 p)) (bad (numbered c n) 31 0)) (quiet c)
-      ≡ pick (eqb (c .code) 0) (pick (leb (length p) 525) (readLine (numbered c n) p) (bad (numbered c n) 31 0)) (quiet c)
-  go true e = let h = leb-true (length p) 525 e in rw (take-all 526 p (omega arith))
-  go false e =
-      let h = leb-false (length p) 525 e in
-      let k : 525 < length (take 526 p) = rw length-take (omega arith) in
-      rw (lt-leb (length (take 526 p)) 525 k, e)
 
 -- sheets of given lengths that hold the rows and then zeros
 abbrev pub padded : Lent → State → Sheets
 padded n s =
-    record { sorts = padTo (n .sorts) (s .sorts); terms = padTo (n .terms) (s .terms); inputs = padTo (n .inputs) (s .inputs); steps = padTo (n .steps) (s .steps) }
+    sheetsOf (padTo (n .sorts) (s .sorts)) (padTo (n .terms) (s .terms)) (padTo (n .inputs) (s .inputs)) (padTo (n .steps) (s .steps))
 
-padded-stored : (n : Lent) (s : State) (sheet : Sheet) (e : Effect) → Sized s → stored sheet (s .control .kept) (padded n s) (e .cells) ≡ padded n (applied sheet s e)
+padded-stored : (n : Lent) (s : State) (sheet : Sheet) (e : Effect) → Sized s
+    → stored sheet (s .control .kept) (padded n s) (e .cells) ≡ padded n (applied sheet s e)
 unfolding stored
 padded-stored n s Sorts e h = rw (sym (sized-sorts s h), store-row (n .sorts) (s .sorts) (e .cells))
 padded-stored n s Terms e h = rw (sym (sized-terms s h), store-row (n .terms) (s .terms) (e .cells))
@@ -118,7 +93,8 @@ module _ (n : Lent) (s : Stream) (b : ℕ) (st : State) (p : List ℕ) (k : ℕ)
   effect-is : lineEffect (s .control) (s .pos .line) (s .partial) ≡ lineEffect (st .control) k p
   effect-is = rw (h .partial-is, h .line-is, h .control-is) (effect-cut (st .control) k p)
 
-  sheets-next : stored (s .control .sheet) (s .control .kept) (s .sheets) (lineEffect (s .control) (s .pos .line) (s .partial) .cells) ≡ padded n (lineStep st k p)
+  sheets-next : stored (s .control .sheet) (s .control .kept) (s .sheets) (lineEffect (s .control) (s .pos .line) (s .partial) .cells)
+      ≡ padded n (lineStep st k p)
   unfolding lineStep
   sheets-next = rw (effect-is, h .control-is, h .sheets-are) (padded-stored n st (st .control .sheet) (lineEffect (st .control) k p) (h .sized))
 
@@ -164,20 +140,22 @@ module _ (n : Lent) (s : Stream) (b : ℕ) (st : State) (p : List ℕ) (k : ℕ)
           sized = h .sized;
         }
 
-follows : (n : Lent) (s : Stream) (st : State) (p : List ℕ) (k : ℕ) (bs : List ℕ) → Follows n s (record { state = st; rest = p; line = k }) → Follows n (feedAll s bs) (reached k st (front p (pieces 10 bs)))
-unfolding front reached
+follows : (n : Lent) (s : Stream) (st : State) (p : List ℕ) (k : ℕ) (bs : List ℕ)
+    → Follows n s (record { state = st; rest = p; line = k }) → Follows n (feedAll s bs) (reached k st (front p (pieces 10 bs)))
+unfolding front
 follows n s st p k [] h = rw append-nil h
 follows n s st p k (b ∷ bs) h = go (λ st′ p′ k′ h′. follows n (stepByte s b) st′ p′ k′ bs h′) (eqb b 10) refl where
-  go : ((st′ : State) (p′ : List ℕ) (k′ : ℕ) → Follows n (stepByte s b) (record { state = st′; rest = p′; line = k′ }) → Follows n (feedAll (stepByte s b) bs) (reached k′ st′ (front p′ (pieces 10 bs))))
+  go : ((st′ : State) (p′ : List ℕ) (k′ : ℕ) → Follows n (stepByte s b) (record { state = st′; rest = p′; line = k′ })
+      → Follows n (feedAll (stepByte s b) bs) (reached k′ st′ (front p′ (pieces 10 bs))))
       → (t : Bool) → eqb b 10 ≡ t
       → Follows n (feedAll (stepByte s b) bs) (reached k st (front p (pick t ([] ∷ pieces 10 bs) (prepend b (pieces 10 bs)))))
   go ih true e =
-      rw (append-nil p, line-more k st p bs) (rw (front-none bs) at (ih (lineStep st k p) [] (nextLine k) (newline-follows n s b st p k h (newline-is b ∙ e))))
+      rw (append-nil p, line-more k st p bs)
+      (rw (front-none bs) at (ih (lineStep st k p) [] (nextLine k) (newline-follows n s b st p k h (newline-is b ∙ e))))
   go ih false e = rw (front-more p b (pieces 10 bs)) (ih st (p ++ (b ∷ [])) k (plain-follows n s b st p k h (newline-is b ∙ e)))
 
 -- a text, fed from the start, does what its lines do, in order
-pub whole-text : (n : Lent) (bs : List ℕ) → Follows n (feedAll (freshStream (padded n startState)) bs) (record { state = linesFold 1 startState (pieces 10 bs); rest = last (pieces 10 bs); line = lastLine 1 (pieces 10 bs) })
-unfolding reached
+pub whole-text : (n : Lent) (bs : List ℕ) → Follows n (feedAll (freshStream (padded n startState)) bs) (reached 1 startState (pieces 10 bs))
 whole-text n bs =
     rw (front-none bs) at (follows n (freshStream (padded n startState)) startState [] 1 bs
     (record { partial-is = refl; at-is = refl; line-is = refl; control-is = refl; sheets-are = refl; sized = start-sized }))

@@ -1,14 +1,14 @@
 -- Worked examples: texts, the sheets lent for them, and what reading them gives. One table, and one theorem by computation.
 use Prim.Native.Nat.{ℕ}
-use Prim.Native.String.{String}
 use mathlib.Core.Path.{_≡_, refl}
-use mathlib.Core.List.{List, [], _∷_, map}
+use mathlib.Core.List.{List, [], _∷_, _++_, map}
 use lib.ListN.{replicate}
 use Rattle.text_fields.specs.Split.{bytes}
 use Rattle.text_fields.specs.Words.{refOf}
 use Rattle.text_fields.specs.Shape.{shapeOf}
 use Rattle.text_rows.specs.Rows.{isTaken, headOf, sortRow, termRow, inputRow, stepRow}
-use Rattle.reader.specs.Text.{Lent, readLine, lineEffect, lineStep, textState, textFault, textCode, textOutcome, textSheet}
+use Rattle.text_lines.specs.Lines.{readLine, lineEffect}
+use Rattle.reader.specs.Text.{Lent, lineStep, textState, textFault, textCode, textOutcome, textSheet}
 use Rattle.reader.specs.declared.ReadOutcome.{ReadOutcome}
 
 -- what a text that is read leaves in the four sheets
@@ -20,18 +20,18 @@ pub record Left : Type 0 where
   pub steps : List ℕ
 
 pub record Example : Type 0 where
-  pub text : String
+  pub text : List ℕ
   pub lent : Lent
   pub left : Left
 
 abbrev pub reading : Example → Left
 reading e =
     record {
-      outcome = textOutcome (e .lent) (bytes (e .text));
-      sorts = textSheet (textCode (e .lent) (bytes (e .text))) (e .lent .sorts) (textState (bytes (e .text)) .sorts);
-      terms = textSheet (textCode (e .lent) (bytes (e .text))) (e .lent .terms) (textState (bytes (e .text)) .terms);
-      inputs = textSheet (textCode (e .lent) (bytes (e .text))) (e .lent .inputs) (textState (bytes (e .text)) .inputs);
-      steps = textSheet (textCode (e .lent) (bytes (e .text))) (e .lent .steps) (textState (bytes (e .text)) .steps);
+      outcome = textOutcome (e .lent) (e .text);
+      sorts = textSheet (textCode (e .lent) (e .text)) (e .lent .sorts) (textState (e .text) .sorts);
+      terms = textSheet (textCode (e .lent) (e .text)) (e .lent .terms) (textState (e .text) .terms);
+      inputs = textSheet (textCode (e .lent) (e .text)) (e .lent .inputs) (textState (e .text) .inputs);
+      steps = textSheet (textCode (e .lent) (e .text)) (e .lent .steps) (textState (e .text) .steps);
     }
 
 -- four sheets of so many numbers
@@ -39,7 +39,7 @@ lend : ℕ → ℕ → ℕ → ℕ → Lent
 lend a b c d = record { sorts = a; terms = b; inputs = c; steps = d }
 
 -- a text that leaves no rows in sheets of 4, 12, 4 and 9 numbers: the number, the line and the place
-noRows : String → ℕ → ℕ → ℕ → Example
+noRows : List ℕ → ℕ → ℕ → ℕ → Example
 noRows text code line place =
     record {
       text = text;
@@ -54,9 +54,18 @@ noRows text code line place =
           };
     }
 
-listing : String
+listing : List ℕ
 listing =
-    "sort index value\nS - -\n\nterm head sort a b c d\na A S - - - -\nb B S - - - -\ne eq prop a b - -\nfa F S a - - -\nfb F S b - - -\ng eq prop fa fb - -\n\nterm value\ne true\ng false\n\nstep rule term value p q r s t\nclash cong g true e - - - -\n"
+    bytes "sort index value\nS - -\n\nterm head sort a b c d\na A S - - - -\nb B S - - - -\ne eq prop a b - -\n"
+    ++ bytes "fa F S a - - -\nfb F S b - - -\ng eq prop fa fb - -\n\nterm value\ne true\ng false\n\n"
+    ++ bytes "step rule term value p q r s t\nclash cong g true e - - - -\n"
+
+-- as many sorts as there can be
+sorts32 : List ℕ
+sorts32 =
+    bytes "sort index value\ns0 - -\ns1 - -\ns2 - -\ns3 - -\ns4 - -\ns5 - -\ns6 - -\ns7 - -\ns8 - -\ns9 - -\ns10 - -\n"
+    ++ bytes "s11 - -\ns12 - -\ns13 - -\ns14 - -\ns15 - -\ns16 - -\ns17 - -\ns18 - -\ns19 - -\ns20 - -\ns21 - -\n"
+    ++ bytes "s22 - -\ns23 - -\ns24 - -\ns25 - -\ns26 - -\ns27 - -\ns28 - -\ns29 - -\ns30 - -\ns31 - -\n"
 
 pub table : List Example
 table =
@@ -75,46 +84,49 @@ table =
           };
     }
     -- the shortest file: four headers, no rows (a good one, so its sheets are zeros too)
-    ∷ noRows "sort index value\n\nterm head sort a b c d\n\nterm value\n\nstep rule term value p q r s t\n" 0 0 0
+    ∷ noRows (bytes "sort index value\n\nterm head sort a b c d\n\nterm value\n\nstep rule term value p q r s t\n") 0 0 0
     -- nothing at all: the file ends early, in line 1
-    ∷ noRows "" 31 1 0
+    ∷ noRows (bytes "") 31 1 0
     -- the file ends inside its first line
-    ∷ noRows "sort index" 31 1 0
+    ∷ noRows (bytes "sort index") 31 1 0
     -- it ends before the step header, in line 6
-    ∷ noRows "sort index value\n\nterm head sort a b c d\n\nterm value\n" 31 6 0
+    ∷ noRows (bytes "sort index value\n\nterm head sort a b c d\n\nterm value\n") 31 6 0
     -- a wrong header
-    ∷ noRows "sort index value\n\nterm head sort a b c\n\nterm value\n\nstep rule term value p q r s t\n" 31 3 0
+    ∷ noRows (bytes "sort index value\n\nterm head sort a b c\n\nterm value\n\nstep rule term value p q r s t\n") 31 3 0
     -- two empty lines
-    ∷ noRows "sort index value\n\n\nterm head sort a b c d\n\nterm value\n\nstep rule term value p q r s t\n" 31 3 0
+    ∷ noRows (bytes "sort index value\n\n\nterm head sort a b c d\n\nterm value\n\nstep rule term value p q r s t\n") 31 3 0
     -- an empty line after the step sheet
-    ∷ noRows "sort index value\n\nterm head sort a b c d\n\nterm value\n\nstep rule term value p q r s t\n\n" 31 8 0
+    ∷ noRows (bytes "sort index value\n\nterm head sort a b c d\n\nterm value\n\nstep rule term value p q r s t\n\n") 31 8 0
     -- two spaces
-    ∷ noRows "sort index value\nS  - -\n" 31 2 0
+    ∷ noRows (bytes "sort index value\nS  - -\n") 31 2 0
     -- a field too few
-    ∷ noRows "sort index value\nS -\n" 31 2 0
+    ∷ noRows (bytes "sort index value\nS -\n") 31 2 0
     -- a leading zero, in field 2 of line 7
-    ∷ noRows "sort index value\n\nterm head sort a b c d\na A - - - - -\n\nterm value\na 07\n" 31 7 2
+    ∷ noRows (bytes "sort index value\n\nterm head sort a b c d\na A - - - - -\n\nterm value\na 07\n") 31 7 2
     -- 65,535 is no value
-    ∷ noRows "sort index value\n\nterm head sort a b c d\na A - - - - -\n\nterm value\na 65535\n" 31 7 2
+    ∷ noRows (bytes "sort index value\n\nterm head sort a b c d\na A - - - - -\n\nterm value\na 65535\n") 31 7 2
     -- a name of 65 bytes
-    ∷ noRows "sort index value\nS - xxxxxxxxxxxxxxxxxxxxxxxxxxxxxxxxxxxxxxxxxxxxxxxxxxxxxxxxxxxxxxxxx\n" 31 2 3
+    ∷ noRows (bytes "sort index value\nS - xxxxxxxxxxxxxxxxxxxxxxxxxxxxxxxxxxxxxxxxxxxxxxxxxxxxxxxxxxxxxxxxx\n") 31 2 3
     -- a repeated name
-    ∷ noRows "sort index value\nS - -\nS - -\n" 2 3 1
+    ∷ noRows (bytes "sort index value\nS - -\nS - -\n") 2 3 1
     -- a reserved name
-    ∷ noRows "sort index value\n\nterm head sort a b c d\nprop A - - - - -\n" 2 4 1
+    ∷ noRows (bytes "sort index value\n\nterm head sort a b c d\nprop A - - - - -\n") 2 4 1
     -- the first bad line decides: 2 in line 3, and not 31 in line 4
-    ∷ noRows "sort index value\nS - -\n- - -\nT -\n" 2 3 1
+    ∷ noRows (bytes "sort index value\nS - -\n- - -\nT -\n") 2 3 1
     -- no line is bad, and the input sheet is short by one row
-    ∷ noRows "sort index value\n\nterm head sort a b c d\na A - - - - -\n\nterm value\na 1\na 2\na 3\n\nstep rule term value p q r s t\n" 32 0 0
+    ∷ noRows (bytes "sort index value\n\nterm head sort a b c d\na A - - - - -\n\nterm value\na 1\na 2\na 3\n\nstep rule term value p q r s t\n") 32 0 0
     -- the 33rd sort
-    ∷ noRows "sort index value\ns0 - -\ns1 - -\ns2 - -\ns3 - -\ns4 - -\ns5 - -\ns6 - -\ns7 - -\ns8 - -\ns9 - -\ns10 - -\ns11 - -\ns12 - -\ns13 - -\ns14 - -\ns15 - -\ns16 - -\ns17 - -\ns18 - -\ns19 - -\ns20 - -\ns21 - -\ns22 - -\ns23 - -\ns24 - -\ns25 - -\ns26 - -\ns27 - -\ns28 - -\ns29 - -\ns30 - -\ns31 - -\ns32 - -\n" 30 34 0
+    ∷ noRows (sorts32 ++ bytes "s32 - -\n") 30 34 0
     -- within one line 31 comes before 30
-    ∷ noRows "sort index value\ns0 - -\ns1 - -\ns2 - -\ns3 - -\ns4 - -\ns5 - -\ns6 - -\ns7 - -\ns8 - -\ns9 - -\ns10 - -\ns11 - -\ns12 - -\ns13 - -\ns14 - -\ns15 - -\ns16 - -\ns17 - -\ns18 - -\ns19 - -\ns20 - -\ns21 - -\ns22 - -\ns23 - -\ns24 - -\ns25 - -\ns26 - -\ns27 - -\ns28 - -\ns29 - -\ns30 - -\ns31 - -\ns0 -\n" 31 34 0
+    ∷ noRows (sorts32 ++ bytes "s0 -\n") 31 34 0
     -- within one line 30 comes before 2
-    ∷ noRows "sort index value\ns0 - -\ns1 - -\ns2 - -\ns3 - -\ns4 - -\ns5 - -\ns6 - -\ns7 - -\ns8 - -\ns9 - -\ns10 - -\ns11 - -\ns12 - -\ns13 - -\ns14 - -\ns15 - -\ns16 - -\ns17 - -\ns18 - -\ns19 - -\ns20 - -\ns21 - -\ns22 - -\ns23 - -\ns24 - -\ns25 - -\ns26 - -\ns27 - -\ns28 - -\ns29 - -\ns30 - -\ns31 - -\ns0 - -\n" 30 34 0
+    ∷ noRows (sorts32 ++ bytes "s0 - -\n") 30 34 0
     -- names are told apart by all their bytes; a forward name and an unknown word are 65,534; a head may be called prop; values up to 65,534
     ∷ record {
-      text = "sort index value\nS prop S\n\nterm head sort a b c d\nabcdefghijklmnopqrst1 prop Q abcdefghijklmnopqrst2 - - -\nabcdefghijklmnopqrst2 eq prop abcdefghijklmnopqrst2 abcdefghijklmnopqrst1 - -\nc - S - - - -\n\nterm value\nabcdefghijklmnopqrst2 65534\n\nstep rule term value p q r s t\ndecide fail c - nobody abcdefghijklmnopqrst1 - - -\n";
+      text =
+          bytes "sort index value\nS prop S\n\nterm head sort a b c d\nabcdefghijklmnopqrst1 prop Q abcdefghijklmnopqrst2 - - -\n"
+          ++ bytes "abcdefghijklmnopqrst2 eq prop abcdefghijklmnopqrst2 abcdefghijklmnopqrst1 - -\nc - S - - - -\n"
+          ++ bytes "\nterm value\nabcdefghijklmnopqrst2 65534\n\nstep rule term value p q r s t\ndecide fail c - nobody abcdefghijklmnopqrst1 - - -\n";
       lent = lend 2 18 2 9;
       left =
           record {
@@ -128,5 +140,5 @@ table =
     ∷ []
 
 pub readings : map reading table ≡ map (λ (e : Example). e .left) table
-unfolding table listing lend noRows refOf shapeOf isTaken headOf sortRow termRow inputRow stepRow readLine lineEffect lineStep textState textFault textCode textOutcome textSheet
+unfolding table listing sorts32 lend noRows refOf shapeOf isTaken headOf sortRow termRow inputRow stepRow readLine lineEffect lineStep textState textFault textCode textOutcome textSheet
 readings = refl

@@ -1,93 +1,19 @@
--- The text form of the four sheets: lines, sheets one after the other, the end of the file, and what a text that is read leaves.
-use Prim.Native.Nat.{ℕ, _+_}
+-- The text form of the four sheets: lines one after the other, the end of the file, and what a text that is read leaves.
+use Prim.Native.Nat.{ℕ}
 use mathlib.Core.Bool.{Bool, true, false}
 use mathlib.Core.Path.{_≡_}
 use mathlib.Core.List.{List, [], _∷_, _++_}
 use lib.Dec.{eqb, leb}
 use lib.ListN.{length, replicate}
 use Rattle.text_fields.specs.Split.{pick, pieces, same}
-use Rattle.text_fields.specs.Words.{sortHeader, termHeader, inputHeader, stepHeader}
 use Rattle.text_names.specs.Table.{padTo}
-use Rattle.text_rows.specs.Rows.{Kept, Taken, sortRow, termRow, inputRow, stepRow}
+use Rattle.text_rows.specs.Rows.{Kept}
 use Rattle.text_position.specs.Place.{nextLine}
-use Rattle.reader.specs.declared.Sheet.{Sheet}
-use Rattle.reader.specs.declared.Sheet.the-variants.{Sorts, Terms, Inputs, Steps}
+use Rattle.text_lines.specs.Lines.{Control, Effect, lineEffect, started}
+use Rattle.text_lines.specs.declared.Sheet.{Sheet}
+use Rattle.text_lines.specs.declared.Sheet.the-variants.{Sorts, Terms, Inputs, Steps}
 use Rattle.reader.specs.declared.Fault.{Fault}
 use Rattle.reader.specs.declared.ReadOutcome.{ReadOutcome}
-
--- where the reading of lines stands: the number and the place of the first bad line's fault, 0 where no line is bad; the number of that line, or of
--- the last one read; the sheet that lines go to, and whether its header was read; what later rows need of earlier ones
-pub record Control : Type 0 where
-  pub code : ℕ
-  pub place : ℕ
-  pub line : ℕ
-  pub sheet : Sheet
-  pub headed : Bool
-  pub kept : Kept
-
--- what a line does: where the reading stands after it, and the numbers that it adds to the sheet it goes to
-pub record Effect : Type 0 where
-  pub control : Control
-  pub cells : List ℕ
-
-abbrev pub quiet : Control → Effect
-quiet c = record { control = c; cells = [] }
-
--- a bad line
-abbrev pub bad : Control → ℕ → ℕ → Effect
-bad c code place =
-    quiet
-    (record { code = code; place = place; line = c .line; sheet = c .sheet; headed = c .headed; kept = c .kept })
-
--- the lines of a sheet begin, or have begun
-abbrev pub enter : Control → Sheet → Bool → Effect
-enter c sheet headed =
-    quiet
-    (record { code = c .code; place = c .place; line = c .line; sheet = sheet; headed = headed; kept = c .kept })
-
-abbrev pub headerOf : Sheet → List ℕ
-headerOf Sorts = sortHeader
-headerOf Terms = termHeader
-headerOf Inputs = inputHeader
-headerOf Steps = stepHeader
-
--- the first line of a sheet is its header
-abbrev pub header : Control → List ℕ → Effect
-header c l = pick (same l (headerOf (c .sheet))) (enter c (c .sheet) true) (bad c 31 0)
-
--- an empty line ends a sheet that is not the last
-abbrev pub nextSheet : Control → Sheet → Effect
-nextSheet c Sorts = enter c Terms false
-nextSheet c Terms = enter c Inputs false
-nextSheet c Inputs = enter c Steps false
-nextSheet c Steps = bad c 31 0
-
--- any other line is a row
-abbrev pub rowOf : Sheet → Kept → List (List ℕ) → Taken
-rowOf Sorts k fs = sortRow k fs
-rowOf Terms k fs = termRow k fs
-rowOf Inputs k fs = inputRow k fs
-rowOf Steps k fs = stepRow k fs
-
-abbrev pub row : Control → Taken → Effect
-row c t =
-    record {
-      control = record { code = t .code; place = t .place; line = c .line; sheet = c .sheet; headed = c .headed; kept = t .kept };
-      cells = t .cells;
-    }
-
-unfoldable pub readLine : Control → List ℕ → Effect
-readLine c l =
-    pick (c .headed) (pick (same l []) (nextSheet c (c .sheet)) (row c (rowOf (c .sheet) (c .kept) (pieces 32 l)))) (header c l)
-
-abbrev pub numbered : Control → ℕ → Control
-numbered c n =
-    record { code = c .code; place = c .place; line = n; sheet = c .sheet; headed = c .headed; kept = c .kept }
-
--- line n: after a bad line nothing is done; a line of more than 525 bytes, the most that nine good fields and eight spaces have, is bad
-unfoldable pub lineEffect : Control → ℕ → List ℕ → Effect
-lineEffect c n l =
-    pick (eqb (c .code) 0) (pick (leb (length l) 525) (readLine (numbered c n) l) (bad (numbered c n) 31 0)) (quiet c)
 
 -- what has been read: where the reading stands, and the numbers of the four sheets' rows
 pub record State : Type 0 where
@@ -127,12 +53,6 @@ lastLine n [] = n
 lastLine n (p ∷ []) = n
 lastLine n (p ∷ q ∷ qs) = lastLine (nextLine n) (q ∷ qs)
 
-abbrev pub nothingKept : Kept
-nothingKept = record { sorts = []; terms = []; heads = []; inputs = 0; steps = 0 }
-
-abbrev pub started : Control
-started = record { code = 0; place = 0; line = 0; sheet = Sorts; headed = false; kept = nothingKept }
-
 abbrev pub startState : State
 startState = record { control = started; sorts = []; terms = []; inputs = []; steps = [] }
 
@@ -163,6 +83,9 @@ pub record Lent : Type 0 where
   pub terms : ℕ
   pub inputs : ℕ
   pub steps : ℕ
+
+abbrev pub lentOf : List ℕ → List ℕ → List ℕ → List ℕ → Lent
+lentOf sorts terms inputs steps = record { sorts = length sorts; terms = length terms; inputs = length inputs; steps = length steps }
 
 -- whether the sheets hold the rows
 abbrev pub fits : Lent → State → Bool

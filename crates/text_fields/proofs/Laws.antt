@@ -1,7 +1,7 @@
 -- Laws of the definitions of specs/.
 use Prim.Native.Nat.{ℕ, suc, _+_, _-_, _*_, _≤_, _<_}
 use mathlib.Core.Path.{_≡_, refl, ap, sym, _∙_}
-use mathlib.Core.Bool.{Bool, true, false}
+use mathlib.Core.Bool.{Bool, true, false, _&&_}
 use mathlib.Core.List.{List, [], _∷_}
 use native.Mathlib.Omega.{arith}
 use native.Mathlib.Numerals.{add-one}
@@ -57,14 +57,18 @@ same-length (x ∷ xs) [] h = refl
 same-length (x ∷ xs) (y ∷ ys) h = pick-both (eqb x y) (same-length xs ys (λ e. h (ap suc e))) refl
 
 module _ (a b : List ℕ) (i : ℕ) where
-  pub same-hit : i < length a → i < length b → getD a i 0 ≡ getD b i 0 → same (drop i a) (drop i b) ≡ same (drop (i + 1) a) (drop (i + 1) b)
-  same-hit h k e = rw (drop-cons a i 0, drop-cons b i 0, eq-eqb _ _ e, add-one)
+  same-more : i < length a → i < length b → same (drop i a) (drop i b) ≡ pick (eqb (getD a i 0) (getD b i 0)) (same (drop (i + 1) a) (drop (i + 1) b)) false
+  same-more h k = rw (drop-cons a i 0, drop-cons b i 0, add-one)
 
-  pub same-miss : i < length a → i < length b → (getD a i 0 ≡ getD b i 0 → ⊥) → same (drop i a) (drop i b) ≡ false
-  same-miss h k e = rw (drop-cons a i 0, drop-cons b i 0, ne-eqb _ _ e)
+  -- one more byte is compared, and none is left
+  pub same-on : i < length a → i < length b → (x : Bool)
+      → pick (x && eqb (getD a i 0) (getD b i 0)) (same (drop (i + 1) a) (drop (i + 1) b)) false ≡ pick x (same (drop i a) (drop i b)) false
+  same-on h k true = sym (same-more h k)
+  same-on h k false = refl
 
-  pub same-end : length a ≤ i → length b ≤ i → same (drop i a) (drop i b) ≡ true
-  same-end h k = rw (drop-of-length-le a, drop-of-length-le b)
+  pub same-done : length a ≤ i → length b ≤ i → (x : Bool) → pick x (same (drop i a) (drop i b)) false ≡ x
+  same-done h k true = rw (drop-of-length-le a, drop-of-length-le b)
+  same-done h k false = refl
 
 module _ (n : ℕ) (f : List ℕ) (i : ℕ) where
   pub digits-more : i < length f → 48 ≤ getD f i 0 → getD f i 0 ≤ 57 → n * 10 + (getD f i 0 - 48) ≤ 65534

@@ -80,21 +80,20 @@ fn is_space(b: u8) -> bool
     }
 }
 
-// Whether two slices hold the same bytes.
+// Whether two slices hold the same bytes. All bytes are compared, with no way out: so several are compared at once.
 pub fn same(a: &[u8], b: &[u8]) -> bool
     ensures { λ r. ⌜ r ≡ sameBytes (now (a .entry)) (now (b .entry)) ⌝ }
 {
     if a.len() != b.len() {
         return false;
     }
+    let mut alike = true;
     let mut i = 0;
     while i < a.len() {
-        if a[i] != b[i] {
-            return false;
-        }
+        alike = alike & (a[i] == b[i]);
         i += 1;
     }
-    true
+    alike
 }
 
 // The number that a field's digits make.

@@ -12,7 +12,7 @@ use Rattle.text_fields.specs.Words.{indexFrom}
 use Rattle.text_fields.specs.declared.Found.{Found}
 use Rattle.text_fields.specs.declared.Found.the-variants.{At, Nothing}
 use Rattle.text_fields.proofs.Laws.{same-length}
-use Rattle.text_names.specs.Table.{tagOf, lastPlace, lengthAt, tagAt, earlierAt, held, chase, found, written, isNumber, nameAt, namesOn, namesFrom}
+use Rattle.text_names.specs.Table.{tagOf, nameFrom, lastPlace, lengthAt, tagAt, earlierAt, held, chase, found, written, isNumber, nameAt, namesOn, namesFrom}
 use Rattle.text_names.proofs.Laws.{same-equal, same-unequal, same-self}
 
 -- what is done at number e
@@ -29,7 +29,8 @@ module _ (t : List ℕ) (base : ℕ) (name : List ℕ) where
   pub chase-at : (top e : ℕ) → e < top → chase t base top e name ≡ visit t base e name
   chase-at zero e h = absurd (omega arith)
   chase-at (suc m) e h = go (chase-at m e) (eqb e m) refl where
-    go : (e < m → chase t base m e name ≡ visit t base e name) → (b : Bool) → eqb e m ≡ b → pick (eqb e m) (visit t base m name) (chase t base m e name) ≡ visit t base e name
+    go : (e < m → chase t base m e name ≡ visit t base e name) → (b : Bool) → eqb e m ≡ b
+        → pick (eqb e m) (visit t base m name) (chase t base m e name) ≡ visit t base e name
     go ih true p = rw p (ap (λ (i : ℕ). visit t base i name) (sym (eqb-true e m p)))
     go ih false p = let q = eqb-false e m p in rw p (ih (omega arith))
 
@@ -53,7 +54,8 @@ module _ (t : List ℕ) (base : ℕ) (name : List ℕ) where
   chase-sound : (n e k : ℕ) → chase t base n e name ≡ At k → (held t (base + k) name ≡ true) × (k < n)
   chase-sound zero e k q = absurd (let z : _≡_ {A = ℕ} 0 1 = cc in omega arith)
   chase-sound (suc m) e k q =
-      go (chase-sound m e k) (chase-sound m (earlierAt t (base + m)) k) (eqb e m) (eqb (tagAt t (base + m)) (tagOf name)) (held t (base + m) name) refl q where
+      go (chase-sound m e k) (chase-sound m (earlierAt t (base + m)) k)
+      (eqb e m) (eqb (tagAt t (base + m)) (tagOf name)) (held t (base + m) name) refl q where
         go : (chase t base m e name ≡ At k → (held t (base + k) name ≡ true) × (k < m))
             → (chase t base m (earlierAt t (base + m)) name ≡ At k → (held t (base + k) name ≡ true) × (k < m))
             → (x y z : Bool) → held t (base + m) name ≡ z
@@ -82,17 +84,17 @@ take-take (suc m) (suc n) (x ∷ xs) h = rw (take-take m n xs (omega arith))
 
 pub written-short : (t : List ℕ) (s : ℕ) → length (written t s) ≤ 64
 unfolding written
-written-short t s = omega (arith, take-least (lengthAt t s) (take 64 (drop (s * 67) t)), take-most 64 (drop (s * 67) t))
+written-short t s = omega (arith, take-least (lengthAt t s) (take 64 (drop (nameFrom s) t)), take-most 64 (drop (nameFrom s) t))
 
 -- a slot that holds a name has it written
 pub held-written : (t : List ℕ) (s : ℕ) (name : List ℕ) → length name ≤ 64 → held t s name ≡ true → written t s ≡ name
 unfolding held written
 held-written t s name h q = go (eqb (lengthAt t s) (length name)) refl q where
-  go : (b : Bool) → eqb (lengthAt t s) (length name) ≡ b → pick b (same (take (length name) (drop (s * 67) t)) name) false ≡ true
-      → take (lengthAt t s) (take 64 (drop (s * 67) t)) ≡ name
+  go : (b : Bool) → eqb (lengthAt t s) (length name) ≡ b → pick b (same (take (length name) (drop (nameFrom s) t)) name) false ≡ true
+      → take (lengthAt t s) (take 64 (drop (nameFrom s) t)) ≡ name
   go true p r =
       let z : lengthAt t s ≡ length name = eqb-true (lengthAt t s) (length name) p in
-      rw z (take-take (length name) 64 (drop (s * 67) t) h ∙ same-equal (take (length name) (drop (s * 67) t)) name r)
+      rw z (take-take (length name) 64 (drop (nameFrom s) t) h ∙ same-equal (take (length name) (drop (nameFrom s) t)) name r)
   go false p r = absurd (let y : _≡_ {A = ℕ} 0 1 = cc in omega arith)
 
 number-is : (f : Found) (j : ℕ) → isNumber f j ≡ true → f ≡ At j
@@ -110,14 +112,16 @@ module _ (t : List ℕ) (base n : ℕ) (name : List ℕ) (short : length name �
   found-at : (j : ℕ) → nameAt t base n j ≡ name → found t base n name ≡ At j
   unfolding nameAt
   found-at j e = go (isNumber (found t base n (written t (base + j))) j) refl e where
-    go : (b : Bool) → isNumber (found t base n (written t (base + j))) j ≡ b → pick b (written t (base + j)) (256 ∷ []) ≡ name → found t base n name ≡ At j
+    go : (b : Bool) → isNumber (found t base n (written t (base + j))) j ≡ b
+        → pick b (written t (base + j)) (256 ∷ []) ≡ name → found t base n name ≡ At j
     go true p q = ap (found t base n) (sym q) ∙ number-is (found t base n (written t (base + j))) j p
     go false p q = absurd (let z : getD (256 ∷ []) 0 0 ≡ getD name 0 0 = ap (λ (l : List ℕ). getD l 0 0) q in omega arith)
 
   index-none : found t base n name ≡ Nothing → (m j : ℕ) → indexFrom j (namesOn t base n j m) name ≡ Nothing
   index-none e zero j = refl
   index-none e (suc m) j =
-      rw (same-unequal (nameAt t base n j) name (λ p. let q = found-at j p in let z : _≡_ {A = ℕ} 0 1 = cc in omega arith)) (index-none e m (suc j))
+      let other : nameAt t base n j ≡ name → ⊥ = λ p. let q = found-at j p in let z : _≡_ {A = ℕ} 0 1 = cc in omega arith in
+      rw (same-unequal (nameAt t base n j) name other) (index-none e m (suc j))
 
   index-some : (k : ℕ) → found t base n name ≡ At k → (m j : ℕ) → j ≤ k → k < j + m → indexFrom j (namesOn t base n j m) name ≡ At k
   index-some k e zero j h l = absurd (omega arith)
@@ -156,3 +160,43 @@ long-nowhere t base n name h = sym (go n 0) where
   go : (m j : ℕ) → indexFrom j (namesOn t base n j m) name ≡ Nothing
   go zero j = refl
   go (suc m) j = rw (same-length (nameAt t base n j) name (λ e. omega (arith, short j))) (go m (suc j))
+
+-- where a search stands: what is left to search, from name e below `top`, finds what the whole search finds
+pub record Chasing (t : List ℕ) (base count : ℕ) (name : List ℕ) (tag top e : ℕ) : Type 0 where
+  pub room : base * 68 + top * 68 ≤ 36992
+  pub size : length t ≡ 47232
+  pub short : length name ≤ 64
+  pub byte : getD name 0 0 < 256
+  pub tag-is : tag ≡ tagOf name
+  pub left : chase t base top e name ≡ found t base count name
+
+module _ {t : List ℕ} {base count : ℕ} {name : List ℕ} {tag : ℕ} where
+  pub chase-begins : {last e : ℕ} → length t ≡ 47232 → base + count ≤ 544 → length name ≤ 64 → getD name 0 0 < 256
+      → tag ≡ tagOf name → last ≡ lastPlace base tag → e ≡ getD t last 0 → Chasing t base count name tag count e
+  chase-begins h k short byte is p q =
+      record { room = omega arith; size = h; short = short; byte = byte; tag-is = is; left = find-start t base name tag is count _ _ p q }
+
+  module _ {top e : ℕ} (l : Chasing t base count name tag top e) where
+    whole : found t base count name ≡ indexFrom 0 (namesFrom t base count) name
+    whole = found-is t base count name (l .short) (l .byte)
+
+    pub chase-done : top ≤ e → Nothing ≡ indexFrom 0 (namesFrom t base count) name
+    chase-done h = sym (chase-past t base name top e h) ∙ l .left ∙ whole
+
+    module _ (h : e < top) {g : ℕ} (g-is : g ≡ tagAt t (base + e)) where
+      pub chase-stops : (g ≡ tag → ⊥) → Nothing ≡ indexFrom 0 (namesFrom t base count) name
+      chase-stops other = sym (find-stop t base name tag (l .tag-is) top e h (λ q. other (g-is ∙ q))) ∙ l .left ∙ whole
+
+      module _ (like : g ≡ tag) {b : Bool} (b-is : b ≡ held t (base + e) name) where
+        pub chase-hits : b ≡ true → At e ≡ indexFrom 0 (namesFrom t base count) name
+        chase-hits p = sym (find-hit t base name tag (l .tag-is) top e h (sym g-is ∙ like) (sym b-is ∙ p)) ∙ l .left ∙ whole
+
+        pub chase-goes-on : b ≡ false → {f : ℕ} → f ≡ earlierAt t (base + e) → Chasing t base count name tag e f
+        chase-goes-on p {f} q = record {
+          room = omega (arith, l .room);
+          size = l .size;
+          short = l .short;
+          byte = l .byte;
+          tag-is = l .tag-is;
+          left = ap (λ (x : ℕ). chase t base e x name) q ∙ sym (find-next t base name tag (l .tag-is) top e h (sym g-is ∙ like) (sym b-is ∙ p)) ∙ l .left;
+        }

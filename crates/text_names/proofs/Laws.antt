@@ -1,29 +1,47 @@
 -- Laws of tags, of equal lists and of slots.
-use Prim.Native.Nat.{ℕ, zero, suc, _+_, _*_, _%_, _≤_, _<_}
+use Prim.Native.Nat.{ℕ, zero, suc, _+_, _*_, _/_, _%_, _≤_, _<_}
 use mathlib.Core.Path.{_≡_, refl, ap, sym, _∙_}
 use mathlib.Core.Bool.{Bool, true, false}
-use mathlib.Core.List.{List, [], _∷_, _++_}
+use mathlib.Core.List.{List, [], _∷_, _++_, append-assoc}
 use native.Mathlib.Omega.{arith}
-use native.Mathlib.Nat.{le-of-suc-le-suc}
+use native.Mathlib.Nat.{add-zero, mul-le-mul}
 use native.Mathlib.Numerals.{add-one}
 use borrow.Author.Tests.{eqb-true, eq-eqb, ne-eqb}
 use lib.Dec.{eqb}
-use lib.ListN.{length, take, drop, getD, set, drop-of-length-le, length-append, List·getD-append}
-use lib.Seq.{drop-cons, paste, paste-suc, length-paste, getD-drop, drop-at}
+use lib.ListN.{length, take, drop, getD, set, length-set, drop-of-length-le}
+use lib.Seq.{drop-cons, drop-drop, paste, paste-zero, paste-suc, length-paste, take-paste, drop-paste}
 use Rattle.text_fields.specs.Split.{pick, same}
-use Rattle.text_names.specs.Table.{tagFrom, tagOf, lengthAt, held, lastPlace, padTo, slotOf, withName}
+use Rattle.text_names.specs.Table.{weights, mixFrom, tagOf, lengthAt, nameFrom, held, lastPlace, padTo, slotOf, slotPut, withName}
 
--- the tag, byte after byte
+-- the mix of a name's bytes, byte after byte
 module _ (h : ℕ) (l : List ℕ) (i : ℕ) where
-  pub tag-more : i < length l → tagFrom h (drop i l) ≡ tagFrom ((h * 9 + getD l i 0) % 256) (drop (i + 1) l)
-  tag-more k = rw (drop-cons l i 0, add-one)
+  pub mix-more : i < length l → mixFrom h i (drop i l) ≡ mixFrom (h + getD weights i 0 * getD l i 0) (i + 1) (drop (i + 1) l)
+  mix-more k = rw (drop-cons l i 0, add-one)
 
-  pub tag-end : length l ≤ i → tagFrom h (drop i l) ≡ h
-  tag-end k = rw drop-of-length-le
+  pub mix-end : length l ≤ i → mixFrom h i (drop i l) ≡ h
+  mix-end k = rw drop-of-length-le
 
-pub tag-whole : (l : List ℕ) → tagOf l ≡ tagFrom 0 l
+pub length-weights : length weights ≡ 64
+unfolding weights
+length-weights = refl
+
+-- a byte that is mixed in, and the tag when all are
+pub mixed : (h : ℕ) (l : List ℕ) (i : ℕ) {ws : List ℕ} {x : ℕ} → ws ≡ weights → x ≡ getD ws i 0 * getD l i 0 → i < length l
+    → mixFrom (h + x) (i + 1) (drop (i + 1) l) ≡ mixFrom h i (drop i l)
+mixed h l i p q k = rw (q, p) (sym (mix-more h l i k))
+
+pub tagged : {h : ℕ} (l : List ℕ) → h ≡ mixFrom 0 0 l → h % 1021 ≡ tagOf l
 unfolding tagOf
-tag-whole l = refl
+tagged l e = rw e
+
+-- the product of two bytes
+pub product : (a b : ℕ) → a < 256 → b < 256 → a * b ≤ 65025
+product a b h k = let r : a * b ≤ 255 * 255 = mul-le-mul {n₂ = 255} {m₂ = 255} (omega arith) (omega arith) in r
+
+-- a tag is below 1,021
+pub tag-small : (name : List ℕ) → tagOf name < 1021
+unfolding tagOf
+tag-small name = omega arith
 
 -- lists that are the same are equal
 pub same-equal : (a b : List ℕ) → same a b ≡ true → a ≡ b
@@ -47,58 +65,32 @@ pub same-self : (a : List ℕ) → same a a ≡ true
 same-self [] = refl
 same-self (x ∷ xs) = rw (eq-eqb x x refl, same-self xs)
 
--- a tag is a byte
-pub tag-small : (name : List ℕ) → tagOf name < 256
-unfolding tagOf
-tag-small name = go 0 name (omega arith) where
-  go : (h : ℕ) (l : List ℕ) → h < 256 → tagFrom h l < 256
-  go h [] k = k
-  go h (b ∷ bs) k = go ((h * 9 + b) % 256) bs (omega arith)
-
 pub length-padTo : (n : ℕ) (l : List ℕ) → length (padTo n l) ≡ n
 length-padTo zero l = refl
 length-padTo (suc n) [] = ap suc (length-padTo n [])
 length-padTo (suc n) (x ∷ xs) = ap suc (length-padTo n xs)
 
-getD-padTo : (n : ℕ) (l : List ℕ) (i : ℕ) → i < n → getD (padTo n l) i 0 ≡ getD l i 0
-getD-padTo zero l i h = absurd (omega arith)
-getD-padTo (suc n) [] zero h = refl
-getD-padTo (suc n) [] (suc i) h = getD-padTo n [] i (le-of-suc-le-suc h)
-getD-padTo (suc n) (x ∷ xs) zero h = refl
-getD-padTo (suc n) (x ∷ xs) (suc i) h = getD-padTo n xs i (le-of-suc-le-suc h)
-
-getD-past : (l : List ℕ) (i : ℕ) → length l ≤ i → getD l i 0 ≡ 0
-getD-past [] i h = refl
-getD-past (x ∷ xs) zero h = absurd (omega arith)
-getD-past (x ∷ xs) (suc i) h = getD-past xs i (le-of-suc-le-suc h)
-
 -- the bytes of a name's slot
 module _ (name : List ℕ) (earlier : ℕ) where
-  pub length-slot : length (slotOf name earlier) ≡ 67
+  pub length-slot : length (slotOf name earlier) ≡ 4 + length name
   unfolding slotOf
-  length-slot = length-append (padTo 64 name) (length name ∷ tagOf name ∷ earlier ∷ []) ∙ rw (length-padTo 64 name)
+  length-slot = omega arith
 
-  pub slot-padded : (i : ℕ) → i < 64 → getD (slotOf name earlier) i 0 ≡ getD name i 0
+  pub slot-length : getD (slotOf name earlier) 0 0 ≡ length name
   unfolding slotOf
-  slot-padded i h = List·getD-append (padTo 64 name) (length name ∷ tagOf name ∷ earlier ∷ []) 0 i (rw (length-padTo 64 name) h) ∙ getD-padTo 64 name i h
+  slot-length = refl
 
-  slot-tail : (k : ℕ) → getD (slotOf name earlier) (64 + k) 0 ≡ getD (length name ∷ tagOf name ∷ earlier ∷ []) k 0
+  pub slot-tag : getD (slotOf name earlier) 1 0 + getD (slotOf name earlier) 2 0 * 256 ≡ tagOf name
   unfolding slotOf
-  slot-tail k =
-      sym (getD-drop 64 (padTo 64 name ++ (length name ∷ tagOf name ∷ earlier ∷ [])) k 0)
-      ∙ ap (λ (l : List ℕ). getD l k 0) (drop-at (padTo 64 name) (length name ∷ tagOf name ∷ earlier ∷ []) 64 (length-padTo 64 name))
+  slot-tag = omega arith
 
-  pub slot-length : getD (slotOf name earlier) 64 0 ≡ length name
-  slot-length = slot-tail 0
+  pub slot-earlier : getD (slotOf name earlier) 3 0 ≡ earlier
+  unfolding slotOf
+  slot-earlier = refl
 
-  pub slot-tag : getD (slotOf name earlier) 65 0 ≡ tagOf name
-  slot-tag = slot-tail 1
-
-  pub slot-earlier : getD (slotOf name earlier) 66 0 ≡ earlier
-  slot-earlier = slot-tail 2
-
-  pub slot-zero : (i : ℕ) → i < 64 → length name ≤ i → 0 ≡ getD (slotOf name earlier) i 0
-  slot-zero i h k = sym (slot-padded i h ∙ getD-past name i k)
+  pub slot-name : (i : ℕ) → getD (slotOf name earlier) (4 + i) 0 ≡ getD name i 0
+  unfolding slotOf
+  slot-name i = let z : 4 + i ≡ suc (suc (suc (suc i))) = omega arith in rw z
 
 -- a run of stores that copies s into d at a place
 module _ (d : List ℕ) (at : ℕ) (s : List ℕ) (i : ℕ) (t : List ℕ) (is : t ≡ paste d at s i) where
@@ -108,18 +100,51 @@ module _ (d : List ℕ) (at : ℕ) (s : List ℕ) (i : ℕ) (t : List ℕ) (is :
   pub put-length : i ≤ length s → at + i ≤ length d → length t ≡ length d
   put-length h k = ap length is ∙ length-paste d at s i k h
 
+-- the stores that write a name's slot: four bytes, and then the name
+module _ (t : List ℕ) (s : ℕ) (name : List ℕ) (earlier : ℕ) (fits : s * 68 + 68 ≤ length t) (short : length name ≤ 64) where
+  abbrev headed : ℕ → List ℕ
+  headed tag = set (set (set (set t (s * 68) (length name)) (s * 68 + 1) (tag % 256)) (s * 68 + 2) (tag / 256)) (s * 68 + 3) earlier
+
+  head-put : headed (tagOf name) ≡ paste t (s * 68) (slotOf name earlier) 4
+  unfolding slotOf
+  head-put =
+      let l = slotOf name earlier in
+      let a = put-more t (s * 68) l 0 t (paste-zero t (s * 68) l) (length name) refl (omega arith) (omega arith) in
+      let b = put-more t (s * 68) l 1 _ (rw add-zero at a) (tagOf name % 256) refl (omega arith) (omega arith) in
+      let c = put-more t (s * 68) l 2 _ b (tagOf name / 256) refl (omega arith) (omega arith) in
+      put-more t (s * 68) l 3 _ c earlier refl (omega arith) (omega arith)
+
+  head-length : (tag : ℕ) → length (headed tag) ≡ length t
+  head-length tag = simp length-set
+
+  pub slot-put-length : (tag : ℕ) (p : List ℕ) → p ≡ paste (headed tag) (s * 68 + 4) name (length name) → length p ≡ length t
+  slot-put-length tag p e =
+      ap length e ∙ length-paste (headed tag) (s * 68 + 4) name (length name) (omega (arith, head-length tag)) (omega arith) ∙ head-length tag
+
+  pub slot-put : {tag : ℕ} → tag ≡ tagOf name → (p : List ℕ) → p ≡ paste (headed tag) (s * 68 + 4) name (length name) → p ≡ slotPut t s name earlier
+  unfolding slotOf
+  slot-put is p e =
+      let a = s * 68 in
+      let n = length name in
+      let l = slotOf name earlier in
+      let u = paste t a l 4 in
+      let z : a + 4 + n ≡ a + length l = omega arith in
+      let tail : drop (a + 4 + n) u ≡ drop (a + 4 + n) t =
+      sym (drop-drop n (a + 4) u) ∙ ap (drop n) (drop-paste t a l 4 (omega arith) (omega arith)) ∙ drop-drop n (a + 4) t in
+      e ∙ rw (is, head-put, take-paste t a l 4 (omega arith) (omega arith), tail, z, append-assoc (take a t) (take 4 l) (take n name))
+
 -- whether a slot holds a name
 module _ (t : List ℕ) (s : ℕ) (name : List ℕ) where
   pub held-not : (lengthAt t s ≡ length name → ⊥) → false ≡ held t s name
   unfolding held
   held-not h = rw (ne-eqb (lengthAt t s) (length name) h)
 
-  pub held-by : lengthAt t s ≡ length name → same (take (length name) (drop (s * 67) t)) name ≡ held t s name
+  pub held-by : lengthAt t s ≡ length name → same (take (length name) (drop (nameFrom s) t)) name ≡ held t s name
   unfolding held
   held-by h = rw (eq-eqb (lengthAt t s) (length name) h)
 
 -- the stores that put a name
 pub put-is : (t : List ℕ) (base n : ℕ) (name : List ℕ) (tag last : ℕ) (p : List ℕ) → tag ≡ tagOf name → last ≡ lastPlace base tag
-    → p ≡ paste t ((base + n) * 67) (slotOf name (getD t last 0)) 67 → set p last n ≡ withName t base n name
+    → p ≡ slotPut t (base + n) name (getD t last 0) → set p last n ≡ withName t base n name
 unfolding withName
 put-is t base n name tag last p e f g = rw (g, f, e)

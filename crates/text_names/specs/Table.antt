@@ -1,40 +1,48 @@
--- Tables of names in one list of bytes. Each name has a slot of 67 bytes: 64 for the name, its length, its tag, and the number of the name before it
--- that has the same tag. Behind the 544 slots stands, for each table and each tag, the number of the last name of that tag.
-use Prim.Native.Nat.{ℕ, zero, suc, _+_, _*_, _%_}
+-- Tables of names in one list of bytes. Each name has a slot of 68 bytes: its length, its tag in two bytes, the number of the name before it that has
+-- the same tag, and 64 bytes for the name. Behind the 544 slots stands, for each table and each tag, the number of the last name of that tag.
+use Prim.Native.Nat.{ℕ, zero, suc, _+_, _*_, _/_, _%_}
 use mathlib.Core.Bool.{Bool, false}
 use mathlib.Core.List.{List, [], _∷_, _++_}
 use lib.Dec.{eqb}
 use lib.ListN.{length, take, drop, getD, set}
 use lib.Seq.{paste}
-use Rattle.text_fields.specs.Split.{pick, same}
+use Rattle.text_fields.specs.Split.{pick, bytes, same}
 use Rattle.text_fields.specs.declared.Found.{Found}
 use Rattle.text_fields.specs.declared.Found.the-variants.{At, Nothing}
 
--- the tag of a name whose first bytes have the tag h
-abbrev pub tagFrom : ℕ → List ℕ → ℕ
-tagFrom h [] = h
-tagFrom h (b ∷ bs) = tagFrom ((h * 9 + b) % 256) bs
+-- the weights of a name's 64 places, no two alike
+unfoldable pub weights : List ℕ
+weights = bytes "%H=B@8+^m0Y&v;7pJEOekw#CigX'hI?F/<|ST*rV6q5dPn1Ufy~z3N)aG-LxlM!:"
 
+-- the sum h with the bytes from place k on, each times the weight of its place
+abbrev pub mixFrom : ℕ → ℕ → List ℕ → ℕ
+mixFrom h k [] = h
+mixFrom h k (b ∷ bs) = mixFrom (h + getD weights k 0 * b) (suc k) bs
+
+-- the tag of a name: all its bytes, mixed to a number below 1,021
 unfoldable pub tagOf : List ℕ → ℕ
-tagOf name = tagFrom 0 name
+tagOf name = mixFrom 0 0 name % 1021
 
--- the length, the tag and the earlier name of slot s
+-- the length, the tag and the earlier name of slot s, and where its name begins
 abbrev pub lengthAt : List ℕ → ℕ → ℕ
-lengthAt t s = getD t (s * 67 + 64) 0
+lengthAt t s = getD t (s * 68) 0
 
 abbrev pub tagAt : List ℕ → ℕ → ℕ
-tagAt t s = getD t (s * 67 + 65) 0
+tagAt t s = getD t (s * 68 + 1) 0 + getD t (s * 68 + 2) 0 * 256
 
 abbrev pub earlierAt : List ℕ → ℕ → ℕ
-earlierAt t s = getD t (s * 67 + 66) 0
+earlierAt t s = getD t (s * 68 + 3) 0
+
+abbrev pub nameFrom : ℕ → ℕ
+nameFrom s = s * 68 + 4
 
 -- whether slot s holds a name
 unfoldable pub held : List ℕ → ℕ → List ℕ → Bool
-held t s name = pick (eqb (lengthAt t s) (length name)) (same (take (length name) (drop (s * 67) t)) name) false
+held t s name = pick (eqb (lengthAt t s) (length name)) (same (take (length name) (drop (nameFrom s) t)) name) false
 
 -- the last name of a tag, in the table that begins at slot `base`
 abbrev pub lastPlace : ℕ → ℕ → ℕ
-lastPlace base tag = 36448 + base * 8 + tag
+lastPlace base tag = 36992 + base * 32 + tag
 
 abbrev pub lastOf : List ℕ → ℕ → ℕ → ℕ
 lastOf t base tag = getD t (lastPlace base tag) 0
@@ -54,7 +62,7 @@ found t base n name = chase t base n (lastOf t base (tagOf name)) name
 
 -- what is written in slot s
 unfoldable pub written : List ℕ → ℕ → List ℕ
-written t s = take (lengthAt t s) (take 64 (drop (s * 67) t))
+written t s = take (lengthAt t s) (take 64 (drop (nameFrom s) t))
 
 abbrev pub isNumber : Found → ℕ → Bool
 isNumber (At k) j = eqb k j
@@ -79,11 +87,14 @@ padTo zero l = []
 padTo (suc n) [] = 0 ∷ padTo n []
 padTo (suc n) (x ∷ xs) = x ∷ padTo n xs
 
--- the 67 bytes of a name's slot
+-- the bytes of a name's slot: what stands before the name, and the name
 unfoldable pub slotOf : List ℕ → ℕ → List ℕ
-slotOf name earlier = padTo 64 name ++ (length name ∷ tagOf name ∷ earlier ∷ [])
+slotOf name earlier = length name ∷ tagOf name % 256 ∷ tagOf name / 256 ∷ earlier ∷ name
+
+-- a name's slot written at slot s
+abbrev pub slotPut : List ℕ → ℕ → List ℕ → ℕ → List ℕ
+slotPut t s name earlier = paste t (s * 68) (slotOf name earlier) (length (slotOf name earlier))
 
 -- name n put into the table that begins at slot `base`
 unfoldable pub withName : List ℕ → ℕ → ℕ → List ℕ → List ℕ
-withName t base n name =
-    set (paste t ((base + n) * 67) (slotOf name (lastOf t base (tagOf name))) 67) (lastPlace base (tagOf name)) n
+withName t base n name = set (slotPut t (base + n) name (lastOf t base (tagOf name))) (lastPlace base (tagOf name)) n

@@ -107,7 +107,7 @@ module _ (k : Kept) (fs : List (List ℕ)) where
       sort-new e = rw (good, lt-ltb (length (k .sorts)) 32 room, e)
 
 -- a sort's name put into the table
-module _ (n : Counts) (t name : List ℕ) (size : length t ≡ 39008) (b : Bounded n) (room : n .sorts < 32) where
+module _ (n : Counts) (t name : List ℕ) (size : length t ≡ 47232) (b : Bounded n) (room : n .sorts < 32) where
   pub sort-put : named name ≡ true → length name ≤ 64 → isTaken (namesFrom t 0 (n .sorts)) name ≡ false → (t′ : List ℕ) → t′ ≡ withName t 0 (n .sorts) name
       → keptOf (record { sorts = n .sorts + 1; terms = n .terms; heads = n .heads; inputs = n .inputs; steps = n .steps }) t′
       ≡ record { sorts = namesFrom t 0 (n .sorts) ++ (name ∷ []); terms = namesFrom t 32 (n .terms); heads = namesFrom t 288 (n .heads); inputs = n .inputs; steps = n .steps }

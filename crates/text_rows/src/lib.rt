@@ -48,7 +48,7 @@ pub fn refuse(counts: Counts, code: u16, place: usize) -> Row
 }
 
 // What a field says of the terms so far.
-fn term_ref(names: &[u8; 39008], count: usize, f: &[u8]) -> u16
+fn term_ref(names: &[u8; 47232], count: usize, f: &[u8]) -> u16
     requires { ⌜ count ≤ 256 ⌝ }
     ensures { λ r. ⌜ r ≡ refOf (namesFrom (now (names .entry)) 32 count) (now (f .entry)) ⌝ }
 {
@@ -63,7 +63,7 @@ fn term_ref(names: &[u8; 39008], count: usize, f: &[u8]) -> u16
 
 // Field k of a line as a term.
 pub fn term_column(
-    names: &[u8; 39008],
+    names: &[u8; 47232],
     count: usize,
     line: &[u8],
     marks: &[usize; 18],
@@ -78,7 +78,7 @@ pub fn term_column(
 }
 
 // What a field says of the sorts so far.
-fn sort_ref(names: &[u8; 39008], count: usize, f: &[u8]) -> u16
+fn sort_ref(names: &[u8; 47232], count: usize, f: &[u8]) -> u16
     requires { ⌜ count ≤ 32 ⌝ }
     ensures { λ r. ⌜ r ≡ sortRef (namesFrom (now (names .entry)) 0 count) (now (f .entry)) ⌝ }
 {
@@ -96,7 +96,7 @@ fn sort_ref(names: &[u8; 39008], count: usize, f: &[u8]) -> u16
 
 // Field k of a line as a sort.
 pub fn sort_column(
-    names: &[u8; 39008],
+    names: &[u8; 47232],
     count: usize,
     line: &[u8],
     marks: &[usize; 18],
@@ -111,7 +111,7 @@ pub fn sort_column(
 }
 
 // Whether a row may not have this name of its own.
-pub fn is_taken(names: &[u8; 39008], base: usize, count: usize, f: &[u8]) -> bool
+pub fn is_taken(names: &[u8; 47232], base: usize, count: usize, f: &[u8]) -> bool
     requires { ⌜ base ≤ 288 ⌝ }
     requires { ⌜ base + count ≤ 544 ⌝ }
     ensures { λ r. ⌜ r ≡ isTaken (namesFrom (now (names .entry)) base count) (now (f .entry)) ⌝ }
@@ -129,7 +129,7 @@ pub fn is_taken(names: &[u8; 39008], base: usize, count: usize, f: &[u8]) -> boo
 }
 
 // A sort row that is good.
-fn put_sort(counts: Counts, line: &[u8], marks: &[usize; 18], names: &mut [u8; 39008]) -> Row
+fn put_sort(counts: Counts, line: &[u8], marks: &[usize; 18], names: &mut [u8; 47232]) -> Row
     requires { ⌜ Bounded counts ⌝ }
     requires { ⌜ counts .sorts < 32 ⌝ }
     requires { ⌜ shapeOf 3 0 (pieces 32 (now line)) ≡ Shape.Good ⌝ }
@@ -158,7 +158,7 @@ fn put_sort(counts: Counts, line: &[u8], marks: &[usize; 18], names: &mut [u8; 3
 }
 
 // A sort row that is well formed.
-fn add_sort(counts: Counts, line: &[u8], marks: &[usize; 18], names: &mut [u8; 39008]) -> Row
+fn add_sort(counts: Counts, line: &[u8], marks: &[usize; 18], names: &mut [u8; 47232]) -> Row
     requires { ⌜ Bounded counts ⌝ }
     requires { ⌜ shapeOf 3 0 (pieces 32 (now line)) ≡ Shape.Good ⌝ }
     requires { ⌜ Marked (now line) (now marks) 3 ⌝ }
@@ -176,7 +176,7 @@ fn add_sort(counts: Counts, line: &[u8], marks: &[usize; 18], names: &mut [u8; 3
 }
 
 // A line of the sort sheet.
-pub fn sort_row(counts: Counts, line: &[u8], names: &mut [u8; 39008]) -> Row
+pub fn sort_row(counts: Counts, line: &[u8], names: &mut [u8; 47232]) -> Row
     requires { ⌜ Bounded counts ⌝ }
     ensures { λ r. ⌜ takenOf r (now (names .exit)) ≡ sortRow (keptOf counts (now (names .entry))) (pieces 32 (now (line .entry))) ⌝ }
     ensures { λ r. ⌜ Within r ⌝ }

@@ -31,7 +31,7 @@ module _ (t f : List ℕ) (n : ℕ) where
       → HeadIs t n (freeHead (namesFrom t 288 n) f (indexFrom 0 (namesFrom t 288 n) f)) (record { number = 16 + k; heads = n }) t
   free-at k e = head-same t n (freeHead (namesFrom t 288 n) f (indexFrom 0 (namesFrom t 288 n) f)) (16 + k) (rw e) (rw e)
 
-  pub free-new : n < 256 → length t ≡ 39008 → named f ≡ true → length f ≤ 64 → (t′ : List ℕ) → t′ ≡ withName t 288 n f
+  pub free-new : n < 256 → length t ≡ 47232 → named f ≡ true → length f ≤ 64 → (t′ : List ℕ) → t′ ≡ withName t 288 n f
       → indexFrom 0 (namesFrom t 288 n) f ≡ Nothing
       → HeadIs t n (freeHead (namesFrom t 288 n) f (indexFrom 0 (namesFrom t 288 n) f)) (record { number = 16 + n; heads = n + 1 }) t′
   free-new room size g h t′ is e =
@@ -79,7 +79,7 @@ module _ (k : Kept) (fs : List (List ℕ)) where
 
 -- a term row stored: the head is read, then the term's name is put into the table
 module _ (n : Counts) (t name : List ℕ) (b : Bounded n) (room : n .terms < 256) (fs : List (List ℕ)) (good : shapeOf 7 0 fs ≡ Good) (is : name ≡ getD fs 0 []) (new : isTaken (namesFrom t 32 (n .terms)) (getD fs 0 []) ≡ false) where
-  pub term-stored : (r : HeadNumber) (t₁ : List ℕ) → length t₁ ≡ 39008 → HeadIs t (n .heads) (headOf (namesFrom t 288 (n .heads)) (getD fs 1 [])) r t₁
+  pub term-stored : (r : HeadNumber) (t₁ : List ℕ) → length t₁ ≡ 47232 → HeadIs t (n .heads) (headOf (namesFrom t 288 (n .heads)) (getD fs 1 [])) r t₁
       → (t₂ : List ℕ) → t₂ ≡ withName t₁ 32 (n .terms) name
       → (sort x y z w : ℕ) → sort ≡ sortRef (namesFrom t 0 (n .sorts)) (getD fs 2 [])
       → x ≡ refOf (namesFrom t 32 (n .terms)) (getD fs 3 []) → y ≡ refOf (namesFrom t 32 (n .terms)) (getD fs 4 [])

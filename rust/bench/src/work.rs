@@ -397,3 +397,78 @@ pub fn text() -> (String, Vec<u8>) {
     let about = format!("256 terms, 1,024 steps, {} bytes", text.len());
     (about, text.into_bytes())
 }
+
+/// A text of 256 terms of these names, and 1,024 steps of six names each.
+fn named_text(about: &str, names: &[String]) -> (String, Vec<u8>) {
+    let mut text = String::from("sort index value\nS - -\n\nterm head sort a b c d\n");
+    for name in names {
+        text += &format!("{name} head S - - - -\n");
+    }
+    text += "\nterm value\n\nstep rule term value p q r s t\n";
+    let mut at = 0;
+    let mut next = || {
+        at = (at * 5 + 89) % names.len();
+        &names[at]
+    };
+    for _ in 0..1_024 {
+        let [a, b, c, d, e, f] = [next(), next(), next(), next(), next(), next()];
+        text += &format!("deduce same {a} true {b} {c} {d} {e} {f}\n");
+    }
+    let about = format!("{about}, {} bytes", text.len());
+    (about, text.into_bytes())
+}
+
+/// Names of 64 bytes that differ in the last three.
+pub fn long_names() -> (String, Vec<u8>) {
+    let names: Vec<String> = (0..256)
+        .map(|at| format!("{:_<61}{at:03}", "name"))
+        .collect();
+    named_text("names of 64 bytes", &names)
+}
+
+/// 256 names that a test takes, of one form: a number in letters, within a name.
+fn names_that(fit: impl Fn(&[u8]) -> bool) -> Vec<String> {
+    let letters = |mut number: u32| {
+        let mut word = String::new();
+        for _ in 0..5 {
+            word.push(char::from(b'a' + (number % 26) as u8));
+            number /= 26;
+        }
+        word
+    };
+    (0..)
+        .map(|number| format!("term_of_some_board_{}", letters(number)))
+        .filter(|name| fit(name.as_bytes()))
+        .take(256)
+        .collect()
+}
+
+/// Names whose bytes mix to one and the same byte, in the order h * 9 + b.
+pub fn one_byte_tag() -> (String, Vec<u8>) {
+    let tag = |name: &[u8]| {
+        name.iter()
+            .fold(0u8, |h, b| h.wrapping_mul(9).wrapping_add(*b))
+    };
+    named_text(
+        "256 names of one byte as a tag",
+        &names_that(|name| tag(name) == 0),
+    )
+}
+
+/// Names of one tag of the reader's own table, for which it is at its slowest.
+pub fn one_tag() -> (String, Vec<u8>) {
+    const WEIGHTS: &[u8; 64] = b"%H=B@8+^m0Y&v;7pJEOekw#CigX'hI?F/<|ST*rV6q5dPn1Ufy~z3N)aG-LxlM!:";
+    let tag = |name: &[u8]| {
+        let mixed = name
+            .iter()
+            .zip(WEIGHTS)
+            .map(|(b, w)| u32::from(*b) * u32::from(*w));
+        mixed.sum::<u32>() % 1_021
+    };
+    named_text("256 names of one tag", &names_that(|name| tag(name) == 0))
+}
+
+/// Newlines alone: the first line is bad, and all others have only to be counted.
+pub fn newlines() -> (String, Vec<u8>) {
+    ("100,000 newlines".into(), vec![b'\n'; 100_000])
+}

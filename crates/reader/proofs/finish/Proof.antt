@@ -52,26 +52,22 @@ same-length-4 c = search needs
 
 returns : tie.Need-returns
 returns c =
-    let a = c .before .before .before .before .before .before .before .before .before .before .before .before .before .before .before .before .before .before .before .before .before .before .before .before .before .before .before .before .before .before .before .args in
-    let the-clear-bytes-arg = c .before .before .before .before .before .before .before .before .before .before .before .before .before .before .before .before .before .before .before .before .clear-bytes-arg in
-    let the-clear-bytes-arg2 = c .before .before .before .before .before .before .before .before .before .before .before .before .before .before .before .before .before .before .clear-bytes-arg2 in
-    let the-fault-of = c .before .before .before .before .before .before .before .before .before .before .before .before .before .before .before .before .before .before .before .before .before .before .before .fault-of in
-    let the-holds-rows = c .before .before .before .before .before .before .before .before .before .before .before .before .before .before .before .before .before .before .before .before .before .before .holds-rows in
-    let the-final-code = c .before .before .before .before .before .before .before .before .before .before .before .before .before .before .before .before .before .before .before .before .before .final-code in
-    let the-clear-bytes = c .before .before .before .before .before .before .before .before .before .before .before .before .before .before .before .before .before .before .before .clear-bytes in
-    let the-clear-bytes2 = c .before .before .before .before .before .before .before .before .before .before .before .before .before .before .before .before .before .clear-bytes2 in
-    let the-leave-sheet = c .before .before .before .before .before .before .before .before .before .before .before .before .before .before .before .leave-sheet in
-    let the-leave-sheet2 = c .before .before .before .before .before .before .before .before .before .before .before .leave-sheet2 in
-    let the-leave-sheet3 = c .before .before .before .before .before .before .before .leave-sheet3 in
-    let the-leave-sheet4 = c .before .before .before .leave-sheet4 in
-    let l : length (a .line .now) ≡ 526 = omega (arith, the-clear-bytes-arg) in
-    let m : length (a .names .now) ≡ 39008 = omega (arith, the-clear-bytes-arg2) in
-    finished (a .f) (a .line .now) (a .names .now) (a .sorts .now) (a .terms .now) (a .inputs .now) (a .steps .now)
-    (the-fault-of .result) (the-fault-of .ensures (a .names .now)) (the-holds-rows .result)
-    (the-holds-rows .ensures) (the-final-code .result) (the-final-code .ensures) (c .outcome-of .result) _ _ _ _ _
-    _ (c .outcome-of .ensures (a .names .now)) (the-clear-bytes .ensures ∙ ap (λ (k : ℕ). replicate k 0) l)
-    (the-clear-bytes2 .ensures ∙ ap (λ (k : ℕ). replicate k 0) m) (the-leave-sheet .ensures)
-    (the-leave-sheet2 .ensures) (the-leave-sheet3 .ensures) (the-leave-sheet4 .ensures)
+    let steps = c .before .before .before in
+    let inputs = steps .before .before .before .before in
+    let terms = inputs .before .before .before .before in
+    let sorts = terms .before .before .before .before in
+    let names = sorts .before .before in
+    let line = names .before .before in
+    let code = line .before .before in
+    let room = code .before in
+    let start = room .before .before .before .before .before .before .before .before .before in
+    let a = start .args in
+    let l : length (a .line .now) ≡ 526 = omega (arith, line .before .clear-bytes-arg) in
+    let m : length (a .names .now) ≡ 47232 = omega (arith, names .before .clear-bytes-arg2) in
+    finished (a .f) (a .line .now) (a .names .now) _ _ _ _ _ (room .before .fault-of .ensures (a .names .now)) _ (room .holds-rows .ensures) _
+    (code .final-code .ensures) _ _ _ _ _ _ _ (c .outcome-of .ensures (a .names .now))
+    (line .clear-bytes .ensures ∙ ap (λ (k : ℕ). replicate k 0) l) (names .clear-bytes2 .ensures ∙ ap (λ (k : ℕ). replicate k 0) m)
+    (sorts .leave-sheet .ensures) (terms .leave-sheet2 .ensures) (inputs .leave-sheet3 .ensures) (steps .leave-sheet4 .ensures)
 
 pub finish-spec : {M : Type 1} → statement M
 finish-spec =

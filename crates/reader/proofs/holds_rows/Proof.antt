@@ -21,18 +21,17 @@ mul-if3 c = search needs
 
 returns-3 : tie.Need-returns-3
 returns-3 c =
-    let the-if1 = c .before .before .before .before .if1 in
-    let the-if2 = c .before .before .if2 in
-    rw (le-leb _ _ (the-if1 .left), le-leb _ _ (the-if2 .left), lt-leb _ _ (c .if3 .taken))
+    let second = c .before .before in
+    rw (le-leb _ _ (second .before .before .if1 .left), le-leb _ _ (second .if2 .left), lt-leb _ _ (c .if3 .taken))
 
 mul-result : tie.Need-mul-result
 mul-result c = search needs
 
 returns-4 : tie.Need-returns-4
 returns-4 c =
-    let the-if1 = c .before .before .before .before .before .if1 in
-    let the-if2 = c .before .before .before .if2 in
-    rw (le-leb _ _ (the-if1 .left), le-leb _ _ (the-if2 .left), le-leb _ _ (c .before .if3 .left))
+    let third = c .before in
+    let second = third .before .before in
+    rw (le-leb _ _ (second .before .before .if1 .left), le-leb _ _ (second .if2 .left), le-leb _ _ (third .if3 .left))
 
 pub holds-rows-spec : {M : Type 1} → statement M
 holds-rows-spec =

@@ -13,9 +13,8 @@ same-length c = search needs
 
 returns : tie.Need-returns
 returns c =
-    let the-clear-numbers = c .before .before .clear-numbers in
-    let the-if1 = c .before .before .before .before .if1 in
-    the-clear-numbers .ensures ∙ rw (ne-eqb _ _ (the-if1 .taken))
+    let cleared = c .before .before in
+    cleared .clear-numbers .ensures ∙ rw (ne-eqb _ _ (cleared .before .before .if1 .taken))
 
 returns-2 : tie.Need-returns-2
 returns-2 c = rw (eq-eqb _ _ (c .if1 .left))

@@ -20,11 +20,11 @@ count-rows-requires-4 c κs = search needs
 
 returns : tie.Need-returns
 returns c =
-    let a = c .before .before .before .before .args in
-    let the-count-rows = c .before .before .before .count-rows in
-    let the-count-rows2 = c .before .before .count-rows2 in
-    λ (t : List ℕ). outcome-counts (a .code) (a .fault) (a .counts) t _ _ _ _ (the-count-rows .ensures)
-    (the-count-rows2 .ensures) (c .before .count-rows3 .ensures) (c .count-rows4 .ensures)
+    let third = c .before in
+    let second = third .before in
+    let first = second .before in
+    λ (t : List ℕ). outcome-counts _ (first .before .args .fault) (first .before .args .counts) t _ _ _ _
+    (first .count-rows .ensures) (second .count-rows2 .ensures) (third .count-rows3 .ensures) (c .count-rows4 .ensures)
 
 pub outcome-of-spec : {M : Type 1} → statement M
 outcome-of-spec =

@@ -1,18 +1,15 @@
 -- The lengths are compared first, and where they agree all bytes.
+use borrow.Author.Needs.{needs}
 use Prim.Native.Nat.{_+_, _*_, _-_}
 use mathlib.Core.Path.{_≡_, sym, _∙_}
 use native.Mathlib.Omega.{arith}
 use lib.ListN.{length}
 use Rattle.text_names.proofs.Laws.{held-not, held-by}
-use borrow.Author.Needs.{needs}
 use Rattle.text_names.proofs.holds_name.Statement.{statement}
 use Rattle.text_names.proofs.holds_name.Tie as tie
 
-mul-from : tie.Need-mul-from
-mul-from c = search needs
-
-add-wide : tie.Need-add-wide
-add-wide c = search needs
+mul-place : tie.Need-mul-place
+mul-place c = search needs
 
 shared-slice-read-wide : tie.Need-shared-slice-read-wide
 shared-slice-read-wide c = search needs
@@ -21,7 +18,12 @@ wide-requires : tie.Need-wide-requires
 wide-requires c κs = search needs
 
 returns : tie.Need-returns
-returns c = let a = c .before .before .before .before .before .args in held-not (a .table .now) (a .s) (a .name .now) (λ q. c .if1 .taken (c .before .wide .ensures ∙ q))
+returns c =
+    let place = c .before .before .before .before .before .args in
+    held-not (place .table .now) (place .s) (place .name .now) (λ q. c .if1 .taken (c .before .wide .ensures .0 ∙ q))
+
+add-from : tie.Need-add-from
+add-from c = search needs
 
 add-to : tie.Need-add-to
 add-to c = search needs
@@ -39,17 +41,22 @@ same-requires : tie.Need-same-requires
 same-requires c κs = search needs
 
 returns-2 : tie.Need-returns-2
-returns-2 c = let a = c .before .before .before .before .before .before .before .args in let n : a .s * 67 + length (a .name .now) - a .s * 67 ≡ length (a .name .now) = omega arith in let h = c .same .ensures in (rw n at h) ∙ held-by (a .table .now) (a .s) (a .name .now) (sym (c .before .before .before .wide .ensures) ∙ c .before .before .if1 .left)
+returns-2 c =
+    let told = c .before .before in
+    let a = told .before .before .before .before .before .args in
+    let n : a .s * 68 + 4 + length (a .name .now) - (a .s * 68 + 4) ≡ length (a .name .now) = omega arith in
+    let h = c .same .ensures in
+    (rw n at h) ∙ held-by (a .table .now) (a .s) (a .name .now) (sym (told .before .wide .ensures .0) ∙ told .if1 .left)
 
 pub holds-name-spec : {M : Type 1} → statement M
 holds-name-spec =
     tie.close
     (tie.spec
-    mul-from
-    add-wide
+    mul-place
     shared-slice-read-wide
     wide-requires
     returns
+    add-from
     add-to
     sub-same
     part-same-start

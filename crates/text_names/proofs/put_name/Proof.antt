@@ -1,6 +1,6 @@
 -- A name is put: its slot is written, and it is the last name of its tag.
-use Rattle.text_names.proofs.Laws.{put-is}
 use borrow.Author.Needs.{needs}
+use Rattle.text_names.proofs.Laws.{put-is}
 use Rattle.text_names.proofs.put_name.Statement.{statement}
 use Rattle.text_names.proofs.put_name.Tie as tie
 
@@ -29,7 +29,7 @@ same-length : tie.Need-same-length
 same-length c = search needs
 
 returns : tie.Need-returns
-returns c = let a = c .before .before .before .before .before .before .before .before .before .args in put-is (a .table .now) (a .base) (a .n) (a .name .now) (c .before .before .before .before .before .before .tag-of .result) (c .before .before .before .before .before .last-place .result) _ (c .before .before .before .before .before .before .tag-of .ensures) (c .before .before .before .before .before .last-place .ensures) (c .before .before .put-slot .ensures)
+returns c = search put-is
 
 pub put-name-spec : {M : Type 1} → statement M
 put-name-spec =

@@ -60,7 +60,8 @@ stayed = (stay-none (λ _. usize) yes, (stay-none (λ _. usize) yes, (stay-none 
 abbrev Advance : {M : Type 1} (𝓤 : URA M) (H : Heap 𝓤) (A : Atoms 𝓤) (at-mem : Memory → SProp 𝓤) (run : Routine → Fun 𝓤) → Contract 𝓤
 Advance 𝓤 H A at-mem run = tripleOf 𝓤 H A adv.signature (adv.spec 𝓤 H A at-mem run)
 
-module _ {M : Type 1} (𝓤 : URA M) (H : Heap 𝓤) (A : Atoms 𝓤) (W : Given 𝓤 H A) (at-mem : Memory → SProp 𝓤) (run : Routine → Fun 𝓤) (l a n : ℕ) (lf : l < 2 ^ 64) (af : a < 2 ^ 64) (nf : n < 2 ^ 8) where
+module _ {M : Type 1} (𝓤 : URA M) (H : Heap 𝓤) (A : Atoms 𝓤) (W : Given 𝓤 H A) (at-mem : Memory → SProp 𝓤) (run : Routine → Fun 𝓤) (l a n : ℕ)
+    (lf : l < 2 ^ 64) (af : a < 2 ^ 64) (nf : n < 2 ^ 8) where
   abbrev h : Position
   h = record { line = l; at = a }
 
@@ -76,8 +77,10 @@ module _ {M : Type 1} (𝓤 : URA M) (H : Heap 𝓤) (A : Atoms 𝓤) (W : Given
   exits : (r : Position) (v : Val) → r ≡ advanced h n → ent 𝓤 (sem 𝓤 H A (T.the-row .own r (v ∷ []))) (Post v)
   exits r v e =
       qed W (‵ (T.the-row .own r (v ∷ [])) ∷ []) ∵
-      suffices ! _ (ends-at 𝓤 H A self.ended stayed (self.clauses 𝓤 H A at-mem run) W ((tt, tt, tt, given, passed), tt) v r (tt, (tt, (tt, tt))) (tt, (tt, (tt, tt)))) $ says ! e $
-      nothing ! $ owned ! u8 (Is u8) (uint-makes 𝓤 H A W w8) n _ (refl, nf) $ fjoin ! $ owned ! usize (Is usize) (uint-makes 𝓤 H A W w64) a _ (refl, af) $ fjoin ! $
+      suffices ! _ (ends-at 𝓤 H A self.ended stayed (self.clauses 𝓤 H A at-mem run) W ((tt, tt, tt, given, passed), tt) v r (tt, (tt, (tt, tt)))
+      (tt, (tt, (tt, tt)))) $ says ! e $
+      nothing ! $ owned ! u8 (Is u8) (uint-makes 𝓤 H A W w8) n _ (refl, nf) $ fjoin ! $
+      owned ! usize (Is usize) (uint-makes 𝓤 H A W w64) a _ (refl, af) $ fjoin ! $
       owned ! usize (Is usize) (uint-makes 𝓤 H A W w64) l _ (refl, lf) $ fjoin ! $ nothing ! $ done !
 
   -- the reference to the local at the block k, under the name δ
@@ -88,29 +91,39 @@ module _ {M : Type 1} (𝓤 : URA M) (H : Heap 𝓤) (A : Atoms 𝓤) (W : Given
   abbrev to : ℕ → ℕ → GName → Advance 𝓤 H A at-mem run .Ghost
   to α k δ = (((α ∷ [], tt), (fullShare, tt), tt, (x k δ, (n, tt)), (vptr k 0 ∷ [], (vint w8 n ∷ [], tt))), tt)
 
-  goes : (α k : ℕ) (δ : GName) → ent 𝓤 (sep 𝓤 (A .lft (α ∷ []) fullShare) (sem 𝓤 H A (MutRef (named 0) (α ∷ []) T.the-row .own (x k δ) (vptr k 0 ∷ [])))) (Advance 𝓤 H A at-mem run .pre (to α k δ))
+  goes : (α k : ℕ) (δ : GName) → ent 𝓤 (sep 𝓤 (A .lft (α ∷ []) fullShare)
+      (sem 𝓤 H A (MutRef (named 0) (α ∷ []) T.the-row .own (x k δ) (vptr k 0 ∷ [])))) (Advance 𝓤 H A at-mem run .pre (to α k δ))
   goes α k δ =
-      qed W (‵ (flft (α ∷ []) fullShare) ∷ ‵ (MutRef (named 0) (α ∷ []) T.the-row .own (x k δ) (vptr k 0 ∷ [])) ∷ []) ∵ nothing ! $ move ! (1 ∷ 0 ∷ []) $ join ! $
-      nothing ! $ owned ! u8 (Is u8) (uint-makes 𝓤 H A W w8) n _ (refl, nf) $ fjoin ! $ move ! (2 ∷ 0 ∷ []) $ fjoin ! $ move ! (1 ∷ 0 ∷ []) $ join ! $ frame ! $ done !
+      qed W (‵ (flft (α ∷ []) fullShare) ∷ ‵ (MutRef (named 0) (α ∷ []) T.the-row .own (x k δ) (vptr k 0 ∷ [])) ∷ []) ∵ nothing ! $
+      move ! (1 ∷ 0 ∷ []) $ join ! $
+      nothing ! $ owned ! u8 (Is u8) (uint-makes 𝓤 H A W w8) n _ (refl, nf) $ fjoin ! $ move ! (2 ∷ 0 ∷ []) $ fjoin ! $ move ! (1 ∷ 0 ∷ []) $ join ! $
+      frame ! $ done !
 
   module _ (C : Calls 𝓤 H) (Λ : Loops 𝓤 H) (fm : FmC 𝓤 H (W .laws) C) (known : Triple 𝓤 (C #position·advance) (Advance 𝓤 H A at-mem run)) where
     walk : ent 𝓤 (onEntry 𝓤 H A self.signature tt tt given passed) (WpFn 𝓤 H C Λ code.function (vint w64 l ∷ vint w64 a ∷ vint w8 n ∷ []) Post)
     walk =
         qed W (‵ ftrue ∷ ‵ (owns (usize ∷ usize ∷ u8 ∷ []) given passed) ∷ []) ∵ enter ! C Λ code.function (vint w64 l ∷ vint w64 a ∷ vint w8 n ∷ []) _ $
         alloc1 ! (λ l₀. alloc1 ! (λ l₁. alloc1 ! (λ l₂. alloc1 ! (λ l₃. alloc1 ! (λ l₄. alloc1 ! (λ l₅. alloc1 ! (λ l₆. alloc0 ! $ params1 ! $
-        pass1 ! (init ! 10 refl (tt, record { fits = lf })) $ pass1 ! (init ! 8 refl (tt, record { fits = af })) $ pass1 ! (init ! 6 refl (tt, record { fits = nf })) $ pass0 ! $
-        assigns ! (agg ! (and-then ! (load ! (from ! (stop !)) (look ! 10 refl)) (and-then ! (load ! (from ! (stop !)) (look ! 8 refl)) (no-more !)))) (from ! (stop !)) (init ! 4 refl (tt, (record { fits = lf }, (record { fits = af }, tt)))) $
+        pass1 ! (init ! 10 refl (tt, record { fits = lf })) $ pass1 ! (init ! 8 refl (tt, record { fits = af })) $
+        pass1 ! (init ! 6 refl (tt, record { fits = nf })) $ pass0 ! $
+        assigns ! (agg ! (and-then ! (load ! (from ! (stop !)) (look ! 10 refl)) (and-then ! (load ! (from ! (stop !)) (look ! 8 refl)) (no-more !))))
+        (from ! (stop !)) (init ! 4 refl (tt, (record { fits = lf }, (record { fits = af }, tt)))) $
         assigns ! (addr ! (from ! (stop !))) (from ! (stop !)) (init ! 0 refl (tt, tt)) $
         -- the local is lent for a new lifetime
-        move ! (4 ∷ []) $ owned ! T.the-row (Is T.the-row) ((LL.makes T.the-type T′.the-plain) 𝓤 H A) h _ (LL.owes T.the-type T′.the-laws h ((refl, lf), ((refl, af), tt))) $ move ! (1 ∷ 0 ∷ []) $
+        move ! (4 ∷ []) $ owned ! T.the-row (Is T.the-row) ((LL.makes T.the-type T′.the-plain) 𝓤 H A) h _
+        (LL.owes T.the-type T′.the-laws h ((refl, lf), ((refl, af), tt))) $ move ! (1 ∷ 0 ∷ []) $
         use2 W (‵ (partAt T.the-row fullShare h l₄ 0)) (part-in 𝓤 H A W T.the-row refl fullShare h l₄ 0 (T′.lowered h)) $
         lft-new ! tt (λ α. move ! (1 ∷ []) $
-        use1 W (later (some (λ (δ : GName). ‵ (MutRef (named 0) (α ∷ []) T.the-row .own (x l₄ δ) (vptr l₄ 0 ∷ [])) ⊛ ‵ (flent (α ∷ []) (Body (mem T.the-row) l₄ 0 δ))))) (lends-ref 𝓤 H A W T.the-row (named 0) (α ∷ []) h l₄ 0) $ await ! tt $ pick ! (λ δ. split ! $
+        use1 W (later (some (λ (δ : GName). ‵ (MutRef (named 0) (α ∷ []) T.the-row .own (x l₄ δ) (vptr l₄ 0 ∷ [])) ⊛ ‵
+        (flent (α ∷ []) (Body (mem T.the-row) l₄ 0 δ))))) (lends-ref 𝓤 H A W T.the-row (named 0) (α ∷ []) h l₄ 0) $ await ! tt $ pick ! (λ δ. split ! $
         move ! (2 ∷ 0 ∷ []) $ use2 W (raw (Advance 𝓤 H A at-mem run .pre (to α l₄ δ))) (goes α l₄ δ) $
         -- [what the callee asks; the lender's part; _6; …; _5; …; …; _3; …; _2; …; _1; …; room for _0; …]
-        calls-at ! fm (Advance 𝓤 H A at-mem run) known (to α l₄ δ) (and-then ! (load ! (from ! (stop !)) (look ! 2 refl)) (and-then ! (load ! (from ! (stop !)) (look ! 7 refl)) (no-more !))) (λ w.
-        use1 W (later (some (λ (r : Unit {0}). ((‵ (flft (α ∷ []) fullShare) ⊛ ‵ ftrue) ⊛ ‵ (unit .own r (w ∷ []))) ⊛ raw (ensured 𝓤 H A adv.ended (adv.clauses 𝓤 H A at-mem run) (α ∷ [], tt) (x l₄ δ, (n, tt)) tt r)))) (id⊢ 𝓤 _) $ await ! tt $ pick ! (λ r.
-        split ! $ move ! (1 ∷ []) $ use1 W (some (λ (zs : Position × (Unit {0} × Unit {0})). ‵ (lasts adv.ended (α ∷ [], tt) (x l₄ δ, (n, tt)) zs) ⊛ raw (fact 𝓤 (zs .0 ≡ advanced h n)))) (id⊢ 𝓤 _) $ pick ! (λ zs.
+        calls-at ! fm (Advance 𝓤 H A at-mem run) known (to α l₄ δ)
+        (and-then ! (load ! (from ! (stop !)) (look ! 2 refl)) (and-then ! (load ! (from ! (stop !)) (look ! 7 refl)) (no-more !))) (λ w.
+        use1 W (later (some (λ (r : Unit {0}). ((‵ (flft (α ∷ []) fullShare) ⊛ ‵ ftrue) ⊛ ‵ (unit .own r (w ∷ []))) ⊛ raw
+        (ensured 𝓤 H A adv.ended (adv.clauses 𝓤 H A at-mem run) (α ∷ [], tt) (x l₄ δ, (n, tt)) tt r)))) (id⊢ 𝓤 _) $ await ! tt $ pick ! (λ r.
+        split ! $ move ! (1 ∷ []) $ use1 W (some (λ (zs : Position × (Unit {0} × Unit {0})). ‵
+        (lasts adv.ended (α ∷ [], tt) (x l₄ δ, (n, tt)) zs) ⊛ raw (fact 𝓤 (zs .0 ≡ advanced h n)))) (id⊢ 𝓤 _) $ pick ! (λ zs.
         split ! $ move ! (1 ∷ []) $ heard ! (zs .0 ≡ advanced h n) (λ e. fsplit ! $
         move ! (2 ∷ []) $ split ! $ move ! (1 ∷ []) $ peeks ! unit (Is unit) (shows 𝓤 H A unit) r (w ∷ []) (λ is.
         -- [the result; the token; the last value; …; the lender's part; _6; …; _5; …; …; _3; …; _2; …; _1; …; room for _0; …]
@@ -118,24 +131,33 @@ module _ {M : Type 1} (𝓤 : URA M) (H : Heap 𝓤) (A : Atoms 𝓤) (W : Given
         -- the lifetime is ended, and the local comes back at that value
         move ! (1 ∷ []) $ split ! $ lft-end ! tt $ move ! (0 ∷ 5 ∷ 3 ∷ []) $
         use3 W (later (‵ (partAt T.the-row fullShare (zs .0) l₄ 0))) (ref-back 𝓤 H A W T.the-row (α ∷ []) δ (zs .0) l₄ 0) $ await ! tt $
-        use1 W (some (λ (v : Val). ‵ (fat fullShare T′.mir l₄ 0 v) ⊛ ‵ (T.the-row .own (zs .0) (v ∷ [])))) (part-out 𝓤 H A W T.the-row refl fullShare (zs .0) l₄ 0) $ pick ! (λ v. split ! $
+        use1 W (some (λ (v : Val). ‵ (fat fullShare T′.mir l₄ 0 v) ⊛ ‵ (T.the-row .own (zs .0) (v ∷ []))))
+        (part-out 𝓤 H A W T.the-row refl fullShare (zs .0) l₄ 0) $ pick ! (λ v. split ! $
         move ! (1 ∷ []) $ peeks ! T.the-row (Is T.the-row) (shows 𝓤 H A T.the-row) (zs .0) (v ∷ []) (λ was.
         -- [what the position owns; _4; …; …; …; _6; …; _5; …; …; _3; …; _2; …; _1; …; room for _0; …]
-        assigns ! (of-opd ! (load ! (from ! (stop !)) (look ! 1 refl))) (from ! (stop !)) (init ! 16 refl (LL.lawful T.the-type T′.the-laws 𝓤 H A W .typed (zs .0) _ was .0)) $
-        returns ! (look ! 16 refl) $ forget ! 1 refl $ forget ! 5 refl $ forget ! 7 refl $ forget ! 10 refl $ forget ! 12 refl $ forget ! 14 refl $ forget ! 16 refl $
-        move ! (16 ∷ 17 ∷ []) $ free1 ! $ move ! (14 ∷ 15 ∷ []) $ free1 ! $ move ! (12 ∷ 13 ∷ []) $ free1 ! $ move ! (10 ∷ 11 ∷ []) $ free1 ! $ move ! (1 ∷ 9 ∷ []) $ free1 ! $ move ! (6 ∷ 7 ∷ []) $ free1 ! $ move ! (4 ∷ 5 ∷ []) $ free1 ! $ free0 ! $
+        assigns ! (of-opd ! (load ! (from ! (stop !)) (look ! 1 refl))) (from ! (stop !))
+        (init ! 16 refl (LL.lawful T.the-type T′.the-laws 𝓤 H A W .typed (zs .0) _ was .0)) $
+        returns ! (look ! 16 refl) $ forget ! 1 refl $ forget ! 5 refl $ forget ! 7 refl $ forget ! 10 refl $ forget ! 12 refl $ forget ! 14 refl $
+        forget ! 16 refl $
+        move ! (16 ∷ 17 ∷ []) $ free1 ! $ move ! (14 ∷ 15 ∷ []) $ free1 ! $ move ! (12 ∷ 13 ∷ []) $ free1 ! $ move ! (10 ∷ 11 ∷ []) $ free1 ! $
+        move ! (1 ∷ 9 ∷ []) $ free1 ! $ move ! (6 ∷ 7 ∷ []) $ free1 ! $ move ! (4 ∷ 5 ∷ []) $ free1 ! $ free0 ! $
         keep ! (0 ∷ []) $ by ! (exits (zs .0) v e)))))))))))))))))
 
 module _ {M : Type 1} (𝓤 : URA M) (H : Heap 𝓤) (A : Atoms 𝓤) (W : Given 𝓤 H A) (at-mem : Memory → SProp 𝓤) (run : Routine → Fun 𝓤) where
   self-walks : (C : Calls 𝓤 H) (Λ : Loops 𝓤 H) → FmC 𝓤 H (W .laws) C → Triple 𝓤 (C #position·advance) (Advance 𝓤 H A at-mem run)
       → Walks 𝓤 H A self.ended stayed (WpFn 𝓤 H C Λ code.function) (self.clauses 𝓤 H A at-mem run)
-  self-walks C Λ fm known = walked 𝓤 H A self.ended stayed (self.clauses 𝓤 H A at-mem run) (WpFn 𝓤 H C Λ code.function) (λ κs. (uint-vals w64, (uint-vals w64, (uint-vals w8, tt)))) (λ κs. (uint-tells w64, (uint-tells w64, (uint-tells w8, tt))))
-      (λ κs qs bounds a g are. via 𝓤 _ (fst∗ 𝓤 _ (emp 𝓤)) (walk 𝓤 H A W at-mem run (a .0) (a .1 .0) (a .1 .1 .0) (are .0 .1) (are .1 .0 .1) (are .1 .1 .0 .1) C Λ fm known))
+  self-walks C Λ fm known = walked 𝓤 H A self.ended stayed (self.clauses 𝓤 H A at-mem run) (WpFn 𝓤 H C Λ code.function)
+      (λ κs. (uint-vals w64, (uint-vals w64, (uint-vals w8, tt)))) (λ κs. (uint-tells w64, (uint-tells w64, (uint-tells w8, tt))))
+      (λ κs qs bounds a g are. via 𝓤 _ (fst∗ 𝓤 _ (emp 𝓤))
+      (walk 𝓤 H A W at-mem run (a .0) (a .1 .0) (a .1 .1 .0) (are .0 .1) (are .1 .0 .1) (are .1 .1 .0 .1) C Λ fm known))
 
 self-meets : {M : Type 1} (𝓤 : URA M) (H : Heap 𝓤) (A : Atoms 𝓤) (W : Given 𝓤 H A) (at-mem : Memory → SProp 𝓤) (run : Routine → Fun 𝓤) (𝓣 : Tables 𝓤 H)
     → Triple 𝓤 (𝓣 .C #position·advance) (Advance 𝓤 H A at-mem run)
     → Meets 𝓤 H A self.signature (WpFn 𝓤 H (𝓣 .C) (𝓣 .Λ) code.function) (self.spec 𝓤 H A at-mem run)
-self-meets 𝓤 H A W at-mem run 𝓣 known = walk-meets 𝓤 H A self.ended stayed W (goes-none 𝓤 H A W 0 (λ _. usize) yes (λ κs x f. refl), (goes-none 𝓤 H A W 0 (λ _. usize) yes (λ κs x f. refl), (goes-none 𝓤 H A W 0 (λ _. u8) yes (λ κs x f. refl), tt)))
+self-meets 𝓤 H A W at-mem run 𝓣 known = walk-meets 𝓤 H A self.ended stayed W (
+  goes-none 𝓤 H A W 0 (λ _. usize) yes (λ κs x f. refl),
+  (goes-none 𝓤 H A W 0 (λ _. usize) yes (λ κs x f. refl), (goes-none 𝓤 H A W 0 (λ _. u8) yes (λ κs x f. refl), tt)),
+)
     (self.clauses 𝓤 H A at-mem run) (WpFn 𝓤 H (𝓣 .C) (𝓣 .Λ) code.function) (WpFn-mono 𝓤 H (W .laws) 𝓣 code.function)
     (self-walks 𝓤 H A W at-mem run (𝓣 .C) (𝓣 .Λ) (fmOf 𝓤 H (W .laws) 𝓣) known)
 

@@ -1,0 +1,284 @@
+// What one line of a text does to the reader's state and to the lent sheets.
+ghost use mathlib.Core.Path.{_≡_};
+ghost use mathlib.Core.List.{List};
+ghost use Prim.Native.Nat.{ℕ, _+_, _≤_, _<_, _^_};
+ghost use lib.ListN.{length, set};
+ghost use lib.Seq.{sets};
+ghost use Rattle.text_fields.specs.Split.{pieces, same};
+ghost use Rattle.text_rows.specs.View.{keptOf, takenOf, Bounded, Within};
+ghost use Rattle.text_lines.specs.Lines.{quiet, bad, enter, headerOf, header, nextSheet, rowOf, row, readLine, numbered, lineEffect};
+ghost use Rattle.text_lines.specs.View.{controlOf, effectOf, StepBounded, sheetsOf, stored, LineEnded};
+use text_rows::Counts;
+use text_rows::Row;
+
+// The sheets, in the order of the text.
+pub enum Sheet {
+    Sorts,
+    Terms,
+    Inputs,
+    Steps,
+}
+
+// Where the reading of lines stands.
+pub struct Core {
+    pub code: u16,
+    pub place: usize,
+    pub line: usize,
+    pub sheet: Sheet,
+    pub headed: bool,
+    pub counts: Counts,
+}
+
+// What a line does: where the reading stands after it, and the first `width` numbers of its row.
+struct Step {
+    core: Core,
+    cells: [u16; 9],
+    width: usize,
+}
+
+// A line that adds no row.
+fn quiet_line(core: Core) -> Step
+    requires { ⌜ Bounded (core .counts) ⌝ }
+    ensures { λ r. ⌜ ((t : List ℕ) → effectOf r t ≡ quiet (controlOf core t)) ⌝ }
+    ensures { λ r. ⌜ StepBounded r ⌝ }
+{
+    Step {
+        core,
+        cells: [0u16; 9],
+        width: 0,
+    }
+}
+
+// A bad line.
+fn bad_line(core: Core, code: u16, place: usize) -> Step
+    requires { ⌜ Bounded (core .counts) ⌝ }
+    ensures { λ r. ⌜ ((t : List ℕ) → effectOf r t ≡ bad (controlOf core t) code place) ⌝ }
+    ensures { λ r. ⌜ StepBounded r ⌝ }
+{
+    let sheet = core.sheet;
+    let counts = core.counts;
+    quiet_line(Core {
+        code,
+        place,
+        line: core.line,
+        sheet,
+        headed: core.headed,
+        counts,
+    })
+}
+
+// The lines of a sheet begin, or have begun.
+fn enter_sheet(core: Core, sheet: Sheet, headed: bool) -> Step
+    requires { ⌜ Bounded (core .counts) ⌝ }
+    ensures { λ r. ⌜ ((t : List ℕ) → effectOf r t ≡ enter (controlOf core t) sheet headed) ⌝ }
+    ensures { λ r. ⌜ StepBounded r ⌝ }
+{
+    let counts = core.counts;
+    quiet_line(Core {
+        code: core.code,
+        place: core.place,
+        line: core.line,
+        sheet,
+        headed,
+        counts,
+    })
+}
+
+// Whether a line is a sheet's header.
+fn is_header(sheet: Sheet, line: &[u8]) -> bool
+    ensures { λ r. ⌜ r ≡ same (now (line .entry)) (headerOf sheet) ⌝ }
+{
+    match sheet {
+        Sheet::Sorts => text_fields::same(line, b"sort index value"),
+        Sheet::Terms => text_fields::same(line, b"term head sort a b c d"),
+        Sheet::Inputs => text_fields::same(line, b"term value"),
+        Sheet::Steps => text_fields::same(line, b"step rule term value p q r s t"),
+    }
+}
+
+// The first line of a sheet.
+fn header_line(core: Core, line: &[u8]) -> Step
+    requires { ⌜ Bounded (core .counts) ⌝ }
+    ensures { λ r. ⌜ ((t : List ℕ) → effectOf r t ≡ header (controlOf core t) (now (line .entry))) ⌝ }
+    ensures { λ r. ⌜ StepBounded r ⌝ }
+{
+    let sheet = core.sheet;
+    if is_header(sheet, line) {
+        return enter_sheet(core, sheet, true);
+    }
+    bad_line(core, 31, 0)
+}
+
+// An empty line.
+fn empty_line(core: Core) -> Step
+    requires { ⌜ Bounded (core .counts) ⌝ }
+    ensures { λ r. ⌜ ((t : List ℕ) → effectOf r t ≡ nextSheet (controlOf core t) (core .sheet)) ⌝ }
+    ensures { λ r. ⌜ StepBounded r ⌝ }
+{
+    let sheet = core.sheet;
+    match sheet {
+        Sheet::Sorts => enter_sheet(core, Sheet::Terms, false),
+        Sheet::Terms => enter_sheet(core, Sheet::Inputs, false),
+        Sheet::Inputs => enter_sheet(core, Sheet::Steps, false),
+        Sheet::Steps => bad_line(core, 31, 0),
+    }
+}
+
+// A row of a sheet.
+fn sheet_row(sheet: Sheet, counts: Counts, line: &[u8], names: &mut [u8; 47232]) -> Row
+    requires { ⌜ Bounded counts ⌝ }
+    ensures { λ r. ⌜ takenOf r (now (names .exit)) ≡ rowOf sheet (keptOf counts (now (names .entry))) (pieces 32 (now (line .entry))) ⌝ }
+    ensures { λ r. ⌜ Within r ⌝ }
+{
+    match sheet {
+        Sheet::Sorts => text_rows::sort_row(counts, line, names),
+        Sheet::Terms => text_terms::term_row(counts, line, names),
+        Sheet::Inputs => text_steps::input_row(counts, line, names),
+        Sheet::Steps => text_steps::step_row(counts, line, names),
+    }
+}
+
+// What a row's line does.
+fn row_line(core: Core, taken: Row) -> Step
+    requires { ⌜ Within taken ⌝ }
+    ensures { λ r. ⌜ ((t t′ : List ℕ) → effectOf r t′ ≡ row (controlOf core t) (takenOf taken t′)) ⌝ }
+    ensures { λ r. ⌜ StepBounded r ⌝ }
+{
+    let sheet = core.sheet;
+    let counts = taken.counts;
+    let cells = taken.cells;
+    Step {
+        core: Core {
+            code: taken.code,
+            place: taken.place,
+            line: core.line,
+            sheet,
+            headed: core.headed,
+            counts,
+        },
+        cells,
+        width: taken.width,
+    }
+}
+
+// A line that is not too long, after good ones.
+fn read_line(core: Core, line: &[u8], names: &mut [u8; 47232]) -> Step
+    requires { ⌜ Bounded (core .counts) ⌝ }
+    ensures { λ r. ⌜ effectOf r (now (names .exit)) ≡ readLine (controlOf core (now (names .entry))) (now (line .entry)) ⌝ }
+    ensures { λ r. ⌜ StepBounded r ⌝ }
+{
+    if !core.headed {
+        return header_line(core, line);
+    }
+    if line.len() == 0 {
+        return empty_line(core);
+    }
+    let sheet = core.sheet;
+    let counts = core.counts;
+    let taken = sheet_row(sheet, counts, line, names);
+    row_line(core, taken)
+}
+
+// The number of the line that is read.
+fn number_line(core: Core, n: usize) -> Core
+    ensures { λ r. ⌜ ((t : List ℕ) → controlOf r t ≡ numbered (controlOf core t) n) ⌝ }
+    ensures { λ r. ⌜ r .counts ≡ core .counts ⌝ }
+{
+    let sheet = core.sheet;
+    let counts = core.counts;
+    Core {
+        code: core.code,
+        place: core.place,
+        line: n,
+        sheet,
+        headed: core.headed,
+        counts,
+    }
+}
+
+// What line n does, after good lines.
+fn line_step(core: Core, n: usize, l: &[u8], names: &mut [u8; 47232]) -> Step
+    requires { ⌜ Bounded (core .counts) ⌝ }
+    requires { ⌜ core .code ≡ 0 ⌝ }
+    ensures { λ r. ⌜ effectOf r (now (names .exit)) ≡ lineEffect (controlOf core (now (names .entry))) n (now (l .entry)) ⌝ }
+    ensures { λ r. ⌜ StepBounded r ⌝ }
+{
+    let here = number_line(core, n);
+    if l.len() > 525 {
+        return bad_line(here, 31, 0);
+    }
+    read_line(here, l, names)
+}
+
+// Stores a number where there is room for it.
+fn store(sheet: &mut [u16], at: usize, v: u16)
+    ensures { λ _. ⌜ now (sheet .exit) ≡ set (now (sheet .entry)) at v ⌝ }
+{
+    if at < sheet.len() {
+        sheet[at] = v;
+    }
+}
+
+// Stores a row's numbers from `at` on, those for which there is room.
+fn store_all(sheet: &mut [u16], at: usize, cells: &[u16])
+    requires { ⌜ at + length (now cells) < 2 ^ 64 ⌝ }
+    ensures { λ _. ⌜ now (sheet .exit) ≡ sets (now (sheet .entry)) at (now (cells .entry)) ⌝ }
+{
+    let mut j = 0;
+    while j < cells.len() {
+        store(sheet, at + j, cells[j]);
+        j += 1;
+    }
+}
+
+// Stores a row in the sheet that its line goes to, behind the rows that the sheet has.
+fn store_row(
+    sheet: Sheet,
+    counts: Counts,
+    cells: &[u16],
+    sorts: &mut [u16],
+    terms: &mut [u16],
+    inputs: &mut [u16],
+    steps: &mut [u16],
+)
+    requires { ⌜ Bounded counts ⌝ }
+    requires { ⌜ length (now cells) ≤ 9 ⌝ }
+    ensures { λ _. ⌜ ((t : List ℕ) → sheetsOf (now (sorts .exit)) (now (terms .exit)) (now (inputs .exit)) (now (steps .exit))
+        ≡ stored sheet (keptOf counts t)
+        (sheetsOf (now (sorts .entry)) (now (terms .entry)) (now (inputs .entry)) (now (steps .entry))) (now (cells .entry))) ⌝ }
+{
+    match sheet {
+        Sheet::Sorts => store_all(sorts, counts.sorts * 2, cells),
+        Sheet::Terms => store_all(terms, counts.terms * 6, cells),
+        Sheet::Inputs => store_all(inputs, counts.inputs * 2, cells),
+        Sheet::Steps => store_all(steps, counts.steps * 9, cells),
+    }
+}
+
+// Line n, after good lines: it is read, and its row stored.
+pub fn end_line(
+    core: Core,
+    n: usize,
+    l: &[u8],
+    names: &mut [u8; 47232],
+    sorts: &mut [u16],
+    terms: &mut [u16],
+    inputs: &mut [u16],
+    steps: &mut [u16],
+) -> Core
+    requires { ⌜ Bounded (core .counts) ⌝ }
+    requires { ⌜ core .code ≡ 0 ⌝ }
+    ensures { λ r. ⌜ LineEnded (controlOf core (now (names .entry))) n (now (l .entry))
+        (sheetsOf (now (sorts .entry)) (now (terms .entry)) (now (inputs .entry)) (now (steps .entry)))
+        (controlOf r (now (names .exit)))
+        (sheetsOf (now (sorts .exit)) (now (terms .exit)) (now (inputs .exit)) (now (steps .exit))) ⌝ }
+    ensures { λ r. ⌜ Bounded (r .counts) ⌝ }
+{
+    let step = line_step(core, n, l, names);
+    let sheet = core.sheet;
+    let counts = core.counts;
+    let cells = step.cells;
+    let width = step.width;
+    store_row(sheet, counts, &cells[..width], sorts, terms, inputs, steps);
+    step.core
+}

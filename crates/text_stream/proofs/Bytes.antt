@@ -1,0 +1,82 @@
+-- Laws of the stream: a byte, and the bytes of a piece.
+use Prim.Native.Nat.{ℕ, zero, suc, _+_, _≤_, _<_}
+use mathlib.Core.Path.{_≡_, refl, ap, sym, _∙_}
+use mathlib.Core.Bool.{Bool, true, false}
+use mathlib.Core.List.{List, [], _∷_, _++_}
+use native.Mathlib.Omega.{arith}
+use native.Mathlib.Numerals.{add-one}
+use borrow.Author.Tests.{ltb-true, ltb-false, eqb-true}
+use lib.Dec.{eqb, leb, ltb}
+use lib.ListN.{length, take, drop, getD, set, drop-of-length-le}
+use lib.Seq.{drop-cons, take-suc-set, set-out}
+use Rattle.text_fields.specs.Split.{pick, before}
+use Rattle.text_fields.specs.Class.{classOf, isNewline}
+use Rattle.text_fields.specs.declared.ByteClass.the-variants.{Space, Newline, Name, Other}
+use Rattle.text_position.specs.declared.Position.{Position}
+use Rattle.text_position.specs.Place.{advanced}
+use Rattle.text_lines.specs.Lines.{Control}
+use Rattle.text_lines.specs.View.{Sheets}
+use Rattle.text_stream.specs.Stream.{Stream, stepByte, feedAll, holding}
+
+-- feeding the bytes from i on
+module _ (s : Stream) (l : List ℕ) (i : ℕ) where
+  pub feed-more : i < length l → feedAll s (drop i l) ≡ feedAll (stepByte s (getD l i 0)) (drop (i + 1) l)
+  feed-more h = rw (drop-cons l i 0, add-one)
+
+  pub feed-end : length l ≤ i → feedAll s (drop i l) ≡ s
+  feed-end h = rw drop-of-length-le
+
+-- piece after piece is the whole
+pub feed-append : (s : Stream) (xs ys : List ℕ) → feedAll s (xs ++ ys) ≡ feedAll (feedAll s xs) ys
+feed-append s [] ys = refl
+feed-append s (x ∷ xs) ys = feed-append (stepByte s x) xs ys
+
+-- a byte ends a line just when it is 10
+pub newline-is : (b : ℕ) → isNewline (classOf b) ≡ eqb b 10
+newline-is b = one (eqb b 32) refl where
+  three : (x y : Bool) → eqb b 10 ≡ false → isNewline (pick x (pick y Name Other) Other) ≡ eqb b 10
+  three true true e = sym e
+  three true false e = sym e
+  three false y e = sym e
+
+  two : (t : Bool) → eqb b 10 ≡ t → isNewline (pick t Newline (pick (leb 33 b) (pick (leb b 126) Name Other) Other)) ≡ eqb b 10
+  two true e = sym e
+  two false e = three (leb 33 b) (leb b 126) e
+
+  one : (t : Bool) → eqb b 32 ≡ t → isNewline (pick t Space (pick (eqb b 10) Newline (pick (leb 33 b) (pick (leb b 126) Name Other) Other))) ≡ eqb b 10
+  one true e = let z : b ≡ 32 = eqb-true b 32 e in rw z
+  one false e = two (eqb b 10) refl
+
+-- a byte of an unfinished line is held, as far as the buffer reaches
+module _ (pos : Position) (line : List ℕ) (b : ℕ) where
+  grown : (at : ℕ) → length line ≡ 526
+      → take (pick (ltb at 526) (at + 1) at) (set line at b) ≡ pick (ltb at 526) (take at line ++ (b ∷ [])) (take at line)
+  grown at h = go (ltb at 526) refl where
+    go : (x : Bool) → ltb at 526 ≡ x → take (pick x (at + 1) at) (set line at b) ≡ pick x (take at line ++ (b ∷ [])) (take at line)
+    go true e = let k = ltb-true at 526 e in rw add-one (take-suc-set line at b (omega arith))
+    go false e = let k = ltb-false at 526 e in rw (set-out line at b (omega arith))
+
+  pub step-plain : (next : Position) (line′ : List ℕ) (c : Control) (s : Sheets)
+      → next ≡ advanced pos b → isNewline (classOf b) ≡ false → length line ≡ 526 → line′ ≡ set line (pos .at) b
+      → holding next line′ c s ≡ stepByte (holding pos line c s) b
+  unfolding stepByte
+  step-plain next line′ c s is e h g = rw (is, g, e, grown (pos .at) h)
+
+-- no byte is a newline
+clear-at : (l : List ℕ) (i : ℕ) → before 10 l ≡ length l → i < length l → eqb (getD l i 0) 10 ≡ false
+clear-at [] i h k = absurd (omega arith)
+clear-at (b ∷ bs) i h k = go (clear-at bs) i (eqb b 10) refl h k where
+  go : ((j : ℕ) → before 10 bs ≡ length bs → j < length bs → eqb (getD bs j 0) 10 ≡ false)
+      → (j : ℕ) (t : Bool) → eqb b 10 ≡ t → pick t 0 (suc (before 10 bs)) ≡ suc (length bs) → j < suc (length bs) → eqb (getD (b ∷ bs) j 0) 10 ≡ false
+  go ih j true e q m = absurd (omega arith)
+  go ih zero false e q m = e
+  go ih (suc j) false e q m = ih j (omega arith) (omega arith)
+
+pub hold-more : (pos : Position) (line l : List ℕ) (i : ℕ) {next : Position} {line′ : List ℕ} (c : Control) (s : Sheets)
+    → before 10 l ≡ length l → i < length l → length line ≡ 526
+    → line′ ≡ set line (pos .at) (getD l i 0) → next ≡ advanced pos (getD l i 0)
+    → feedAll (holding next line′ c s) (drop (i + 1) l) ≡ feedAll (holding pos line c s) (drop i l)
+hold-more pos line l i {next} {line′} c s clear h m g is =
+    ap (λ (x : Stream). feedAll x (drop (i + 1) l))
+    (step-plain pos line (getD l i 0) next line′ c s is (newline-is (getD l i 0) ∙ clear-at l i clear h) m g)
+    ∙ sym (feed-more (holding pos line c s) l i h)
