@@ -1,4 +1,2 @@
 pub mod Laws
-pub mod Cut
 pub mod Lines
-pub mod Splits

@@ -1,6 +1,6 @@
 -- Laws of rows, over plain lists and counts.
 use Prim.Native.Nat.{ℕ, suc, _+_, _≤_, _<_}
-use mathlib.Core.Path.{_≡_, refl}
+use mathlib.Core.Path.{_≡_, refl, sym, _∙_}
 use mathlib.Core.Bool.{Bool, true, false}
 use mathlib.Core.List.{List, [], _∷_, _++_}
 use native.Mathlib.Omega.{arith}
@@ -25,14 +25,16 @@ use Rattle.text_rows.proofs.Fields.{field-named, field-short}
 index-later : (k : ℕ) (l : List (List ℕ)) (f : List ℕ) (i : ℕ) → indexFrom k l f ≡ At i → indexFrom (suc k) l f ≡ At (suc i)
 index-later k [] f i e = absurd (let z : _≡_ {A = ℕ} 0 1 = cc in omega arith)
 index-later k (x ∷ xs) f i e = go (index-later (suc k) xs f i) (same x f) e where
-  go : (indexFrom (suc k) xs f ≡ At i → indexFrom (suc (suc k)) xs f ≡ At (suc i)) → (b : Bool) → pick b (At k) (indexFrom (suc k) xs f) ≡ At i → pick b (At (suc k)) (indexFrom (suc (suc k)) xs f) ≡ At (suc i)
+  go : (indexFrom (suc k) xs f ≡ At i → indexFrom (suc (suc k)) xs f ≡ At (suc i)) → (b : Bool) → pick b (At k) (indexFrom (suc k) xs f) ≡ At i
+      → pick b (At (suc k)) (indexFrom (suc (suc k)) xs f) ≡ At (suc i)
   go ih true p = let q : k ≡ i = cc in rw q
   go ih false p = ih p
 
 index-nowhere : (k : ℕ) (l : List (List ℕ)) (f : List ℕ) → indexFrom k l f ≡ Nothing → indexFrom (suc k) l f ≡ Nothing
 index-nowhere k [] f e = refl
 index-nowhere k (x ∷ xs) f e = go (index-nowhere (suc k) xs f) (same x f) e where
-  go : (indexFrom (suc k) xs f ≡ Nothing → indexFrom (suc (suc k)) xs f ≡ Nothing) → (b : Bool) → pick b (At k) (indexFrom (suc k) xs f) ≡ Nothing → pick b (At (suc k)) (indexFrom (suc (suc k)) xs f) ≡ Nothing
+  go : (indexFrom (suc k) xs f ≡ Nothing → indexFrom (suc (suc k)) xs f ≡ Nothing) → (b : Bool) → pick b (At k) (indexFrom (suc k) xs f) ≡ Nothing
+      → pick b (At (suc k)) (indexFrom (suc (suc k)) xs f) ≡ Nothing
   go ih true p = absurd (let z : _≡_ {A = ℕ} 0 1 = cc in omega arith)
   go ih false p = ih p
 
@@ -106,23 +108,42 @@ module _ (k : Kept) (fs : List (List ℕ)) where
       unfolding sortRow
       sort-new e = rw (good, lt-ltb (length (k .sorts)) 32 room, e)
 
+-- a name that was looked for, of the field that was taken
+pub told-taken : (names : List (List ℕ)) {f g : List ℕ} {r v : Bool} → r ≡ isTaken names f → f ≡ g → r ≡ v → isTaken names g ≡ v
+told-taken names p q e = rw (sym q) (sym p ∙ e)
+
+abbrev one-sort-more : Counts → Counts
+one-sort-more n = record { sorts = n .sorts + 1; terms = n .terms; heads = n .heads; inputs = n .inputs; steps = n .steps }
+
 -- a sort's name put into the table
 module _ (n : Counts) (t name : List ℕ) (size : length t ≡ 47232) (b : Bounded n) (room : n .sorts < 32) where
   pub sort-put : named name ≡ true → length name ≤ 64 → isTaken (namesFrom t 0 (n .sorts)) name ≡ false → (t′ : List ℕ) → t′ ≡ withName t 0 (n .sorts) name
-      → keptOf (record { sorts = n .sorts + 1; terms = n .terms; heads = n .heads; inputs = n .inputs; steps = n .steps }) t′
-      ≡ record { sorts = namesFrom t 0 (n .sorts) ++ (name ∷ []); terms = namesFrom t 32 (n .terms); heads = namesFrom t 288 (n .heads); inputs = n .inputs; steps = n .steps }
+      → keptOf (one-sort-more n) t′ ≡ record {
+        sorts = namesFrom t 0 (n .sorts) ++ (name ∷ []);
+        terms = namesFrom t 32 (n .terms);
+        heads = namesFrom t 288 (n .heads);
+        inputs = n .inputs;
+        steps = n .steps;
+      }
   sort-put g h new t′ e =
       let low : 0 ≤ 288 = omega arith in
       let few : n .sorts < 256 = omega arith in
-      rw
-      (e, names-put t 0 (n .sorts) name size low few h (named-byte name g) (untaken (namesFrom t 0 (n .sorts)) name new), names-after t 0 (n .sorts) name size low few h 32 (n .terms) (omega arith) (omega arith) (omega arith), names-after t 0 (n .sorts) name size low few h 288 (n .heads) (omega arith) (omega arith) (omega arith))
+      let put = names-put t 0 (n .sorts) name size low few h (named-byte name g) (untaken (namesFrom t 0 (n .sorts)) name new) in
+      let terms = names-after t 0 (n .sorts) name size low few h 32 (n .terms) (omega arith) (omega arith) (omega arith) in
+      let heads = names-after t 0 (n .sorts) name size low few h 288 (n .heads) (omega arith) (omega arith) (omega arith) in
+      rw (e, put, terms, heads)
 
   -- a sort row stored
   pub sort-stored : (fs : List (List ℕ)) → shapeOf 3 0 fs ≡ Good → (index value : ℕ)
       → index ≡ sortRef (namesFrom t 0 (n .sorts)) (getD fs 1 []) → value ≡ sortRef (namesFrom t 0 (n .sorts)) (getD fs 2 [])
       → name ≡ getD fs 0 [] → isTaken (namesFrom t 0 (n .sorts)) (getD fs 0 []) ≡ false → (t′ : List ℕ) → t′ ≡ withName t 0 (n .sorts) name
-      → takenOf (record { code = 0; place = 0; counts = record { sorts = n .sorts + 1; terms = n .terms; heads = n .heads; inputs = n .inputs; steps = n .steps }; cells = index ∷ value ∷ 0 ∷ 0 ∷ 0 ∷ 0 ∷ 0 ∷ 0 ∷ 0 ∷ []; width = 2 }) t′
-      ≡ sortAdded (keptOf n t) fs
+      → takenOf (record {
+        code = 0;
+        place = 0;
+        counts = one-sort-more n;
+        cells = index ∷ value ∷ 0 ∷ 0 ∷ 0 ∷ 0 ∷ 0 ∷ 0 ∷ 0 ∷ [];
+        width = 2;
+      }) t′ ≡ sortAdded (keptOf n t) fs
   sort-stored fs good index value p q is new t′ e =
       let g : named name ≡ true = rw is (field-named 3 fs 0 good (omega arith)) in
       let h : length name ≤ 64 = rw is (field-short 3 fs 0 good (omega arith)) in

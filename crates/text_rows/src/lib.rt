@@ -74,7 +74,7 @@ pub fn term_column(
     requires { ⌜ FieldAt (now line) (now marks) k ⌝ }
     ensures { λ r. ⌜ r ≡ refOf (namesFrom (now (names .entry)) 32 count) (getD (pieces 32 (now (line .entry))) k []) ⌝ }
 {
-    term_ref(names, count, text_fields::field(line, marks, k))
+    term_ref(names, count, text_lines::field(line, marks, k))
 }
 
 // What a field says of the sorts so far.
@@ -107,7 +107,7 @@ pub fn sort_column(
     requires { ⌜ FieldAt (now line) (now marks) k ⌝ }
     ensures { λ r. ⌜ r ≡ sortRef (namesFrom (now (names .entry)) 0 count) (getD (pieces 32 (now (line .entry))) k []) ⌝ }
 {
-    sort_ref(names, count, text_fields::field(line, marks, k))
+    sort_ref(names, count, text_lines::field(line, marks, k))
 }
 
 // Whether a row may not have this name of its own.
@@ -141,7 +141,7 @@ fn put_sort(counts: Counts, line: &[u8], marks: &[usize; 18], names: &mut [u8; 4
     let n = counts.sorts;
     let index = sort_column(names, n, line, marks, 1);
     let value = sort_column(names, n, line, marks, 2);
-    text_names::put_name(names, 0, n, text_fields::field(line, marks, 0));
+    text_names::put_name(names, 0, n, text_lines::field(line, marks, 0));
     Row {
         code: 0,
         place: 0,
@@ -169,7 +169,7 @@ fn add_sort(counts: Counts, line: &[u8], marks: &[usize; 18], names: &mut [u8; 4
     if n >= 32 {
         return refuse(counts, 30, 0);
     }
-    if is_taken(names, 0, n, text_fields::field(line, marks, 0)) {
+    if is_taken(names, 0, n, text_lines::field(line, marks, 0)) {
         return refuse(counts, 2, 1);
     }
     put_sort(counts, line, marks, names)
@@ -182,7 +182,7 @@ pub fn sort_row(counts: Counts, line: &[u8], names: &mut [u8; 47232]) -> Row
     ensures { λ r. ⌜ Within r ⌝ }
 {
     let mut marks = [0usize; 18];
-    match text_fields::check_line(line, 3, 0, &mut marks) {
+    match text_lines::check_line(line, 3, 0, &mut marks) {
         Shape::Faulty(place) => refuse(counts, 31, place),
         Shape::Good => add_sort(counts, line, &marks, names),
     }

@@ -32,6 +32,17 @@ module _ (j : ℕ) (ws : List (List ℕ)) (f : List ℕ) where
       → ((v : Found) → indexFrom i vs f ≡ v → indexFrom j ws f ≡ v) → r ≡ indexOr (indexFrom j ws f)
   number-rest i vs h m = h ∙ ap indexOr (sym (m (indexFrom i vs f) refl))
 
+-- where a word stands of those that are left
+pub found-rest : {r : Found} (j : ℕ) (ws : List (List ℕ)) (f : List ℕ) (i : ℕ) (vs : List (List ℕ)) → r ≡ indexFrom i vs f
+    → ((v : Found) → indexFrom i vs f ≡ v → indexFrom j ws f ≡ v) → r ≡ indexFrom j ws f
+found-rest j ws f i vs h m = h ∙ sym (m (indexFrom i vs f) refl)
+
+pub found-at : (k j : ℕ) (ws : List (List ℕ)) (f : List ℕ) → indexFrom j ws f ≡ At k → At k ≡ indexFrom j ws f
+found-at k j ws f e = sym e
+
+pub found-none : (j : ℕ) (ws : List (List ℕ)) (f : List ℕ) → indexFrom j ws f ≡ Nothing → Nothing ≡ indexFrom j ws f
+found-none j ws f e = sym e
+
 module _ (ws : List (List ℕ)) (f : List ℕ) {b : Bool} (e : b ≡ same f (bytes "-")) where
   pub blank : b ≡ true → 65535 ≡ refOf ws f
   blank h = ref-blank ws f (told e h)

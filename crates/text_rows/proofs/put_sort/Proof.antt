@@ -17,20 +17,23 @@ field-requires : tie.Need-field-requires
 field-requires c κs = (omega arith, c .before .before .before .before .before .before .pre .1 .1 .1 .0 _ (omega arith))
 
 put-name-requires : tie.Need-put-name-requires
-put-name-requires c κs = (omega arith, (omega arith, (omega (arith, c .before .before .before .before .before .before .before .pre .1 .0), rw (c .field .ensures) (field-short 3 (pieces 32 (c .before .before .before .before .before .before .before .args .line .now)) 0 (c .before .before .before .before .before .before .before .pre .1 .1 .0) (omega arith)))))
+put-name-requires c κs =
+    let start = c .before .before .before .before .before .before .before in
+    let short = field-short 3 (pieces 32 (start .args .line .now)) 0 (start .pre .1 .1 .0) (omega arith) in
+    (omega arith, (omega arith, (omega (arith, start .pre .1 .0), rw (c .field .ensures) short)))
 
 add-t14 : tie.Need-add-t14
 add-t14 c = search needs
 
 returns : tie.Need-returns
 returns c =
-    let a = c .before .before .before .before .before .before .before .before .args in
-    let the-pre = c .before .before .before .before .before .before .before .before .pre in
-    let the-sort-column = c .before .before .before .before .before .sort-column in
-    let the-sort-column2 = c .before .before .before .sort-column2 in (
-      sort-stored (a .counts) (a .names .now) _ (omega arith) (the-pre .0) (omega arith) (pieces 32 (a .line .now))
-          (the-pre .1 .1 .0) (the-sort-column .result) (the-sort-column2 .result) (the-sort-column .ensures)
-          (the-sort-column2 .ensures) (c .before .field .ensures) (the-pre .1 .1 .1 .1) _ (c .put-name .ensures),
+    let at-field = c .before in
+    let at-value = at-field .before .before in
+    let at-index = at-value .before .before in
+    let start = at-index .before .before .before in
+    let a = start .args in (
+      sort-stored (a .counts) (a .names .now) _ (omega arith) (start .pre .0) (omega arith) (pieces 32 (a .line .now)) (start .pre .1 .1 .0) _ _
+          (at-index .sort-column .ensures) (at-value .sort-column2 .ensures) (at-field .field .ensures) (start .pre .1 .1 .1 .1) _ (c .put-name .ensures),
       search needs,
     )
 
