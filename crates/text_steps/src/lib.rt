@@ -76,7 +76,7 @@ fn step_cells(counts: Counts, line: &[u8], marks: &[usize; 18], names: &[u8; 472
     let terms = counts.terms;
     [
         text_words::step_number(text_lines::field(line, marks, 0)),
-        text_words::rule_number(text_lines::field(line, marks, 1)),
+        text_rules::rule_number(text_lines::field(line, marks, 1)),
         text_rows::term_column(names, terms, line, marks, 2),
         value_column(line, marks, 3),
         text_rows::term_column(names, terms, line, marks, 4),

@@ -2,7 +2,7 @@
 use borrow.Author.Needs.{needs}
 use lib.ListN.{drop}
 use Rattle.text_fields.specs.Words.{headWords}
-use Rattle.text_words.proofs.Laws.{found-at, found-rest, miss, hit}
+use Rattle.text_fields.proofs.Words.{found-at, found-rest, miss, hit}
 use Rattle.text_words.proofs.find_head.Statement.{statement}
 use Rattle.text_words.proofs.find_head.Tie as tie
 

@@ -1,6 +1,6 @@
 -- The first of the last head words that is the field's.
 use borrow.Author.Needs.{needs}
-use Rattle.text_words.proofs.Laws.{found-at, found-none, miss, hit}
+use Rattle.text_fields.proofs.Words.{found-at, found-none, miss, hit}
 use Rattle.text_words.proofs.late_head.Statement.{statement}
 use Rattle.text_words.proofs.late_head.Tie as tie
 

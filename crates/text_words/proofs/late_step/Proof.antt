@@ -1,6 +1,6 @@
 -- The first of the last step words that is the field's.
 use borrow.Author.Needs.{needs}
-use Rattle.text_words.proofs.Laws.{number-at, number-none, miss, hit}
+use Rattle.text_fields.proofs.Words.{number-at, number-none, miss, hit}
 use Rattle.text_words.proofs.late_step.Statement.{statement}
 use Rattle.text_words.proofs.late_step.Tie as tie
 

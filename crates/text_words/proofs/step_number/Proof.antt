@@ -2,7 +2,7 @@
 use borrow.Author.Needs.{needs}
 use lib.ListN.{drop}
 use Rattle.text_fields.specs.Words.{stepWords}
-use Rattle.text_words.proofs.Laws.{blank, word, number-at, number-rest, miss, hit}
+use Rattle.text_fields.proofs.Words.{blank, word, number-at, number-rest, miss, hit}
 use Rattle.text_words.proofs.step_number.Statement.{statement}
 use Rattle.text_words.proofs.step_number.Tie as tie
 

@@ -1,11 +1,11 @@
 -- A sort row stored.
 use Rattle.text_rows.proofs.Fields.{field-short}
 use native.Mathlib.Omega.{arith}
 use Rattle.text_fields.specs.Split.{pieces}
-use Rattle.text_rows.proofs.Laws.{sort-stored}
+use Rattle.text_sorts.proofs.Laws.{sort-stored}
 use borrow.Author.Needs.{needs}
-use Rattle.text_rows.proofs.put_sort.Statement.{statement}
-use Rattle.text_rows.proofs.put_sort.Tie as tie
+use Rattle.text_sorts.proofs.put_sort.Statement.{statement}
+use Rattle.text_sorts.proofs.put_sort.Tie as tie
 
 sort-column-requires : tie.Need-sort-column-requires
 sort-column-requires c κs = (omega arith, (omega arith, c .before .before .pre .1 .1 .1 .0 _ (omega arith)))

@@ -1,10 +1,10 @@
 -- The first rule word that is the field's.
 use lib.ListN.{drop}
 use Rattle.text_fields.specs.Words.{ruleWords}
-use Rattle.text_words.proofs.Laws.{blank, word, number-at, number-rest, miss, hit}
+use Rattle.text_fields.proofs.Words.{blank, word, number-at, number-rest, miss, hit}
 use borrow.Author.Needs.{needs}
-use Rattle.text_words.proofs.rule_number.Statement.{statement}
-use Rattle.text_words.proofs.rule_number.Tie as tie
+use Rattle.text_rules.proofs.rule_number.Statement.{statement}
+use Rattle.text_rules.proofs.rule_number.Tie as tie
 
 slice-aggregate-same : tie.Need-slice-aggregate-same
 slice-aggregate-same c = search needs

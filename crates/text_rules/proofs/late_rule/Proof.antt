@@ -1,10 +1,8 @@
--- The first of the later rule words that is the field's.
-use lib.ListN.{drop}
-use Rattle.text_fields.specs.Words.{ruleWords}
-use Rattle.text_words.proofs.Laws.{number-at, number-rest, miss, hit}
+-- The first of the last rule words that is the field's.
+use Rattle.text_fields.proofs.Words.{number-at, number-none, miss, hit}
 use borrow.Author.Needs.{needs}
-use Rattle.text_words.proofs.middle_rule.Statement.{statement}
-use Rattle.text_words.proofs.middle_rule.Tie as tie
+use Rattle.text_rules.proofs.late_rule.Statement.{statement}
+use Rattle.text_rules.proofs.late_rule.Tie as tie
 
 slice-aggregate-same : tie.Need-slice-aggregate-same
 slice-aggregate-same c = search needs
@@ -42,16 +40,20 @@ same-requires-4 c κs = search needs
 returns-4 : tie.Need-returns-4
 returns-4 c = search (number-at, miss, hit) depth 12
 
-late-rule-requires : tie.Need-late-rule-requires
-late-rule-requires c κs = search needs
+slice-aggregate-same-5 : tie.Need-slice-aggregate-same-5
+slice-aggregate-same-5 c = search needs
+
+same-requires-5 : tie.Need-same-requires-5
+same-requires-5 c κs = search needs
 
 returns-5 : tie.Need-returns-5
-returns-5 c =
-    let f = c .before .before .before .before .before .before .before .before .before .before .before .before .before .before .args .f .now in
-    number-rest 4 (drop 4 ruleWords) f 8 (drop 8 ruleWords) (c .late-rule .ensures) (λ v rest. search miss depth 12)
+returns-5 c = search (number-at, miss, hit) depth 12
 
-pub middle-rule-spec : {M : Type 1} → statement M
-middle-rule-spec =
+returns-6 : tie.Need-returns-6
+returns-6 c = search (number-none, miss) depth 12
+
+pub late-rule-spec : {M : Type 1} → statement M
+late-rule-spec =
     tie.close
     (tie.spec
     slice-aggregate-same
@@ -66,5 +68,7 @@ middle-rule-spec =
     slice-aggregate-same-4
     same-requires-4
     returns-4
-    late-rule-requires
-    returns-5)
+    slice-aggregate-same-5
+    same-requires-5
+    returns-5
+    returns-6)

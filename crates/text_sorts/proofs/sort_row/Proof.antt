@@ -1,11 +1,11 @@
 -- A line of the sort sheet: its shape decides first.
 use mathlib.Core.Path.{sym, _∙_}
 use Rattle.text_fields.specs.Split.{pieces}
 use Rattle.text_rows.specs.View.{keptOf}
-use Rattle.text_rows.proofs.Laws.{sort-faulty}
+use Rattle.text_sorts.proofs.Laws.{sort-faulty}
 use borrow.Author.Needs.{needs}
-use Rattle.text_rows.proofs.sort_row.Statement.{statement}
-use Rattle.text_rows.proofs.sort_row.Tie as tie
+use Rattle.text_sorts.proofs.sort_row.Statement.{statement}
+use Rattle.text_sorts.proofs.sort_row.Tie as tie
 
 check-line-requires : tie.Need-check-line-requires
 check-line-requires c κs = search needs

@@ -4,11 +4,12 @@ use native.Mathlib.Omega.{arith}
 use Rattle.text_fields.specs.Split.{pieces}
 use Rattle.text_names.specs.Table.{namesFrom}
 use Rattle.text_names.proofs.Table.{length-names}
 use Rattle.text_rows.specs.View.{keptOf}
-use Rattle.text_rows.proofs.Laws.{told-taken, sort-full, sort-twice, sort-new}
+use Rattle.text_rows.proofs.Laws.{told-taken}
+use Rattle.text_sorts.proofs.Laws.{sort-full, sort-twice, sort-new}
 use borrow.Author.Needs.{needs}
-use Rattle.text_rows.proofs.add_sort.Statement.{statement}
-use Rattle.text_rows.proofs.add_sort.Tie as tie
+use Rattle.text_sorts.proofs.add_sort.Statement.{statement}
+use Rattle.text_sorts.proofs.add_sort.Tie as tie
 
 refuse-requires : tie.Need-refuse-requires
 refuse-requires c κs = search needs
