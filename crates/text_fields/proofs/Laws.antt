@@ -1,5 +1,5 @@
 -- Laws of the definitions of specs/.
-use Prim.Native.Nat.{ℕ, suc, _+_, _-_, _*_, _≤_, _<_}
+use Prim.Native.Nat.{ℕ, suc, _+_, _≤_, _<_}
 use mathlib.Core.Path.{_≡_, refl, ap, sym, _∙_}
 use mathlib.Core.Bool.{Bool, true, false, _&&_}
 use mathlib.Core.List.{List, [], _∷_}
@@ -12,8 +12,25 @@ use lib.Seq.{drop-cons}
 use Rattle.text_fields.specs.Split.{pick, before, same}
 use Rattle.text_fields.specs.Class.{classOf, isSpace}
 use Rattle.text_fields.specs.declared.ByteClass.the-variants.{Space, Newline, Name, Other}
-use Rattle.text_fields.specs.Number.{digits, decimal}
-use Rattle.text_fields.specs.declared.Value.the-variants.{Number, Malformed}
+
+-- the class of a byte, test after test
+module _ (b : ℕ) where
+  pub class-name : 32 < b → b < 127 → Name ≡ classOf b
+  class-name h k = rw (ne-eqb b 32 (λ q. omega arith), ne-eqb b 10 (λ q. omega arith), le-leb 33 b (omega arith), le-leb b 126 (omega arith))
+
+  pub class-high : 32 < b → 127 ≤ b → Other ≡ classOf b
+  class-high h k = rw (ne-eqb b 32 (λ q. omega arith), ne-eqb b 10 (λ q. omega arith), le-leb 33 b (omega arith), lt-leb b 126 (omega arith))
+
+  module _ (low : b ≤ 32) where
+    pub class-space : b ≡ 32 → Space ≡ classOf b
+    class-space h = rw (eq-eqb b 32 h)
+
+    module _ (other : b ≡ 32 → ⊥) where
+      pub class-newline : b ≡ 10 → Newline ≡ classOf b
+      class-newline h = rw (ne-eqb b 32 other, eq-eqb b 10 h)
+
+      pub class-low : (b ≡ 10 → ⊥) → Other ≡ classOf b
+      class-low h = rw (ne-eqb b 32 other, ne-eqb b 10 h, lt-leb 33 b (omega arith))
 
 -- a byte is of the class of spaces just when it is 32
 pub space-is : (b : ℕ) → isSpace (classOf b) ≡ eqb b 32
@@ -69,38 +86,3 @@ module _ (a b : List ℕ) (i : ℕ) where
   pub same-done : length a ≤ i → length b ≤ i → (x : Bool) → pick x (same (drop i a) (drop i b)) false ≡ x
   same-done h k true = rw (drop-of-length-le a, drop-of-length-le b)
   same-done h k false = refl
-
-module _ (n : ℕ) (f : List ℕ) (i : ℕ) where
-  pub digits-more : i < length f → 48 ≤ getD f i 0 → getD f i 0 ≤ 57 → n * 10 + (getD f i 0 - 48) ≤ 65534
-      → digits n (drop i f) ≡ digits (n * 10 + (getD f i 0 - 48)) (drop (i + 1) f)
-  digits-more h p q r = rw (drop-cons f i 0, le-leb _ _ p, le-leb _ _ q, le-leb _ _ r, add-one)
-
-  pub digits-large : i < length f → 65534 < n * 10 + (getD f i 0 - 48) → digits n (drop i f) ≡ Malformed
-  digits-large h r = rw (drop-cons f i 0, lt-leb _ _ r) (pick-both (leb 48 (getD f i 0)) (pick-both (leb (getD f i 0) 57) refl refl) refl)
-
-  pub digits-low : i < length f → getD f i 0 < 48 → digits n (drop i f) ≡ Malformed
-  digits-low h r = rw (drop-cons f i 0, lt-leb _ _ r)
-
-  pub digits-high : i < length f → 57 < getD f i 0 → digits n (drop i f) ≡ Malformed
-  digits-high h r = rw (drop-cons f i 0, lt-leb _ _ r) (pick-both (leb 48 (getD f i 0)) refl refl)
-
-  pub digits-end : length f ≤ i → digits n (drop i f) ≡ Number n
-  digits-end h = rw drop-of-length-le
-
-pub decimal-none : (f : List ℕ) → length f ≡ 0 → decimal f ≡ Malformed
-decimal-none [] h = refl
-decimal-none (b ∷ bs) h = absurd (omega arith)
-
-pub decimal-zero : (f : List ℕ) → getD f 0 0 ≡ 48 → length f ≡ 1 → decimal f ≡ Number 0
-decimal-zero [] h k = absurd (omega arith)
-decimal-zero (b ∷ []) h k = pick-true _ _ (eq-eqb _ _ h)
-decimal-zero (b ∷ d ∷ ds) h k = absurd (omega arith)
-
-pub decimal-led : (f : List ℕ) → getD f 0 0 ≡ 48 → (length f ≡ 1 → ⊥) → decimal f ≡ Malformed
-decimal-led [] h k = refl
-decimal-led (b ∷ []) h k = absurd (k refl)
-decimal-led (b ∷ d ∷ ds) h k = pick-true _ _ (eq-eqb _ _ h)
-
-pub decimal-more : (f : List ℕ) → (length f ≡ 0 → ⊥) → (getD f 0 0 ≡ 48 → ⊥) → decimal f ≡ digits 0 f
-decimal-more [] h k = absurd (h refl)
-decimal-more (b ∷ bs) h k = pick-false _ _ (ne-eqb _ _ k)

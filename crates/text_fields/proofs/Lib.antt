@@ -1,4 +1,3 @@
 pub mod Laws
-pub mod Cut
 pub mod Lines
-pub mod Splits
+pub mod Words

@@ -131,7 +131,7 @@ fn sheet_row(sheet: Sheet, counts: Counts, line: &[u8], names: &mut [u8; 47232])
     ensures { λ r. ⌜ Within r ⌝ }
 {
     match sheet {
-        Sheet::Sorts => text_rows::sort_row(counts, line, names),
+        Sheet::Sorts => text_sorts::sort_row(counts, line, names),
         Sheet::Terms => text_terms::term_row(counts, line, names),
         Sheet::Inputs => text_steps::input_row(counts, line, names),
         Sheet::Steps => text_steps::step_row(counts, line, names),

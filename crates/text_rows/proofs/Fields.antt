@@ -28,12 +28,14 @@ formed-at : (v j : ℕ) (fs : List (List ℕ)) (k : ℕ) → firstMalformed v (s
 formed-at v j [] k e h = absurd (omega arith)
 formed-at v j (f ∷ fs) k e h = go (λ i q l. formed-at v (suc j) fs i q l) (wellFormed (eqb (suc j) v) f) refl e where
   here : ((i : ℕ) → firstMalformed v (suc (suc j)) fs ≡ 0 → i < length fs → wellFormed (eqb (suc (suc j) + i) v) (getD fs i []) ≡ true)
-      → (i : ℕ) → wellFormed (eqb (suc j) v) f ≡ true → firstMalformed v (suc (suc j)) fs ≡ 0 → i < suc (length fs) → wellFormed (eqb (suc j + i) v) (getD (f ∷ fs) i []) ≡ true
+      → (i : ℕ) → wellFormed (eqb (suc j) v) f ≡ true → firstMalformed v (suc (suc j)) fs ≡ 0 → i < suc (length fs)
+      → wellFormed (eqb (suc j + i) v) (getD (f ∷ fs) i []) ≡ true
   here ih zero p q l = rw (add-zero (suc j)) p
   here ih (suc i) p q l = let s : suc j + suc i ≡ suc (suc j) + i = omega arith in rw s (ih i q (le-of-suc-le-suc l))
 
   go : ((i : ℕ) → firstMalformed v (suc (suc j)) fs ≡ 0 → i < length fs → wellFormed (eqb (suc (suc j) + i) v) (getD fs i []) ≡ true)
-      → (t : Bool) → wellFormed (eqb (suc j) v) f ≡ t → pick t (firstMalformed v (suc (suc j)) fs) (suc j) ≡ 0 → wellFormed (eqb (suc j + k) v) (getD (f ∷ fs) k []) ≡ true
+      → (t : Bool) → wellFormed (eqb (suc j) v) f ≡ t → pick t (firstMalformed v (suc (suc j)) fs) (suc j) ≡ 0
+      → wellFormed (eqb (suc j + k) v) (getD (f ∷ fs) k []) ≡ true
   go ih true p q = here ih k p q h
   go ih false p q = absurd (omega arith)
 

@@ -23,7 +23,8 @@ use Rattle.text_terms.specs.declared.HeadNumber.{HeadNumber}
 use Rattle.text_terms.specs.Heads.{HeadIs}
 
 -- a head that changes nothing
-pub head-same : (t : List ℕ) (n : ℕ) (h : Head) (number : ℕ) → number ≡ h .number → namesFrom t 288 n ≡ h .heads → HeadIs t n h (record { number = number; heads = n }) t
+pub head-same : (t : List ℕ) (n : ℕ) (h : Head) (number : ℕ) → number ≡ h .number → namesFrom t 288 n ≡ h .heads
+    → HeadIs t n h (record { number = number; heads = n }) t
 head-same t n h number p q = record { number-is = p; heads-are = q; others-stay = λ b m k l. refl; at-most = omega arith }
 
 module _ (t f : List ℕ) (n : ℕ) where
@@ -78,21 +79,32 @@ module _ (k : Kept) (fs : List (List ℕ)) where
       term-new e = rw (good, lt-ltb (length (k .terms)) 256 room, e)
 
 -- a term row stored: the head is read, then the term's name is put into the table
-module _ (n : Counts) (t name : List ℕ) (b : Bounded n) (room : n .terms < 256) (fs : List (List ℕ)) (good : shapeOf 7 0 fs ≡ Good) (is : name ≡ getD fs 0 []) (new : isTaken (namesFrom t 32 (n .terms)) (getD fs 0 []) ≡ false) where
+module _ (n : Counts) (t name : List ℕ) (b : Bounded n) (room : n .terms < 256) (fs : List (List ℕ)) (good : shapeOf 7 0 fs ≡ Good)
+    (is : name ≡ getD fs 0 []) (new : isTaken (namesFrom t 32 (n .terms)) (getD fs 0 []) ≡ false) where
   pub term-stored : (r : HeadNumber) (t₁ : List ℕ) → length t₁ ≡ 47232 → HeadIs t (n .heads) (headOf (namesFrom t 288 (n .heads)) (getD fs 1 [])) r t₁
       → (t₂ : List ℕ) → t₂ ≡ withName t₁ 32 (n .terms) name
       → (sort x y z w : ℕ) → sort ≡ sortRef (namesFrom t 0 (n .sorts)) (getD fs 2 [])
       → x ≡ refOf (namesFrom t 32 (n .terms)) (getD fs 3 []) → y ≡ refOf (namesFrom t 32 (n .terms)) (getD fs 4 [])
       → z ≡ refOf (namesFrom t 32 (n .terms)) (getD fs 5 []) → w ≡ refOf (namesFrom t 32 (n .terms)) (getD fs 6 [])
-      → takenOf (record { code = 0; place = 0; counts = record { sorts = n .sorts; terms = n .terms + 1; heads = r .heads; inputs = n .inputs; steps = n .steps }; cells = r .number ∷ sort ∷ x ∷ y ∷ z ∷ w ∷ 0 ∷ 0 ∷ 0 ∷ []; width = 6 }) t₂
-      ≡ termAdded (keptOf n t) fs
+      → takenOf (record {
+        code = 0;
+        place = 0;
+        counts = record { sorts = n .sorts; terms = n .terms + 1; heads = r .heads; inputs = n .inputs; steps = n .steps };
+        cells = r .number ∷ sort ∷ x ∷ y ∷ z ∷ w ∷ 0 ∷ 0 ∷ 0 ∷ [];
+        width = 6;
+      }) t₂ ≡ termAdded (keptOf n t) fs
   term-stored r t₁ size₁ h t₂ e sort x y z w p q₁ q₂ q₃ q₄ =
       let low : 32 ≤ 288 = omega arith in
       let g : named name ≡ true = rw is (field-named 7 fs 0 good (omega arith)) in
       let s : length name ≤ 64 = rw is (field-short 7 fs 0 good (omega arith)) in
-      let sorts-are : namesFrom t₂ 0 (n .sorts) ≡ namesFrom t 0 (n .sorts) = rw e (names-before t₁ 32 (n .terms) name size₁ low room s 0 (n .sorts) (omega arith) (omega arith) ∙ h .others-stay 0 (n .sorts) (omega arith) (omega arith)) in
+      let sorts-are : namesFrom t₂ 0 (n .sorts) ≡ namesFrom t 0 (n .sorts) =
+      rw e (names-before t₁ 32 (n .terms) name size₁ low room s 0 (n .sorts) (omega arith) (omega arith)
+      ∙ h .others-stay 0 (n .sorts) (omega arith) (omega arith)) in
       let kept : namesFrom t₁ 32 (n .terms) ≡ namesFrom t 32 (n .terms) = h .others-stay 32 (n .terms) (omega arith) (omega arith) in
       let fresh : indexFrom 0 (namesFrom t₁ 32 (n .terms)) name ≡ Nothing = untaken (namesFrom t₁ 32 (n .terms)) name (rw (kept, is) new) in
-      let terms-are : namesFrom t₂ 32 (n .terms + 1) ≡ namesFrom t 32 (n .terms) ++ (name ∷ []) = rw e (names-put t₁ 32 (n .terms) name size₁ low room s (named-byte name g) fresh ∙ ap (λ (l : List (List ℕ)). l ++ (name ∷ [])) kept) in
-      let heads-are : namesFrom t₂ 288 (r .heads) ≡ headOf (namesFrom t 288 (n .heads)) (getD fs 1 []) .heads = rw e (names-after t₁ 32 (n .terms) name size₁ low room s 288 (r .heads) (omega (arith, h .at-most)) (omega arith) (omega arith) ∙ h .heads-are) in
+      let terms-are : namesFrom t₂ 32 (n .terms + 1) ≡ namesFrom t 32 (n .terms) ++ (name ∷ []) =
+      rw e (names-put t₁ 32 (n .terms) name size₁ low room s (named-byte name g) fresh ∙ ap (λ (l : List (List ℕ)). l ++ (name ∷ [])) kept) in
+      let heads-are : namesFrom t₂ 288 (r .heads) ≡ headOf (namesFrom t 288 (n .heads)) (getD fs 1 []) .heads =
+      rw e (names-after t₁ 32 (n .terms) name size₁ low room s 288 (r .heads) (omega (arith, h .at-most)) (omega arith) (omega arith)
+      ∙ h .heads-are) in
       rw (sorts-are, terms-are, heads-are, h .number-is, p, q₁, q₂, q₃, q₄, is)

@@ -1,8 +1,21 @@
-// The words of the text form: heads, steps, rules. A field is compared with one word after the other.
+// The words of heads and steps. A field is compared with one word after the other.
 ghost use mathlib.Core.Path.{_≡_};
 ghost use lib.ListN.{drop};
-ghost use Rattle.text_fields.specs.Words.{stepWords, ruleWords, headWords, indexFrom, indexOr, refOf};
+ghost use Rattle.text_fields.specs.Words.{stepWords, headWords, indexFrom, indexOr, refOf};
 use text_fields::Found;
+
+// Where a head's word stands, of the words from `select` on.
+fn late_head(f: &[u8]) -> Found
+    ensures { λ r. ⌜ r ≡ indexFrom 4 (drop 4 headWords) (now (f .entry)) ⌝ }
+{
+    if text_fields::same(b"select", f) {
+        return Found::At(4);
+    }
+    if text_fields::same(b"store", f) {
+        return Found::At(5);
+    }
+    Found::Nothing
+}
 
 // Where a head's word stands among the heads that are not free.
 pub fn find_head(f: &[u8]) -> Found
@@ -20,13 +33,26 @@ pub fn find_head(f: &[u8]) -> Found
     if text_fields::same(b"or", f) {
         return Found::At(3);
     }
-    if text_fields::same(b"select", f) {
-        return Found::At(4);
+    late_head(f)
+}
+
+// The number of a step's word, of the words from `resolve` on.
+fn late_step(f: &[u8]) -> u16
+    ensures { λ r. ⌜ r ≡ indexOr (indexFrom 3 (drop 3 stepWords) (now (f .entry))) ⌝ }
+{
+    if text_fields::same(b"resolve", f) {
+        return 3;
     }
-    if text_fields::same(b"store", f) {
-        return Found::At(5);
+    if text_fields::same(b"clear", f) {
+        return 4;
     }
-    Found::Nothing
+    if text_fields::same(b"jump", f) {
+        return 5;
+    }
+    if text_fields::same(b"flip", f) {
+        return 6;
+    }
+    65534
 }
 
 // The number of a step's word.
@@ -45,80 +71,5 @@ pub fn step_number(f: &[u8]) -> u16
     if text_fields::same(b"clash", f) {
         return 2;
     }
-    if text_fields::same(b"resolve", f) {
-        return 3;
-    }
-    if text_fields::same(b"clear", f) {
-        return 4;
-    }
-    if text_fields::same(b"jump", f) {
-        return 5;
-    }
-    if text_fields::same(b"flip", f) {
-        return 6;
-    }
-    65534
-}
-
-// The number of a rule's word, of the words from `eval` on.
-fn late_rule(f: &[u8]) -> u16
-    ensures { λ r. ⌜ r ≡ indexOr (indexFrom 8 (drop 8 ruleWords) (now (f .entry))) ⌝ }
-{
-    if text_fields::same(b"eval", f) {
-        return 8;
-    }
-    if text_fields::same(b"cong", f) {
-        return 9;
-    }
-    if text_fields::same(b"pred", f) {
-        return 10;
-    }
-    if text_fields::same(b"read", f) {
-        return 11;
-    }
-    if text_fields::same(b"skip", f) {
-        return 12;
-    }
-    65534
-}
-
-// The number of a rule's word, of the words from `trans` on.
-fn middle_rule(f: &[u8]) -> u16
-    ensures { λ r. ⌜ r ≡ indexOr (indexFrom 4 (drop 4 ruleWords) (now (f .entry))) ⌝ }
-{
-    if text_fields::same(b"trans", f) {
-        return 4;
-    }
-    if text_fields::same(b"neg", f) {
-        return 5;
-    }
-    if text_fields::same(b"part", f) {
-        return 6;
-    }
-    if text_fields::same(b"unit", f) {
-        return 7;
-    }
-    late_rule(f)
-}
-
-// The number of a rule's word.
-pub fn rule_number(f: &[u8]) -> u16
-    ensures { λ r. ⌜ r ≡ refOf ruleWords (now (f .entry)) ⌝ }
-{
-    if text_fields::same(f, b"-") {
-        return 65535;
-    }
-    if text_fields::same(b"same", f) {
-        return 0;
-    }
-    if text_fields::same(b"differ", f) {
-        return 1;
-    }
-    if text_fields::same(b"refl", f) {
-        return 2;
-    }
-    if text_fields::same(b"sym", f) {
-        return 3;
-    }
-    middle_rule(f)
+    late_step(f)
 }

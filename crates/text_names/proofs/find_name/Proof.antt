@@ -29,10 +29,12 @@ wide-requires c κs = tt
 
 loop-holds : tie.Need-loop-holds Inv-loop μ-loop
 loop-holds c =
-    let called = c .before .before .before in
+    let at-last-place = c .before .before in
+    let p3 = at-last-place .before in
+    let called = p3 in
     let a = called .before .before .before .before in
     chase-begins (a .pre .0) (a .pre .1 .1) (omega arith) (omega (arith, called .before .before .shared-slice-known2 .given 0))
-    (called .tag-of .ensures .0) (c .before .before .last-place .ensures) (c .wide .ensures .0)
+    (called .tag-of .ensures .0) (at-last-place .last-place .ensures) (c .wide .ensures .0)
 
 add-s : tie.Need-add-s Inv-loop μ-loop
 add-s c = let i = c .before .loop .inv in omega (arith, i .room)

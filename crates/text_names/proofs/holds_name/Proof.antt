@@ -19,8 +19,10 @@ wide-requires c κs = search needs
 
 returns : tie.Need-returns
 returns c =
-    let place = c .before .before .before .before .before .args in
-    held-not (place .table .now) (place .s) (place .name .now) (λ q. c .if1 .taken (c .before .wide .ensures .0 ∙ q))
+    let at-wide = c .before in
+    let start = at-wide .before .before .before .before in
+    let place = start .args in
+    held-not (place .table .now) (place .s) (place .name .now) (λ q. c .if1 .taken (at-wide .wide .ensures .0 ∙ q))
 
 add-from : tie.Need-add-from
 add-from c = search needs

@@ -14,9 +14,11 @@ same-requires c κs = search needs
 
 returns : tie.Need-returns
 returns c =
-    let a = c .before .before .before .before .args in
+    let at-same = c .before in
+    let start = at-same .before .before .before in
+    let a = start .args in
     taken-blank (namesFrom (a .names .now) (a .base) (a .count)) (a .f .now)
-    (sym (c .before .same .ensures) ∙ c .if1 .taken)
+    (sym (at-same .same .ensures) ∙ c .if1 .taken)
 
 slice-aggregate-same-2 : tie.Need-slice-aggregate-same-2
 slice-aggregate-same-2 c = search needs
@@ -26,11 +28,13 @@ same-requires-2 c κs = search needs
 
 returns-2 : tie.Need-returns-2
 returns-2 c =
-    let a = c .before .before .before .before .before .before .before .args in
-    let the-same = c .before .before .before .before .same in
-    let the-if1 = c .before .before .before .if1 in
-    taken-prop (namesFrom (a .names .now) (a .base) (a .count)) (a .f .now) (sym (the-same .ensures) ∙ the-if1 .left)
-    (sym (c .before .same2 .ensures) ∙ c .if2 .taken)
+    let at-same2 = c .before in
+    let at-if1 = at-same2 .before .before in
+    let at-same = at-if1 .before in
+    let start = at-same .before .before .before in
+    let a = start .args in
+    taken-prop (namesFrom (a .names .now) (a .base) (a .count)) (a .f .now) (sym (at-same .same .ensures) ∙ at-if1 .if1 .left)
+    (sym (at-same2 .same2 .ensures) ∙ c .if2 .taken)
 
 find-name-requires : tie.Need-find-name-requires
 find-name-requires c κs = search needs
@@ -43,25 +47,27 @@ enum-told-2 c = search needs
 
 returns-3 : tie.Need-returns-3
 returns-3 c =
-    let a = c .before .before .before .before .before .before .before .before .before .before .before .args in
-    let the-same = c .before .before .before .before .before .before .before .before .same in
-    let the-if1 = c .before .before .before .before .before .before .before .if1 in
-    let the-same2 = c .before .before .before .before .before .same2 in
-    let the-if2 = c .before .before .before .before .if2 in
-    let the-find-name = c .before .before .find-name in
-    taken-at (namesFrom (a .names .now) (a .base) (a .count)) (a .f .now) (sym (the-same .ensures) ∙ the-if1 .left)
-    (sym (the-same2 .ensures) ∙ the-if2 .left) _ (sym (the-find-name .ensures) ∙ c .enum-told .given .1)
+    let at-find-name = c .before .before in
+    let at-if2 = at-find-name .before .before in
+    let at-same2 = at-if2 .before in
+    let at-if1 = at-same2 .before .before in
+    let at-same = at-if1 .before in
+    let start = at-same .before .before .before in
+    let a = start .args in
+    taken-at (namesFrom (a .names .now) (a .base) (a .count)) (a .f .now) (sym (at-same .same .ensures) ∙ at-if1 .if1 .left)
+    (sym (at-same2 .same2 .ensures) ∙ at-if2 .if2 .left) _ (sym (at-find-name .find-name .ensures) ∙ c .enum-told .given .1)
 
 returns-4 : tie.Need-returns-4
 returns-4 c =
-    let a = c .before .before .before .before .before .before .before .before .before .before .before .args in
-    let the-same = c .before .before .before .before .before .before .before .before .same in
-    let the-if1 = c .before .before .before .before .before .before .before .if1 in
-    let the-same2 = c .before .before .before .before .before .same2 in
-    let the-if2 = c .before .before .before .before .if2 in
-    let the-find-name = c .before .before .find-name in
-    taken-not (namesFrom (a .names .now) (a .base) (a .count)) (a .f .now) (sym (the-same .ensures) ∙ the-if1 .left)
-    (sym (the-same2 .ensures) ∙ the-if2 .left) (sym (the-find-name .ensures) ∙ c .enum-told2 .given .1)
+    let at-find-name = c .before .before in
+    let at-if2 = at-find-name .before .before in
+    let at-same2 = at-if2 .before in
+    let at-if1 = at-same2 .before .before in
+    let at-same = at-if1 .before in
+    let start = at-same .before .before .before in
+    let a = start .args in
+    taken-not (namesFrom (a .names .now) (a .base) (a .count)) (a .f .now) (sym (at-same .same .ensures) ∙ at-if1 .if1 .left)
+    (sym (at-same2 .same2 .ensures) ∙ at-if2 .if2 .left) (sym (at-find-name .find-name .ensures) ∙ c .enum-told2 .given .1)
 
 pub is-taken-spec : {M : Type 1} → statement M
 is-taken-spec =

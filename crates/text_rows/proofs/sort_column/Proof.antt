@@ -14,8 +14,10 @@ sort-ref-requires c κs = search needs
 
 returns : tie.Need-returns
 returns c =
-    let a = c .before .before .before .args in
-    c .sort-ref .ensures ∙ ap (sortRef (namesFrom (a .names .now) 0 (a .count))) (c .before .field .ensures)
+    let at-field = c .before in
+    let start = at-field .before .before in
+    let a = start .args in
+    c .sort-ref .ensures ∙ ap (sortRef (namesFrom (a .names .now) 0 (a .count))) (at-field .field .ensures)
 
 pub sort-column-spec : {M : Type 1} → statement M
 sort-column-spec = tie.close (tie.spec field-requires sort-ref-requires returns)

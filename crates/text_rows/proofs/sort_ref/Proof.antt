@@ -19,8 +19,10 @@ same-requires c κs = search needs
 
 returns : tie.Need-returns
 returns c =
-    let a = c .before .before .before .before .args in
-    sort-blank (namesFrom (a .names .now) 0 (a .count)) (a .f .now) (sym (c .before .same .ensures) ∙ c .if1 .taken)
+    let at-same = c .before in
+    let start = at-same .before .before .before in
+    let a = start .args in
+    sort-blank (namesFrom (a .names .now) 0 (a .count)) (a .f .now) (sym (at-same .same .ensures) ∙ c .if1 .taken)
 
 slice-aggregate-same-2 : tie.Need-slice-aggregate-same-2
 slice-aggregate-same-2 c = search needs
@@ -30,11 +32,13 @@ same-requires-2 c κs = search needs
 
 returns-2 : tie.Need-returns-2
 returns-2 c =
-    let a = c .before .before .before .before .before .before .before .args in
-    let the-same = c .before .before .before .before .same in
-    let the-if1 = c .before .before .before .if1 in
-    sort-prop (namesFrom (a .names .now) 0 (a .count)) (a .f .now) (sym (the-same .ensures) ∙ the-if1 .left)
-    (sym (c .before .same2 .ensures) ∙ c .if2 .taken)
+    let at-same2 = c .before in
+    let at-if1 = at-same2 .before .before in
+    let at-same = at-if1 .before in
+    let start = at-same .before .before .before in
+    let a = start .args in
+    sort-prop (namesFrom (a .names .now) 0 (a .count)) (a .f .now) (sym (at-same .same .ensures) ∙ at-if1 .if1 .left)
+    (sym (at-same2 .same2 .ensures) ∙ c .if2 .taken)
 
 find-name-requires : tie.Need-find-name-requires
 find-name-requires c κs = search needs
@@ -47,43 +51,48 @@ enum-told c = search needs
 
 returns-3 : tie.Need-returns-3
 returns-3 c =
-    let a = c .before .before .before .before .before .before .before .before .before .before .before .args in
-    let the-same = c .before .before .before .before .before .before .before .before .same in
-    let the-if1 = c .before .before .before .before .before .before .before .if1 in
-    let the-same2 = c .before .before .before .before .before .same2 in
-    let the-if2 = c .before .before .before .before .if2 in
-    let the-find-name = c .before .before .find-name in
-    sort-none (namesFrom (a .names .now) 0 (a .count)) (a .f .now) (sym (the-same .ensures) ∙ the-if1 .left)
-    (sym (the-same2 .ensures) ∙ the-if2 .left) (sym (the-find-name .ensures) ∙ c .enum-told .given .1)
+    let at-find-name = c .before .before in
+    let at-if2 = at-find-name .before .before in
+    let at-same2 = at-if2 .before in
+    let at-if1 = at-same2 .before .before in
+    let at-same = at-if1 .before in
+    let start = at-same .before .before .before in
+    let a = start .args in
+    sort-none (namesFrom (a .names .now) 0 (a .count)) (a .f .now) (sym (at-same .same .ensures) ∙ at-if1 .if1 .left)
+    (sym (at-same2 .same2 .ensures) ∙ at-if2 .if2 .left) (sym (at-find-name .find-name .ensures) ∙ c .enum-told .given .1)
 
 add-result : tie.Need-add-result
 add-result c =
-    let a = c .before .before .before .before .before .before .before .before .before .before .before .before .args in
-    let the-k = c .before .k in
-    let the-find-name = c .before .before .before .find-name in
-    let h : the-k .given .0 .0 < 0 + length (namesFrom (a .names .now) 0 (a .count)) = index-below 0
-    (namesFrom (a .names .now) 0 (a .count)) (a .f .now) _ (sym (the-find-name .ensures) ∙ the-k .given .1) in
+    let at-k = c .before in
+    let at-find-name = at-k .before .before in
+    let start = at-find-name .before .before .before .before .before .before .before .before .before in
+    let a = start .args in
+    let h : at-k .k .given .0 .0 < 0 + length (namesFrom (a .names .now) 0 (a .count)) = index-below 0
+    (namesFrom (a .names .now) 0 (a .count)) (a .f .now) _ (sym (at-find-name .find-name .ensures) ∙ at-k .k .given .1) in
     omega (arith, length-names (a .names .now) 0 (a .count))
 
 cast-result : tie.Need-cast-result
 cast-result c =
-    let a = c .before .before .before .before .before .before .before .before .before .before .before .before .args in
-    let the-k = c .before .k in
-    let the-find-name = c .before .before .before .find-name in
-    let h : the-k .given .0 .0 < 0 + length (namesFrom (a .names .now) 0 (a .count)) = index-below 0
-    (namesFrom (a .names .now) 0 (a .count)) (a .f .now) _ (sym (the-find-name .ensures) ∙ the-k .given .1) in
+    let at-k = c .before in
+    let at-find-name = at-k .before .before in
+    let start = at-find-name .before .before .before .before .before .before .before .before .before in
+    let a = start .args in
+    let h : at-k .k .given .0 .0 < 0 + length (namesFrom (a .names .now) 0 (a .count)) = index-below 0
+    (namesFrom (a .names .now) 0 (a .count)) (a .f .now) _ (sym (at-find-name .find-name .ensures) ∙ at-k .k .given .1) in
     omega (arith, length-names (a .names .now) 0 (a .count))
 
 returns-4 : tie.Need-returns-4
 returns-4 c =
-    let a = c .before .before .before .before .before .before .before .before .before .before .before .before .args in
-    let the-same = c .before .before .before .before .before .before .before .before .before .same in
-    let the-if1 = c .before .before .before .before .before .before .before .before .if1 in
-    let the-same2 = c .before .before .before .before .before .before .same2 in
-    let the-if2 = c .before .before .before .before .before .if2 in
-    let the-find-name = c .before .before .before .find-name in
-    sort-at (namesFrom (a .names .now) 0 (a .count)) (a .f .now) (sym (the-same .ensures) ∙ the-if1 .left)
-    (sym (the-same2 .ensures) ∙ the-if2 .left) _ (sym (the-find-name .ensures) ∙ c .before .k .given .1)
+    let at-k = c .before in
+    let at-find-name = at-k .before .before in
+    let at-if2 = at-find-name .before .before in
+    let at-same2 = at-if2 .before in
+    let at-if1 = at-same2 .before .before in
+    let at-same = at-if1 .before in
+    let start = at-same .before .before .before in
+    let a = start .args in
+    sort-at (namesFrom (a .names .now) 0 (a .count)) (a .f .now) (sym (at-same .same .ensures) ∙ at-if1 .if1 .left)
+    (sym (at-same2 .same2 .ensures) ∙ at-if2 .if2 .left) _ (sym (at-find-name .find-name .ensures) ∙ at-k .k .given .1)
 
 pub sort-ref-spec : {M : Type 1} → statement M
 sort-ref-spec =

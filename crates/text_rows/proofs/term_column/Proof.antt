@@ -14,8 +14,10 @@ term-ref-requires c κs = search needs
 
 returns : tie.Need-returns
 returns c =
-    let a = c .before .before .before .args in
-    c .term-ref .ensures ∙ ap (refOf (namesFrom (a .names .now) 32 (a .count))) (c .before .field .ensures)
+    let at-field = c .before in
+    let start = at-field .before .before in
+    let a = start .args in
+    c .term-ref .ensures ∙ ap (refOf (namesFrom (a .names .now) 32 (a .count))) (at-field .field .ensures)
 
 pub term-column-spec : {M : Type 1} → statement M
 term-column-spec = tie.close (tie.spec field-requires term-ref-requires returns)

@@ -18,8 +18,10 @@ same-requires c κs = search needs
 
 returns : tie.Need-returns
 returns c =
-    let a = c .before .before .before .before .args in
-    ref-blank (namesFrom (a .names .now) 32 (a .count)) (a .f .now) (sym (c .before .same .ensures) ∙ c .if1 .taken)
+    let at-same = c .before in
+    let start = at-same .before .before .before in
+    let a = start .args in
+    ref-blank (namesFrom (a .names .now) 32 (a .count)) (a .f .now) (sym (at-same .same .ensures) ∙ c .if1 .taken)
 
 find-name-requires : tie.Need-find-name-requires
 find-name-requires c κs = search needs
@@ -32,30 +34,34 @@ enum-told c = search needs
 
 returns-2 : tie.Need-returns-2
 returns-2 c =
-    let a = c .before .before .before .before .before .before .before .before .args in
-    let the-same = c .before .before .before .before .before .same in
-    let the-if1 = c .before .before .before .before .if1 in
-    let the-find-name = c .before .before .find-name in
-    ref-none (namesFrom (a .names .now) 32 (a .count)) (a .f .now) (sym (the-same .ensures) ∙ the-if1 .left)
-    (sym (the-find-name .ensures) ∙ c .enum-told .given .1)
+    let at-find-name = c .before .before in
+    let at-if1 = at-find-name .before .before in
+    let at-same = at-if1 .before in
+    let start = at-same .before .before .before in
+    let a = start .args in
+    ref-none (namesFrom (a .names .now) 32 (a .count)) (a .f .now) (sym (at-same .same .ensures) ∙ at-if1 .if1 .left)
+    (sym (at-find-name .find-name .ensures) ∙ c .enum-told .given .1)
 
 cast-result : tie.Need-cast-result
 cast-result c =
-    let a = c .before .before .before .before .before .before .before .before .before .args in
-    let the-k = c .before .k in
-    let the-find-name = c .before .before .before .find-name in
-    let h : the-k .given .0 .0 < 0 + length (namesFrom (a .names .now) 32 (a .count)) = index-below 0
-    (namesFrom (a .names .now) 32 (a .count)) (a .f .now) _ (sym (the-find-name .ensures) ∙ the-k .given .1) in
+    let at-k = c .before in
+    let at-find-name = at-k .before .before in
+    let start = at-find-name .before .before .before .before .before .before in
+    let a = start .args in
+    let h : at-k .k .given .0 .0 < 0 + length (namesFrom (a .names .now) 32 (a .count)) = index-below 0
+    (namesFrom (a .names .now) 32 (a .count)) (a .f .now) _ (sym (at-find-name .find-name .ensures) ∙ at-k .k .given .1) in
     omega (arith, length-names (a .names .now) 32 (a .count))
 
 returns-3 : tie.Need-returns-3
 returns-3 c =
-    let a = c .before .before .before .before .before .before .before .before .before .args in
-    let the-same = c .before .before .before .before .before .before .same in
-    let the-if1 = c .before .before .before .before .before .if1 in
-    let the-find-name = c .before .before .before .find-name in
-    ref-at (namesFrom (a .names .now) 32 (a .count)) (a .f .now) (sym (the-same .ensures) ∙ the-if1 .left) _
-    (sym (the-find-name .ensures) ∙ c .before .k .given .1)
+    let at-k = c .before in
+    let at-find-name = at-k .before .before in
+    let at-if1 = at-find-name .before .before in
+    let at-same = at-if1 .before in
+    let start = at-same .before .before .before in
+    let a = start .args in
+    ref-at (namesFrom (a .names .now) 32 (a .count)) (a .f .now) (sym (at-same .same .ensures) ∙ at-if1 .if1 .left) _
+    (sym (at-find-name .find-name .ensures) ∙ at-k .k .given .1)
 
 pub term-ref-spec : {M : Type 1} → statement M
 term-ref-spec =

@@ -14,16 +14,20 @@ refuse-requires c κs = search needs
 
 returns : tie.Need-returns
 returns c =
-    let a = c .before .before .before .before .args in
+    let at-if1 = c .before in
+    let start = at-if1 .before .before .before in
+    let a = start .args in
     let k = keptOf (a .counts) (a .names .now) in
     let fs = pieces 32 (a .line .now) in (
       c .refuse .ensures .0 (a .names .now) ∙ below-full k (a .counts .inputs) 256 (inputAdded k fs)
-          (c .before .if1 .taken),
+          (at-if1 .if1 .taken),
       c .refuse .ensures .1,
     )
 
 term-column-requires : tie.Need-term-column-requires
-term-column-requires c κs = (omega (arith, c .before .before .before .pre .0), (omega arith, c .before .before .before .pre .1 _ (omega arith)))
+term-column-requires c κs =
+    let start = c .before .before .before in
+    (omega (arith, start .pre .0), (omega arith, start .pre .1 _ (omega arith)))
 
 value-column-requires : tie.Need-value-column-requires
 value-column-requires c κs = (omega arith, c .before .before .before .before .pre .1 _ (omega arith))
@@ -33,13 +37,15 @@ add-t8 c = search needs
 
 returns-2 : tie.Need-returns-2
 returns-2 c =
-    let a = c .before .before .before .before .before .before .args in
-    let the-term-column = c .before .before .term-column in
-    let the-if1 = c .before .before .before .if1 in
+    let at-value-column = c .before in
+    let at-term-column = at-value-column .before in
+    let at-if1 = at-term-column .before in
+    let start = at-if1 .before .before .before in
+    let a = start .args in
     let k = keptOf (a .counts) (a .names .now) in
     let fs = pieces 32 (a .line .now) in (
-      input-added k fs _ _ (the-term-column .ensures) (c .before .value-column .ensures) ∙ below-room k
-          (a .counts .inputs) 256 (inputAdded k fs) (the-if1 .left),
+      input-added k fs _ _ (at-term-column .term-column .ensures) (at-value-column .value-column .ensures) ∙ below-room k
+          (a .counts .inputs) 256 (inputAdded k fs) (at-if1 .if1 .left),
       search needs,
     )
 

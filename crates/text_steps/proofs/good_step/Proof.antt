@@ -13,11 +13,13 @@ refuse-requires c κs = search needs
 
 returns : tie.Need-returns
 returns c =
-    let a = c .before .before .before .before .args in
+    let at-if1 = c .before in
+    let start = at-if1 .before .before .before in
+    let a = start .args in
     let k = keptOf (a .counts) (a .names .now) in
     let fs = pieces 32 (a .line .now) in (
       c .refuse .ensures .0 (a .names .now) ∙ below-full k (a .counts .steps) 1024 (stepAdded k fs)
-          (c .before .if1 .taken),
+          (at-if1 .if1 .taken),
       c .refuse .ensures .1,
     )
 
@@ -29,12 +31,14 @@ add-t7 c = search needs
 
 returns-2 : tie.Need-returns-2
 returns-2 c =
-    let a = c .before .before .before .before .before .args in
-    let the-if1 = c .before .before .if1 in
+    let at-step-cells = c .before in
+    let at-if1 = at-step-cells .before in
+    let start = at-if1 .before .before .before in
+    let a = start .args in
     let k = keptOf (a .counts) (a .names .now) in
     let fs = pieces 32 (a .line .now) in (
-      step-added k fs _ (c .before .step-cells .ensures) ∙ below-room k (a .counts .steps) 1024 (stepAdded k fs)
-          (the-if1 .left),
+      step-added k fs _ (at-step-cells .step-cells .ensures) ∙ below-room k (a .counts .steps) 1024 (stepAdded k fs)
+          (at-if1 .if1 .left),
       search needs,
     )
 

@@ -20,27 +20,34 @@ enum-told : tie.Need-enum-told
 enum-told c = search needs
 
 good-input-requires : tie.Need-good-input-requires
-good-input-requires c κs = (c .before .before .before .before .before .before .pre, c .before .before .before .check-line .ensures .1 (c .before .enum-told .given .1))
+good-input-requires c κs =
+    let at-enum-told = c .before in
+    let at-check-line = at-enum-told .before .before in
+    let start = at-check-line .before .before .before in
+    (start .pre, at-check-line .check-line .ensures .1 (at-enum-told .enum-told .given .1))
 
 returns : tie.Need-returns
 returns c =
-    let a = c .before .before .before .before .before .before .before .args in
-    let the-check-line = c .before .before .before .before .check-line in
-    let the-place = c .before .before .place in
+    let at-place = c .before .before in
+    let at-check-line = at-place .before .before in
+    let start = at-check-line .before .before .before in
+    let a = start .args in
     let k = keptOf (a .counts) (a .names .now) in
     let fs = pieces 32 (a .line .now) in (
       c .refuse .ensures .0 (a .names .now) ∙ input-faulty k fs _
-          (sym (the-check-line .ensures .0) ∙ the-place .given .1),
+          (sym (at-check-line .check-line .ensures .0) ∙ at-place .place .given .1),
       c .refuse .ensures .1,
     )
 
 returns-2 : tie.Need-returns-2
 returns-2 c =
-    let a = c .before .before .before .before .before .before .before .args in
-    let the-check-line = c .before .before .before .before .check-line in
+    let at-enum-told = c .before .before in
+    let at-check-line = at-enum-told .before .before in
+    let start = at-check-line .before .before .before in
+    let a = start .args in
     let k = keptOf (a .counts) (a .names .now) in
     let fs = pieces 32 (a .line .now) in (
-      c .good-input .ensures .0 ∙ input-good k fs (sym (the-check-line .ensures .0) ∙ c .before .before .enum-told .given .1),
+      c .good-input .ensures .0 ∙ input-good k fs (sym (at-check-line .check-line .ensures .0) ∙ at-enum-told .enum-told .given .1),
       c .good-input .ensures .1,
     )
 

@@ -22,44 +22,58 @@ rule-number-requires : tie.Need-rule-number-requires
 rule-number-requires c κs = search needs
 
 term-column-requires : tie.Need-term-column-requires
-term-column-requires c κs = (c .before .before .before .before .before .pre .0, (omega arith, c .before .before .before .before .before .pre .1 _ (omega arith)))
+term-column-requires c κs =
+    let start = c .before .before .before .before .before in
+    (start .pre .0, (omega arith, start .pre .1 _ (omega arith)))
 
 value-column-requires : tie.Need-value-column-requires
 value-column-requires c κs = (omega arith, c .before .before .before .before .before .before .pre .1 _ (omega arith))
 
 term-column-requires-2 : tie.Need-term-column-requires-2
-term-column-requires-2 c κs = (c .before .before .before .before .before .before .before .pre .0, (omega arith, c .before .before .before .before .before .before .before .pre .1 _ (omega arith)))
+term-column-requires-2 c κs =
+    let start = c .before .before .before .before .before .before .before in
+    (start .pre .0, (omega arith, start .pre .1 _ (omega arith)))
 
 term-column-requires-3 : tie.Need-term-column-requires-3
-term-column-requires-3 c κs = (c .before .before .before .before .before .before .before .before .pre .0, (omega arith, c .before .before .before .before .before .before .before .before .pre .1 _ (omega arith)))
+term-column-requires-3 c κs =
+    let start = c .before .before .before .before .before .before .before .before in
+    (start .pre .0, (omega arith, start .pre .1 _ (omega arith)))
 
 term-column-requires-4 : tie.Need-term-column-requires-4
-term-column-requires-4 c κs = (c .before .before .before .before .before .before .before .before .before .pre .0, (omega arith, c .before .before .before .before .before .before .before .before .before .pre .1 _ (omega arith)))
+term-column-requires-4 c κs =
+    let start = c .before .before .before .before .before .before .before .before .before in
+    (start .pre .0, (omega arith, start .pre .1 _ (omega arith)))
 
 term-column-requires-5 : tie.Need-term-column-requires-5
-term-column-requires-5 c κs = (c .before .before .before .before .before .before .before .before .before .before .pre .0, (omega arith, c .before .before .before .before .before .before .before .before .before .before .pre .1 _ (omega arith)))
+term-column-requires-5 c κs =
+    let start = c .before .before .before .before .before .before .before .before .before .before in
+    (start .pre .0, (omega arith, start .pre .1 _ (omega arith)))
 
 term-column-requires-6 : tie.Need-term-column-requires-6
-term-column-requires-6 c κs = (c .before .before .before .before .before .before .before .before .before .before .before .pre .0, (omega arith, c .before .before .before .before .before .before .before .before .before .before .before .pre .1 _ (omega arith)))
+term-column-requires-6 c κs =
+    let start = c .before .before .before .before .before .before .before .before .before .before .before in
+    (start .pre .0, (omega arith, start .pre .1 _ (omega arith)))
 
 returns : tie.Need-returns
 returns c =
-    let a = c .before .before .before .before .before .before .before .before .before .before .before .before .args in
-    let the-step-number = c .before .before .before .before .before .before .before .before .before .step-number in
-    let the-field = c .before .before .before .before .before .before .before .before .before .before .field in
-    let the-rule-number = c .before .before .before .before .before .before .before .rule-number in
-    let the-field2 = c .before .before .before .before .before .before .before .before .field2 in
-    let the-term-column = c .before .before .before .before .before .before .term-column in
-    let the-value-column = c .before .before .before .before .before .value-column in
-    let the-term-column2 = c .before .before .before .before .term-column2 in
-    let the-term-column3 = c .before .before .before .term-column3 in
-    let the-term-column4 = c .before .before .term-column4 in
+    let at-term-column5 = c .before in
+    let at-term-column4 = at-term-column5 .before in
+    let at-term-column3 = at-term-column4 .before in
+    let at-term-column2 = at-term-column3 .before in
+    let at-value-column = at-term-column2 .before in
+    let at-term-column = at-value-column .before in
+    let at-rule-number = at-term-column .before in
+    let at-field2 = at-rule-number .before in
+    let at-step-number = at-field2 .before in
+    let at-field = at-step-number .before in
+    let start = at-field .before .before in
+    let a = start .args in
     let k = keptOf (a .counts) (a .names .now) in
     let fs = pieces 32 (a .line .now) in
-    nine-cells k fs _ _ _ _ _ _ _ _ _ (the-step-number .ensures ∙ ap (refOf stepWords) (the-field .ensures))
-    (the-rule-number .ensures ∙ ap (refOf ruleWords) (the-field2 .ensures)) (the-term-column .ensures)
-    (the-value-column .ensures) (the-term-column2 .ensures) (the-term-column3 .ensures)
-    (the-term-column4 .ensures) (c .before .term-column5 .ensures) (c .term-column6 .ensures)
+    nine-cells k fs _ _ _ _ _ _ _ _ _ (at-step-number .step-number .ensures ∙ ap (refOf stepWords) (at-field .field .ensures))
+    (at-rule-number .rule-number .ensures ∙ ap (refOf ruleWords) (at-field2 .field2 .ensures)) (at-term-column .term-column .ensures)
+    (at-value-column .value-column .ensures) (at-term-column2 .term-column2 .ensures) (at-term-column3 .term-column3 .ensures)
+    (at-term-column4 .term-column4 .ensures) (at-term-column5 .term-column5 .ensures) (c .term-column6 .ensures)
 
 pub step-cells-spec : {M : Type 1} → statement M
 step-cells-spec =

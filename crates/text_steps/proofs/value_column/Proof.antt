@@ -19,15 +19,16 @@ enum-told c = search needs
 
 returns : tie.Need-returns
 returns c =
-    let the-field = c .before .before .before .before .field in
-    let the-read-value = c .before .before .before .read-value in
-    value-read _ _ _ _ (the-field .ensures) (the-read-value .ensures) (c .before .v .given .1)
+    let at-v = c .before in
+    let at-read-value = at-v .before .before in
+    let at-field = at-read-value .before in
+    value-read _ _ _ _ (at-field .field .ensures) (at-read-value .read-value .ensures) (at-v .v .given .1)
 
 returns-2 : tie.Need-returns-2
 returns-2 c =
-    let the-field = c .before .before .before .field in
-    let the-read-value = c .before .before .read-value in
-    value-read _ _ _ Malformed (the-field .ensures) (the-read-value .ensures) (c .enum-told .given .1)
+    let at-read-value = c .before .before in
+    let at-field = at-read-value .before in
+    value-read _ _ _ Malformed (at-field .field .ensures) (at-read-value .read-value .ensures) (c .enum-told .given .1)
 
 pub value-column-spec : {M : Type 1} → statement M
 value-column-spec =

@@ -19,20 +19,22 @@ enum-known-k c = search needs
 
 add-t9 : tie.Need-add-t9
 add-t9 c =
-    let a = c .before .before .before .before .before .before .before .args in
-    let the-k = c .before .k in
-    let the-find-name = c .before .before .before .find-name in
-    let h : the-k .given .0 .0 < 0 + length (namesFrom (a .names .now) 288 (a .heads)) = index-below 0
-    (namesFrom (a .names .now) 288 (a .heads)) (a .f .now) _ (sym (the-find-name .ensures) ∙ the-k .given .1) in
+    let at-k = c .before in
+    let at-find-name = at-k .before .before in
+    let start = at-find-name .before .before .before .before in
+    let a = start .args in
+    let h : at-k .k .given .0 .0 < 0 + length (namesFrom (a .names .now) 288 (a .heads)) = index-below 0
+    (namesFrom (a .names .now) 288 (a .heads)) (a .f .now) _ (sym (at-find-name .find-name .ensures) ∙ at-k .k .given .1) in
     omega (arith, length-names (a .names .now) 288 (a .heads))
 
 cast-t10 : tie.Need-cast-t10
 cast-t10 c =
-    let a = c .before .before .before .before .before .before .before .args in
-    let the-k = c .before .k in
-    let the-find-name = c .before .before .before .find-name in
-    let h : the-k .given .0 .0 < 0 + length (namesFrom (a .names .now) 288 (a .heads)) = index-below 0
-    (namesFrom (a .names .now) 288 (a .heads)) (a .f .now) _ (sym (the-find-name .ensures) ∙ the-k .given .1) in
+    let at-k = c .before in
+    let at-find-name = at-k .before .before in
+    let start = at-find-name .before .before .before .before in
+    let a = start .args in
+    let h : at-k .k .given .0 .0 < 0 + length (namesFrom (a .names .now) 288 (a .heads)) = index-below 0
+    (namesFrom (a .names .now) 288 (a .heads)) (a .f .now) _ (sym (at-find-name .find-name .ensures) ∙ at-k .k .given .1) in
     omega (arith, length-names (a .names .now) 288 (a .heads))
 
 enum-told : tie.Need-enum-told
@@ -52,18 +54,20 @@ add-t16 c = search needs
 
 returns : tie.Need-returns
 returns c =
-    let a = c .before .before .before .before .before .before .before .args in
-    let the-find-name = c .before .before .before .find-name in
-    free-at (a .names .now) (a .f .now) (a .heads) _ (sym (the-find-name .ensures) ∙ c .before .k .given .1)
+    let at-k = c .before in
+    let at-find-name = at-k .before .before in
+    let start = at-find-name .before .before .before .before in
+    let a = start .args in
+    free-at (a .names .now) (a .f .now) (a .heads) _ (sym (at-find-name .find-name .ensures) ∙ at-k .k .given .1)
 
 returns-2 : tie.Need-returns-2
 returns-2 c =
-    let a = c .before .before .before .before .before .before .before .before .args in
-    let the-pre = c .before .before .before .before .before .before .before .before .pre in
-    let the-find-name = c .before .before .before .before .find-name in
-    let the-enum-told = c .before .before .enum-told in
-    free-new (a .names .now) (a .f .now) (a .heads) (the-pre .0) (omega arith) (the-pre .1 .0) (the-pre .1 .1) _
-    (c .put-name .ensures) (sym (the-find-name .ensures) ∙ the-enum-told .given .1)
+    let at-enum-told = c .before .before in
+    let at-find-name = at-enum-told .before .before in
+    let start = at-find-name .before .before .before .before in
+    let a = start .args in
+    free-new (a .names .now) (a .f .now) (a .heads) (start .pre .0) (omega arith) (start .pre .1 .0) (start .pre .1 .1) _
+    (c .put-name .ensures) (sym (at-find-name .find-name .ensures) ∙ at-enum-told .enum-told .given .1)
 
 pub free-head-spec : {M : Type 1} → statement M
 free-head-spec =

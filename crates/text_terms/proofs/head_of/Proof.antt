@@ -17,8 +17,10 @@ same-requires c κs = search needs
 
 returns : tie.Need-returns
 returns c =
-    let a = c .before .before .before .before .args in
-    head-blank (a .names .now) (a .f .now) (a .heads) (sym (c .before .same .ensures) ∙ c .if1 .taken)
+    let at-same = c .before in
+    let start = at-same .before .before .before in
+    let a = start .args in
+    head-blank (a .names .now) (a .f .now) (a .heads) (sym (at-same .same .ensures) ∙ c .if1 .taken)
 
 find-head-requires : tie.Need-find-head-requires
 find-head-requires c κs = search needs
@@ -28,11 +30,12 @@ enum-known-k c = search needs
 
 cast-t11 : tie.Need-cast-t11
 cast-t11 c =
-    let a = c .before .before .before .before .before .before .before .before .args in
-    let the-k = c .before .k in
-    let the-find-head = c .before .before .before .find-head in
-    let h : the-k .given .0 .0 < 0 + 6 = index-below 0 headWords (a .f .now) _
-    (sym (the-find-head .ensures) ∙ the-k .given .1) in
+    let at-k = c .before in
+    let at-find-head = at-k .before .before in
+    let start = at-find-head .before .before .before .before .before in
+    let a = start .args in
+    let h : at-k .k .given .0 .0 < 0 + 6 = index-below 0 headWords (a .f .now) _
+    (sym (at-find-head .find-head .ensures) ∙ at-k .k .given .1) in
     omega arith
 
 enum-told : tie.Need-enum-told
@@ -43,22 +46,25 @@ free-head-requires c κs = search needs
 
 returns-2 : tie.Need-returns-2
 returns-2 c =
-    let a = c .before .before .before .before .before .before .before .before .args in
-    let the-same = c .before .before .before .before .before .same in
-    let the-if1 = c .before .before .before .before .if1 in
-    let the-find-head = c .before .before .before .find-head in
-    head-word (a .names .now) (a .f .now) (a .heads) (sym (the-same .ensures) ∙ the-if1 .left) _
-    (sym (the-find-head .ensures) ∙ c .before .k .given .1)
+    let at-k = c .before in
+    let at-find-head = at-k .before .before in
+    let at-if1 = at-find-head .before in
+    let at-same = at-if1 .before in
+    let start = at-same .before .before .before in
+    let a = start .args in
+    head-word (a .names .now) (a .f .now) (a .heads) (sym (at-same .same .ensures) ∙ at-if1 .if1 .left) _
+    (sym (at-find-head .find-head .ensures) ∙ at-k .k .given .1)
 
 returns-3 : tie.Need-returns-3
 returns-3 c =
-    let a = c .before .before .before .before .before .before .before .before .before .args in
-    let the-same = c .before .before .before .before .before .before .same in
-    let the-if1 = c .before .before .before .before .before .if1 in
-    let the-find-head = c .before .before .before .before .find-head in
-    let the-enum-told = c .before .before .enum-told in
-    head-free (a .names .now) (a .f .now) (a .heads) (sym (the-same .ensures) ∙ the-if1 .left) _ _
-    (sym (the-find-head .ensures) ∙ the-enum-told .given .1) (c .free-head .ensures)
+    let at-enum-told = c .before .before in
+    let at-find-head = at-enum-told .before .before in
+    let at-if1 = at-find-head .before in
+    let at-same = at-if1 .before in
+    let start = at-same .before .before .before in
+    let a = start .args in
+    head-free (a .names .now) (a .f .now) (a .heads) (sym (at-same .same .ensures) ∙ at-if1 .if1 .left) _ _
+    (sym (at-find-head .find-head .ensures) ∙ at-enum-told .enum-told .given .1) (c .free-head .ensures)
 
 pub head-of-spec : {M : Type 1} → statement M
 head-of-spec =

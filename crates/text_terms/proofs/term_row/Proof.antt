@@ -20,15 +20,22 @@ enum-told : tie.Need-enum-told
 enum-told c = search needs
 
 add-term-requires : tie.Need-add-term-requires
-add-term-requires c κs = (c .before .before .before .before .before .before .before .pre, (sym (c .before .before .before .before .check-line .ensures .0) ∙ c .before .before .enum-told .given .1, c .before .before .before .before .check-line .ensures .1 (c .before .before .enum-told .given .1)))
+add-term-requires c κs =
+    let told = c .before .before in
+    let checked = told .before .before in
+    let is = told .enum-told .given .1 in
+    let line = checked .check-line .ensures in
+    (checked .before .before .before .pre, (sym (line .0) ∙ is, line .1 is))
 
 returns : tie.Need-returns
 returns c =
-    let a = c .before .before .before .before .before .before .before .args in
-    let the-check-line = c .before .before .before .before .check-line in
-    let the-place = c .before .before .place in (
+    let at-place = c .before .before in
+    let at-check-line = at-place .before .before in
+    let start = at-check-line .before .before .before in
+    let a = start .args in
+    let the-place = at-place .place in (
       c .refuse .ensures .0 (a .names .now) ∙ term-faulty (keptOf (a .counts) (a .names .now))
-          (pieces 32 (a .line .now)) _ (sym (the-check-line .ensures .0) ∙ the-place .given .1),
+          (pieces 32 (a .line .now)) _ (sym (at-check-line .check-line .ensures .0) ∙ the-place .given .1),
       c .refuse .ensures .1,
     )
 

@@ -1,9 +1,8 @@
 -- The first head word that is the field's.
-use mathlib.Core.Path.{sym, _∙_}
-use Rattle.text_fields.proofs.Lines.{index-hit, index-missed}
-use native.Mathlib.Omega.{arith}
-use Rattle.text_fields.specs.Words.{headWords}
 use borrow.Author.Needs.{needs}
+use lib.ListN.{drop}
+use Rattle.text_fields.specs.Words.{headWords}
+use Rattle.text_fields.proofs.Words.{found-at, found-rest, miss, hit}
 use Rattle.text_words.proofs.find_head.Statement.{statement}
 use Rattle.text_words.proofs.find_head.Tie as tie
 
@@ -14,7 +13,7 @@ same-requires : tie.Need-same-requires
 same-requires c κs = search needs
 
 returns : tie.Need-returns
-returns c = sym (index-hit 0 headWords (c .before .before .before .before .args .f .now) 0 tt (omega arith) (sym (c .before .same .ensures) ∙ c .if1 .taken))
+returns c = search (found-at, miss, hit) depth 12
 
 slice-aggregate-same-2 : tie.Need-slice-aggregate-same-2
 slice-aggregate-same-2 c = search needs
@@ -23,7 +22,7 @@ same-requires-2 : tie.Need-same-requires-2
 same-requires-2 c κs = search needs
 
 returns-2 : tie.Need-returns-2
-returns-2 c = sym (index-hit 0 headWords (c .before .before .before .before .before .before .before .args .f .now) 1 ((sym (c .before .before .before .before .same .ensures) ∙ c .before .before .before .if1 .left), tt) (omega arith) (sym (c .before .same2 .ensures) ∙ c .if2 .taken))
+returns-2 c = search (found-at, miss, hit) depth 12
 
 slice-aggregate-same-3 : tie.Need-slice-aggregate-same-3
 slice-aggregate-same-3 c = search needs
@@ -32,7 +31,7 @@ same-requires-3 : tie.Need-same-requires-3
 same-requires-3 c κs = search needs
 
 returns-3 : tie.Need-returns-3
-returns-3 c = sym (index-hit 0 headWords (c .before .before .before .before .before .before .before .before .before .before .args .f .now) 2 ((sym (c .before .before .before .before .before .before .before .same .ensures) ∙ c .before .before .before .before .before .before .if1 .left), ((sym (c .before .before .before .before .same2 .ensures) ∙ c .before .before .before .if2 .left), tt)) (omega arith) (sym (c .before .same3 .ensures) ∙ c .if3 .taken))
+returns-3 c = search (found-at, miss, hit) depth 12
 
 slice-aggregate-same-4 : tie.Need-slice-aggregate-same-4
 slice-aggregate-same-4 c = search needs
@@ -41,28 +40,15 @@ same-requires-4 : tie.Need-same-requires-4
 same-requires-4 c κs = search needs
 
 returns-4 : tie.Need-returns-4
-returns-4 c = sym (index-hit 0 headWords (c .before .before .before .before .before .before .before .before .before .before .before .before .before .args .f .now) 3 ((sym (c .before .before .before .before .before .before .before .before .before .before .same .ensures) ∙ c .before .before .before .before .before .before .before .before .before .if1 .left), ((sym (c .before .before .before .before .before .before .before .same2 .ensures) ∙ c .before .before .before .before .before .before .if2 .left), ((sym (c .before .before .before .before .same3 .ensures) ∙ c .before .before .before .if3 .left), tt))) (omega arith) (sym (c .before .same4 .ensures) ∙ c .if4 .taken))
+returns-4 c = search (found-at, miss, hit) depth 12
 
-slice-aggregate-same-5 : tie.Need-slice-aggregate-same-5
-slice-aggregate-same-5 c = search needs
-
-same-requires-5 : tie.Need-same-requires-5
-same-requires-5 c κs = search needs
+late-head-requires : tie.Need-late-head-requires
+late-head-requires c κs = search needs
 
 returns-5 : tie.Need-returns-5
-returns-5 c = sym (index-hit 0 headWords (c .before .before .before .before .before .before .before .before .before .before .before .before .before .before .before .before .args .f .now) 4 ((sym (c .before .before .before .before .before .before .before .before .before .before .before .before .before .same .ensures) ∙ c .before .before .before .before .before .before .before .before .before .before .before .before .if1 .left), ((sym (c .before .before .before .before .before .before .before .before .before .before .same2 .ensures) ∙ c .before .before .before .before .before .before .before .before .before .if2 .left), ((sym (c .before .before .before .before .before .before .before .same3 .ensures) ∙ c .before .before .before .before .before .before .if3 .left), ((sym (c .before .before .before .before .same4 .ensures) ∙ c .before .before .before .if4 .left), tt)))) (omega arith) (sym (c .before .same5 .ensures) ∙ c .if5 .taken))
-
-slice-aggregate-same-6 : tie.Need-slice-aggregate-same-6
-slice-aggregate-same-6 c = search needs
-
-same-requires-6 : tie.Need-same-requires-6
-same-requires-6 c κs = search needs
-
-returns-6 : tie.Need-returns-6
-returns-6 c = sym (index-hit 0 headWords (c .before .before .before .before .before .before .before .before .before .before .before .before .before .before .before .before .before .before .before .args .f .now) 5 ((sym (c .before .before .before .before .before .before .before .before .before .before .before .before .before .before .before .before .same .ensures) ∙ c .before .before .before .before .before .before .before .before .before .before .before .before .before .before .before .if1 .left), ((sym (c .before .before .before .before .before .before .before .before .before .before .before .before .before .same2 .ensures) ∙ c .before .before .before .before .before .before .before .before .before .before .before .before .if2 .left), ((sym (c .before .before .before .before .before .before .before .before .before .before .same3 .ensures) ∙ c .before .before .before .before .before .before .before .before .before .if3 .left), ((sym (c .before .before .before .before .before .before .before .same4 .ensures) ∙ c .before .before .before .before .before .before .if4 .left), ((sym (c .before .before .before .before .same5 .ensures) ∙ c .before .before .before .if5 .left), tt))))) (omega arith) (sym (c .before .same6 .ensures) ∙ c .if6 .taken))
-
-returns-7 : tie.Need-returns-7
-returns-7 c = sym (index-missed 0 headWords (c .before .before .before .before .before .before .before .before .before .before .before .before .before .before .before .before .before .before .before .args .f .now) ((sym (c .before .before .before .before .before .before .before .before .before .before .before .before .before .before .before .before .same .ensures) ∙ c .before .before .before .before .before .before .before .before .before .before .before .before .before .before .before .if1 .left), ((sym (c .before .before .before .before .before .before .before .before .before .before .before .before .before .same2 .ensures) ∙ c .before .before .before .before .before .before .before .before .before .before .before .before .if2 .left), ((sym (c .before .before .before .before .before .before .before .before .before .before .same3 .ensures) ∙ c .before .before .before .before .before .before .before .before .before .if3 .left), ((sym (c .before .before .before .before .before .before .before .same4 .ensures) ∙ c .before .before .before .before .before .before .if4 .left), ((sym (c .before .before .before .before .same5 .ensures) ∙ c .before .before .before .if5 .left), ((sym (c .before .same6 .ensures) ∙ c .if6 .left), tt)))))))
+returns-5 c =
+    let start = c .before .before .before .before .before .before .before .before .before .before .before .before .before .before in
+    found-rest 0 headWords (start .args .f .now) 4 (drop 4 headWords) (c .late-head .ensures) (λ v rest. search miss depth 12)
 
 pub find-head-spec : {M : Type 1} → statement M
 find-head-spec =
@@ -80,10 +66,5 @@ find-head-spec =
     slice-aggregate-same-4
     same-requires-4
     returns-4
-    slice-aggregate-same-5
-    same-requires-5
-    returns-5
-    slice-aggregate-same-6
-    same-requires-6
-    returns-6
-    returns-7)
+    late-head-requires
+    returns-5)

@@ -1,0 +1,3 @@
+pub mod Cut
+pub mod Lines
+pub mod Splits
