@@ -127,11 +127,14 @@ term-rows =
     ∷ more (row 4 1 (4 ∷ 0 ∷ [])) 4
     ∷ more (row 4 2 (0 ∷ 0 ∷ [])) 4
     ∷ more (row 4 2 (4 ∷ [])) 4
+    ∷ more (row 4 2 (4 ∷ 0 ∷ 0 ∷ [])) 4
     ∷ fine (row 5 3 (4 ∷ 0 ∷ 1 ∷ []))
     ∷ more (row 5 3 (4 ∷ 1 ∷ 1 ∷ [])) 4
     ∷ more (row 5 3 (4 ∷ 0 ∷ 0 ∷ [])) 4
     ∷ more (row 5 2 (4 ∷ 0 ∷ 1 ∷ [])) 4
     ∷ more (row 5 3 (4 ∷ 0 ∷ [])) 4
+    ∷ more (row 5 3 (4 ∷ 0 ∷ 1 ∷ 0 ∷ [])) 4
+    ∷ more (row 5 3 (0 ∷ 0 ∷ 1 ∷ [])) 4
     -- a free head: its sort is there, no argument is a prop
     ∷ fine (row 21 0 (0 ∷ 1 ∷ 3 ∷ 4 ∷ []))
     ∷ more (row 21 4 []) 4
@@ -232,6 +235,7 @@ columns =
     ∷ steps [] (deduce refl-rule 65535 1 []) (away 9)
     ∷ in-conflict (clear 65535) 9
     ∷ in-conflict (flip e 65535) 9
+    ∷ in-conflict (flip 65535 a) 9
     -- one that is not needed is filled
     ∷ steps [] (0 ∷ 0 ∷ a ∷ 7 ∷ nothing 5) (away 9)
     ∷ steps [] (0 ∷ 65535 ∷ a ∷ 7 ∷ b ∷ nothing 4) (away 9)
@@ -239,6 +243,8 @@ columns =
     ∷ in-conflict (3 ∷ 0 ∷ e ∷ nothing 6) 9
     ∷ in-conflict (4 ∷ 65535 ∷ b ∷ 0 ∷ nothing 5) 9
     ∷ in-conflict (5 ∷ 65535 ∷ e ∷ 65535 ∷ a ∷ nothing 4) 9
+    ∷ in-conflict (6 ∷ 0 ∷ e ∷ 65535 ∷ a ∷ nothing 4) 9
+    ∷ in-conflict (6 ∷ 65535 ∷ e ∷ 0 ∷ a ∷ nothing 4) 9
     ∷ in-conflict (6 ∷ 65535 ∷ e ∷ 65535 ∷ a ∷ a ∷ nothing 3) 9
     -- premises not from the left; a value above 1
     ∷ steps [] (1 ∷ same ∷ e ∷ 1 ∷ 65535 ∷ a ∷ nothing 3) (away 9)
