@@ -127,11 +127,14 @@ term-rows =
     ∷ more (row 4 1 (4 ∷ 0 ∷ [])) 4
     ∷ more (row 4 2 (0 ∷ 0 ∷ [])) 4
     ∷ more (row 4 2 (4 ∷ [])) 4
+    ∷ more (row 4 2 (4 ∷ 0 ∷ 0 ∷ [])) 4
     ∷ fine (row 5 3 (4 ∷ 0 ∷ 1 ∷ []))
     ∷ more (row 5 3 (4 ∷ 1 ∷ 1 ∷ [])) 4
     ∷ more (row 5 3 (4 ∷ 0 ∷ 0 ∷ [])) 4
     ∷ more (row 5 2 (4 ∷ 0 ∷ 1 ∷ [])) 4
     ∷ more (row 5 3 (4 ∷ 0 ∷ [])) 4
+    ∷ more (row 5 3 (4 ∷ 0 ∷ 1 ∷ 0 ∷ [])) 4
+    ∷ more (row 5 3 (0 ∷ 0 ∷ 1 ∷ [])) 4
     -- a free head: its sort is there, no argument is a prop
     ∷ fine (row 21 0 (0 ∷ 1 ∷ 3 ∷ 4 ∷ []))
     ∷ more (row 21 4 []) 4
@@ -232,6 +235,7 @@ columns =
     ∷ steps [] (deduce refl-rule 65535 1 []) (away 9)
     ∷ in-conflict (clear 65535) 9
     ∷ in-conflict (flip e 65535) 9
+    ∷ in-conflict (flip 65535 a) 9
     -- one that is not needed is filled
     ∷ steps [] (0 ∷ 0 ∷ a ∷ 7 ∷ nothing 5) (away 9)
     ∷ steps [] (0 ∷ 65535 ∷ a ∷ 7 ∷ b ∷ nothing 4) (away 9)
@@ -239,6 +243,8 @@ columns =
     ∷ in-conflict (3 ∷ 0 ∷ e ∷ nothing 6) 9
     ∷ in-conflict (4 ∷ 65535 ∷ b ∷ 0 ∷ nothing 5) 9
     ∷ in-conflict (5 ∷ 65535 ∷ e ∷ 65535 ∷ a ∷ nothing 4) 9
+    ∷ in-conflict (6 ∷ 0 ∷ e ∷ 65535 ∷ a ∷ nothing 4) 9
+    ∷ in-conflict (6 ∷ 65535 ∷ e ∷ 0 ∷ a ∷ nothing 4) 9
     ∷ in-conflict (6 ∷ 65535 ∷ e ∷ 65535 ∷ a ∷ a ∷ nothing 3) 9
     -- premises not from the left; a value above 1
     ∷ steps [] (1 ∷ same ∷ e ∷ 1 ∷ 65535 ∷ a ∷ nothing 3) (away 9)
@@ -417,6 +423,11 @@ units =
     ∷ unit-of (4 ∷ 0 ∷ 1 ∷ 1 ∷ 2 ∷ 1 ∷ []) (deduce unit 0 0 (4 ∷ 1 ∷ 2 ∷ [])) (remains 1 4)
     ∷ unit-of (4 ∷ 0 ∷ 0 ∷ 1 ∷ 2 ∷ 1 ∷ []) (deduce unit 1 0 (4 ∷ 0 ∷ 2 ∷ [])) (remains 1 4)
     ∷ unit-of (4 ∷ 0 ∷ 0 ∷ 1 ∷ 2 ∷ 0 ∷ []) (deduce unit 1 0 (4 ∷ 0 ∷ 2 ∷ [])) (refuses 0 13 3)
+    ∷ unit-of (4 ∷ 1 ∷ 1 ∷ 1 ∷ 2 ∷ 1 ∷ []) (deduce unit 0 0 (4 ∷ 1 ∷ 2 ∷ [])) (refuses 0 13 3)
+    ∷ unit-of (4 ∷ 0 ∷ 1 ∷ 1 ∷ 2 ∷ 1 ∷ []) (deduce unit 0 1 (4 ∷ 1 ∷ 2 ∷ [])) (refuses 0 13 3)
+    -- each by the other's values
+    ∷ unit-of (4 ∷ 1 ∷ 1 ∷ 0 ∷ 2 ∷ 0 ∷ []) (deduce unit 0 1 (4 ∷ 1 ∷ 2 ∷ [])) (refuses 0 13 3)
+    ∷ unit-of (3 ∷ 0 ∷ 1 ∷ 1 ∷ 2 ∷ 1 ∷ []) (deduce unit 0 0 (3 ∷ 1 ∷ 2 ∷ [])) (refuses 0 13 3)
     -- an argument at two positions is asked for at each, and either may be the one that is left
     ∷ unit-of (5 ∷ 1 ∷ 0 ∷ 0 ∷ []) (deduce unit 1 1 (5 ∷ 0 ∷ 0 ∷ [])) (remains 1 3)
     ∷ unit-of (5 ∷ 1 ∷ 0 ∷ 0 ∷ []) (deduce unit 1 1 (5 ∷ 0 ∷ [])) (refuses 0 13 2)
@@ -425,7 +436,7 @@ units =
 
 -- ---- cong on select, store and free heads; pred on free ones
 
--- a, b; i, j; x, y; their equations; select of each, store of each, their equations; P(i), P(j); j = i
+-- a, b; i, j; x, y; their equations; select of each, store of each, their equations; P(i), P(j); j = i; R of the two selects; Q(j)
 abbrev functions : List ℕ
 functions =
     row 16 3 []
@@ -446,6 +457,8 @@ functions =
     ++ row 22 0 (2 ∷ [])
     ++ row 22 0 (3 ∷ [])
     ++ row 0 0 (3 ∷ 2 ∷ [])
+    ++ row 23 0 (9 ∷ 10 ∷ [])
+    ++ row 24 0 (3 ∷ [])
 
 abbrev cong-of : List ℕ → List ℕ → Case
 cong-of log r = sheets arrays functions (6 ∷ 1 ∷ 7 ∷ 1 ∷ 8 ∷ 1 ∷ 15 ∷ 1 ∷ 17 ∷ 1 ∷ []) log r
@@ -458,8 +471,11 @@ congs =
     ∷ cong-of (deduce cong 11 1 (6 ∷ 17 ∷ [])) (refuses 0 13 5)
     ∷ cong-of (deduce cong 11 0 (6 ∷ 7 ∷ [])) (refuses 0 13 5)
     ∷ cong-of (deduce cong 8 1 []) (refuses 0 13 5)
+    ∷ cong-of (deduce cong 18 1 (6 ∷ 7 ∷ [])) (refuses 0 13 5)
     ∷ cong-of (deduce pred 16 1 (15 ∷ 7 ∷ [])) (remains 1 6)
     ∷ cong-of (deduce pred 16 0 (15 ∷ 7 ∷ [])) (refuses 0 13 5)
+    ∷ cong-of (deduce pred 16 1 (15 ∷ [])) (refuses 0 13 5)
+    ∷ cong-of (deduce pred 19 1 (15 ∷ 7 ∷ [])) (refuses 0 13 5)
     -- eq is no free head
     ∷ cong-of (deduce pred 17 1 (7 ∷ 7 ∷ 17 ∷ [])) (refuses 0 13 5)
     ∷ []
