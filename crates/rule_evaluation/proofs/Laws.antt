@@ -11,7 +11,6 @@ use Rattle.calculus.specs.Lists.{eqList, num, isTrue}
 use Rattle.calculus.specs.Sheets.{blank}
 use Rattle.calculus.specs.Terms.{filled, cells, args, argsOf, termAt, notHead, andHead, orHead}
 use Rattle.calculus.specs.Rules.{fits, rowOf, valueOf, notOf, andOf, orOf, evaluates}
-use Rattle.calculus.specs.Steps.{premises}
 use Rattle.rule_claims.specs.Claims.{gap, stated}
 
 -- eval, where the premises are the arguments, and where they are not

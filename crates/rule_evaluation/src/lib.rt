@@ -9,7 +9,6 @@ ghost use Rattle.calculus.specs.Terms.{filled, argsOf};
 ghost use Rattle.calculus.specs.Rules.{rowOf, valueOf, notOf, andOf, orOf, evaluates};
 ghost use Rattle.rule_claims.specs.Claims.{stated, premisesOf, allows};
 use calculus::Premise;
-use calculus::Row;
 use calculus::Term;
 use rows::BLANK;
 use rows::term_at;

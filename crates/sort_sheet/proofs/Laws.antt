@@ -5,7 +5,6 @@ use mathlib.Core.List.{List}
 use Prim.Native.Nat.{ℕ, _+_}
 use native.Mathlib.Numerals.{add-one}
 use lib.Dec.{eqb, ltb}
-use Rattle.calculus.specs.declared.Check.{Check}
 use Rattle.calculus.specs.declared.Check.the-variants.{Passed, Refused}
 use Rattle.calculus.specs.Numbers.{checkOf}
 use Rattle.calculus.specs.Sheets.{blank}

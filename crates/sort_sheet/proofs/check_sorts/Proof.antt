@@ -8,7 +8,7 @@ use Rattle.calculus.specs.Numbers.{firstRefusal}
 use Prim.Native.Nat.{_≤_, _-_, _/_}
 use native.Mathlib.Omega.{arith}
 use borrow.Author.Tests.{ltb-true, ltb-false}
-use mathlib.Core.Path.{_≡_, sym, ap, _∙_}
+use mathlib.Core.Path.{_≡_, sym, ap}
 use Rattle.sort_sheet.proofs.check_sorts.Statement.{statement}
 use Rattle.sort_sheet.proofs.check_sorts.Tie as tie
 

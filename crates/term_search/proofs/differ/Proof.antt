@@ -1,55 +1,41 @@
+-- `term_search::differ` meets its contract.
 use borrow.Author.Needs.{needs}
 use Rattle.term_search.proofs.differ.Statement.{statement}
 use Rattle.term_search.proofs.differ.Tie as tie
-use Rattle.term_search.proofs.differ.Reads as reads
-use Rattle.term_search.proofs.differ.Lts as lts
-use Rattle.term_search.proofs.column_of.Reads as column-of-reads
 
--- src/lib.rt:65:9
 column-of-requires : tie.Need-column-of-requires
 column-of-requires c κs = search needs
 
--- src/lib.rt:66:13
 cast-result : tie.Need-cast-result
 cast-result c = search needs
 
--- src/lib.rt:66:13
 mul-result : tie.Need-mul-result
 mul-result c = search needs
 
--- src/lib.rt:66:13
 add-result : tie.Need-add-result
 add-result c = search needs
 
--- src/lib.rt:66:7
 mul-result-2 : tie.Need-mul-result-2
 mul-result-2 c = search needs
 
--- src/lib.rt:66:7
 shared-slice-read-result : tie.Need-shared-slice-read-result
 shared-slice-read-result c = search needs
 
--- src/lib.rt:66:44
 cast-result-2 : tie.Need-cast-result-2
 cast-result-2 c = search needs
 
--- src/lib.rt:66:44
 mul-result-3 : tie.Need-mul-result-3
 mul-result-3 c = search needs
 
--- src/lib.rt:66:44
 add-result-2 : tie.Need-add-result-2
 add-result-2 c = search needs
 
--- src/lib.rt:66:38
 mul-result-4 : tie.Need-mul-result-4
 mul-result-4 c = search needs
 
--- src/lib.rt:66:38
 shared-slice-read-result-2 : tie.Need-shared-slice-read-result-2
 shared-slice-read-result-2 c = search needs
 
--- src/lib.rt:61:1
 returns : tie.Need-returns
 returns c = rw (c .before .before .before .before .column-of .ensures .0)
 

@@ -1,3 +1,4 @@
+-- `term_search::first_repeat` meets its contract.
 use mathlib.Core.Path.{_≡_, refl}
 use mathlib.Core.Bool.{true, cond}
 use Prim.Native.Nat.{suc, _-_, _≤_}
@@ -11,11 +12,6 @@ use Rattle.term_search.specs.Found.{Chained, mix, agree}
 use Rattle.term_search.proofs.Laws.{Passed, chain-none, chain-next, pairs-first, pairs-next, pairs-fewer, row-fresh, columns-agree, repeat-none, repeat-found}
 use Rattle.term_search.proofs.first_repeat.Statement.{statement}
 use Rattle.term_search.proofs.first_repeat.Tie as tie
-use Rattle.term_search.proofs.first_repeat.Reads as reads
-use Rattle.term_search.proofs.first_repeat.Lts as lts
-use Rattle.term_search.proofs.chain.Reads as chain-reads
-use Rattle.term_search.proofs.differ.Reads as differ-reads
-use Rattle.term_search.proofs.mix_of.Reads as mix-of-reads
 
 abbrev Inv-loop : tie.InvT-loop
 Inv-loop terms n lasts backs t u₀ k₀ u k = (u ≡ u₀) × (k ≤ 5) × (below k (agree terms t u) ≡ true)
@@ -35,79 +31,60 @@ Inv-rows terms n lasts₀ backs₀ t₀ lasts backs t = (t ≤ n) × (below t (f
 abbrev μ-rows : tie.MeasureT-rows
 μ-rows terms n lasts₀ backs₀ t₀ lasts backs t = n - t
 
--- src/lib.rt:112:5
 rows-holds : tie.Need-rows-holds Inv-loop μ-loop Inv-pairs μ-pairs Inv-rows μ-rows
 rows-holds c = (omega arith, refl, chain-none _ _ _ refl refl (λ s h. getD-replicate 1024 s 65535 0 h))
 
--- src/lib.rt:114:51
 mix-of-requires : tie.Need-mix-of-requires Inv-loop μ-loop Inv-pairs μ-pairs Inv-rows μ-rows
 mix-of-requires c κs = omega arith
 
--- src/lib.rt:114:13
 chain-requires : tie.Need-chain-requires Inv-loop μ-loop Inv-pairs μ-pairs Inv-rows μ-rows
 chain-requires c κs = omega arith
 
--- src/lib.rt:115:9
 pairs-holds : tie.Need-pairs-holds Inv-loop μ-loop Inv-pairs μ-pairs Inv-rows μ-rows
 pairs-holds c = search pairs-first
 
--- src/lib.rt:117:13
 loop-holds : tie.Need-loop-holds Inv-loop μ-loop Inv-pairs μ-pairs Inv-rows μ-rows
 loop-holds c = (refl, omega arith, refl)
 
--- src/lib.rt:118:20
 differ-requires : tie.Need-differ-requires Inv-loop μ-loop Inv-pairs μ-pairs Inv-rows μ-rows
 differ-requires c κs = (omega arith, omega arith, omega arith)
 
--- src/lib.rt:119:31
 cast-u : tie.Need-cast-u Inv-loop μ-loop Inv-pairs μ-pairs Inv-rows μ-rows
 cast-u c = search needs
 
--- src/lib.rt:119:25
 mul-u : tie.Need-mul-u Inv-loop μ-loop Inv-pairs μ-pairs Inv-rows μ-rows
 mul-u c = omega arith
 
--- src/lib.rt:119:25
 array-read-u : tie.Need-array-read-u Inv-loop μ-loop Inv-pairs μ-pairs Inv-rows μ-rows
 array-read-u c = omega arith
 
--- src/lib.rt:115:9
 pairs-less : tie.Need-pairs-less Inv-loop μ-loop Inv-pairs μ-pairs Inv-rows μ-rows
 pairs-less c = search pairs-fewer
 
--- src/lib.rt:115:9
 pairs-again : tie.Need-pairs-again Inv-loop μ-loop Inv-pairs μ-pairs Inv-rows μ-rows
 pairs-again c = search pairs-next
 
--- src/lib.rt:122:17
 add-k : tie.Need-add-k Inv-loop μ-loop Inv-pairs μ-pairs Inv-rows μ-rows
 add-k c = omega arith
 
--- src/lib.rt:117:13
 loop-less : tie.Need-loop-less Inv-loop μ-loop Inv-pairs μ-pairs Inv-rows μ-rows
 loop-less c = omega arith
 
--- src/lib.rt:117:13
 loop-again : tie.Need-loop-again Inv-loop μ-loop Inv-pairs μ-pairs Inv-rows μ-rows
 loop-again c = (c .before .before .before .loop .inv .0, omega arith, search columns-agree)
 
--- src/lib.rt:126:9
 add-t : tie.Need-add-t Inv-loop μ-loop Inv-pairs μ-pairs Inv-rows μ-rows
 add-t c = omega arith
 
--- src/lib.rt:112:5
 rows-less : tie.Need-rows-less Inv-loop μ-loop Inv-pairs μ-pairs Inv-rows μ-rows
 rows-less c = omega arith
 
--- src/lib.rt:112:5
 rows-again : tie.Need-rows-again Inv-loop μ-loop Inv-pairs μ-pairs Inv-rows μ-rows
 rows-again c = (omega arith, search row-fresh, search chain-next)
 
--- src/lib.rt:105:1
 returns : tie.Need-returns Inv-loop μ-loop Inv-pairs μ-pairs Inv-rows μ-rows
 returns c = search repeat-none
 
--- src/lib.rt:105:1
 returns-2 : tie.Need-returns-2 Inv-loop μ-loop Inv-pairs μ-pairs Inv-rows μ-rows
 returns-2 c = search repeat-found
 

@@ -1,3 +1,4 @@
+-- `term_search::first_use` meets its contract.
 use mathlib.Core.Path.{_≡_}
 use mathlib.Core.Bool.{true}
 use Prim.Native.Nat.{_-_, _≤_}
@@ -8,9 +9,6 @@ use Rattle.term_search.specs.Found.{otherHead}
 use Rattle.term_search.proofs.Laws.{use-low, use-before, use-found, use-none, use-other, use-noted}
 use Rattle.term_search.proofs.first_use.Statement.{statement}
 use Rattle.term_search.proofs.first_use.Tie as tie
-use Rattle.term_search.proofs.first_use.Reads as reads
-use Rattle.term_search.proofs.first_use.Lts as lts
-use Rattle.term_search.proofs.note.Reads as note-reads
 
 abbrev Inv-loop : tie.InvT-loop
 Inv-loop slots terms t h u₀ u = (u ≤ t .0) × (below u (otherHead terms (t .0)) ≡ true)
@@ -18,63 +16,48 @@ Inv-loop slots terms t h u₀ u = (u ≤ t .0) × (below u (otherHead terms (t .
 abbrev μ-loop : tie.MeasureT-loop
 μ-loop slots terms t h u₀ u = t .0 - u
 
--- src/lib.rt:37:19
 cast-h : tie.Need-cast-h Inv-loop μ-loop
 cast-h c = search needs
 
--- src/lib.rt:37:19
 mul-h : tie.Need-mul-h Inv-loop μ-loop
 mul-h c = search needs
 
--- src/lib.rt:37:13
 mul-h-2 : tie.Need-mul-h-2 Inv-loop μ-loop
 mul-h-2 c = search needs
 
--- src/lib.rt:37:13
 shared-slice-read-h : tie.Need-shared-slice-read-h Inv-loop μ-loop
 shared-slice-read-h c = search needs
 
--- src/lib.rt:39:9
 note-requires : tie.Need-note-requires Inv-loop μ-loop
 note-requires c κs = search needs
 
--- src/lib.rt:41:5
 loop-holds : tie.Need-loop-holds Inv-loop μ-loop
 loop-holds c = (search use-low, search use-before)
 
--- src/lib.rt:42:18
 cast-if2 : tie.Need-cast-if2 Inv-loop μ-loop
 cast-if2 c = search needs
 
--- src/lib.rt:42:18
 mul-if2 : tie.Need-mul-if2 Inv-loop μ-loop
 mul-if2 c = search needs
 
--- src/lib.rt:42:12
 mul-if2-2 : tie.Need-mul-if2-2 Inv-loop μ-loop
 mul-if2-2 c = search needs
 
--- src/lib.rt:42:12
 shared-slice-read-if2 : tie.Need-shared-slice-read-if2 Inv-loop μ-loop
 shared-slice-read-if2 c = search needs
 
--- src/lib.rt:43:13
 returns : tie.Need-returns Inv-loop μ-loop
 returns c = (search use-found, search use-noted)
 
--- src/lib.rt:45:9
 add-u : tie.Need-add-u Inv-loop μ-loop
 add-u c = search needs
 
--- src/lib.rt:41:5
 loop-less : tie.Need-loop-less Inv-loop μ-loop
 loop-less c = omega arith
 
--- src/lib.rt:41:5
 loop-again : tie.Need-loop-again Inv-loop μ-loop
 loop-again c = (omega arith, search use-other)
 
--- src/lib.rt:32:1
 returns-2 : tie.Need-returns-2 Inv-loop μ-loop
 returns-2 c = (search use-none, search use-noted)
 

@@ -1,36 +1,27 @@
+-- `term_search::note` meets its contract.
 use Rattle.term_search.specs.Found.{noted}
 use borrow.Author.Needs.{needs}
 use Rattle.term_search.proofs.note.Statement.{statement}
 use Rattle.term_search.proofs.note.Tie as tie
-use Rattle.term_search.proofs.note.Reads as reads
-use Rattle.term_search.proofs.note.Lts as lts
-use Rattle.term_search.proofs.smaller_of.Reads as smaller-of-reads
 
--- src/lib.rt:25:13
 cast-s : tie.Need-cast-s
 cast-s c = search needs
 
--- src/lib.rt:26:24
 mul-smaller-of : tie.Need-mul-smaller-of
 mul-smaller-of c = search needs
 
--- src/lib.rt:26:24
 element-copy-out-smaller-of : tie.Need-element-copy-out-smaller-of
 element-copy-out-smaller-of c = search needs
 
--- src/lib.rt:26:9
 smaller-of-requires : tie.Need-smaller-of-requires
 smaller-of-requires c κs = search needs
 
--- src/lib.rt:27:5
 mul-slots : tie.Need-mul-slots
 mul-slots c = search needs
 
--- src/lib.rt:27:5
 element-write-slots : tie.Need-element-write-slots
 element-write-slots c = search needs
 
--- src/lib.rt:21:1
 returns : tie.Need-returns
 unfolding noted
 returns c = (rw (c .smaller-of .ensures), c .smaller-of .ensures)
