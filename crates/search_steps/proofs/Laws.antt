@@ -1,4 +1,4 @@
--- Premises column by column, and the numbers of the steps of the search.
+-- Premises column by column, what a rule answers, and the level of a clash.
 use mathlib.Core.Path.{_≡_, refl, sym, _∙_}
 use mathlib.Core.Bool.{Bool, true, false, _&&_}
 use mathlib.Core.List.{List, _∷_}
