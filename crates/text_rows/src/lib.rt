@@ -71,7 +71,7 @@ pub fn term_column(
     requires { ⌜ FieldAt (now line) (now marks) k ⌝ }
     ensures { λ r. ⌜ r ≡ refOf (namesFrom (now (names .entry)) 32 count) (getD (pieces 32 (now (line .entry))) k []) ⌝ }
 {
-    term_ref(names, count, text_split::field(line, marks, k))
+    term_ref(names, count, text_columns::field(line, marks, k))
 }
 
 // What a field says of the sorts so far.
@@ -104,7 +104,7 @@ pub fn sort_column(
     requires { ⌜ FieldAt (now line) (now marks) k ⌝ }
     ensures { λ r. ⌜ r ≡ sortRef (namesFrom (now (names .entry)) 0 count) (getD (pieces 32 (now (line .entry))) k []) ⌝ }
 {
-    sort_ref(names, count, text_split::field(line, marks, k))
+    sort_ref(names, count, text_columns::field(line, marks, k))
 }
 
 // Whether a row may not have this name of its own.

@@ -27,7 +27,7 @@ fn put_sort(counts: Counts, line: &[u8], marks: &[usize; 18], names: &mut [u8; 4
     let n = counts.sorts;
     let index = text_rows::sort_column(names, n, line, marks, 1);
     let value = text_rows::sort_column(names, n, line, marks, 2);
-    text_names::put_name(names, 0, n, text_split::field(line, marks, 0));
+    text_names::put_name(names, 0, n, text_columns::field(line, marks, 0));
     Row {
         code: 0,
         place: 0,
@@ -55,7 +55,7 @@ fn add_sort(counts: Counts, line: &[u8], marks: &[usize; 18], names: &mut [u8; 4
     if n >= 32 {
         return text_rows::refuse(counts, 30, 0);
     }
-    if text_rows::is_taken(names, 0, n, text_split::field(line, marks, 0)) {
+    if text_rows::is_taken(names, 0, n, text_columns::field(line, marks, 0)) {
         return text_rows::refuse(counts, 2, 1);
     }
     put_sort(counts, line, marks, names)
@@ -68,7 +68,7 @@ pub fn sort_row(counts: Counts, line: &[u8], names: &mut [u8; 47232]) -> Row
     ensures { λ r. ⌜ Within r ⌝ }
 {
     let mut marks = [0usize; 18];
-    match text_split::check_line(line, 3, 0, &mut marks) {
+    match text_columns::check_line(line, 3, 0, &mut marks) {
         Shape::Faulty(place) => text_rows::refuse(counts, 31, place),
         Shape::Good => add_sort(counts, line, &marks, names),
     }

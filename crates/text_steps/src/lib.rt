@@ -19,7 +19,7 @@ fn value_column(line: &[u8], marks: &[usize; 18], k: usize) -> u16
     requires { ⌜ FieldAt (now line) (now marks) k ⌝ }
     ensures { λ r. ⌜ r ≡ numberOr (value (getD (pieces 32 (now (line .entry))) k [])) ⌝ }
 {
-    match text_values::read_value(text_split::field(line, marks, k)) {
+    match text_values::read_value(text_columns::field(line, marks, k)) {
         Value::Number(v) => v,
         Value::Malformed => 65535,
     }
@@ -61,7 +61,7 @@ pub fn input_row(counts: Counts, line: &[u8], names: &[u8; 47232]) -> Row
     ensures { λ r. ⌜ Within r ⌝ }
 {
     let mut marks = [0usize; 18];
-    match text_split::check_line(line, 2, 2, &mut marks) {
+    match text_columns::check_line(line, 2, 2, &mut marks) {
         Shape::Faulty(place) => text_rows::refuse(counts, 31, place),
         Shape::Good => good_input(counts, line, &marks, names),
     }
@@ -75,8 +75,8 @@ fn step_cells(counts: Counts, line: &[u8], marks: &[usize; 18], names: &[u8; 472
 {
     let terms = counts.terms;
     [
-        text_words::step_number(text_split::field(line, marks, 0)),
-        text_rules::rule_number(text_split::field(line, marks, 1)),
+        text_words::step_number(text_columns::field(line, marks, 0)),
+        text_rules::rule_number(text_columns::field(line, marks, 1)),
         text_rows::term_column(names, terms, line, marks, 2),
         value_column(line, marks, 3),
         text_rows::term_column(names, terms, line, marks, 4),
@@ -122,7 +122,7 @@ pub fn step_row(counts: Counts, line: &[u8], names: &[u8; 47232]) -> Row
     ensures { λ r. ⌜ Within r ⌝ }
 {
     let mut marks = [0usize; 18];
-    match text_split::check_line(line, 9, 4, &mut marks) {
+    match text_columns::check_line(line, 9, 4, &mut marks) {
         Shape::Faulty(place) => text_rows::refuse(counts, 31, place),
         Shape::Good => good_step(counts, line, &marks, names),
     }

@@ -87,8 +87,8 @@ fn put_term(counts: Counts, line: &[u8], marks: &[usize; 18], names: &mut [u8; 4
     let b = text_rows::term_column(names, n, line, marks, 4);
     let c = text_rows::term_column(names, n, line, marks, 5);
     let d = text_rows::term_column(names, n, line, marks, 6);
-    let head = head_of(names, counts.heads, text_split::field(line, marks, 1));
-    text_names::put_name(names, 32, n, text_split::field(line, marks, 0));
+    let head = head_of(names, counts.heads, text_columns::field(line, marks, 1));
+    text_names::put_name(names, 32, n, text_columns::field(line, marks, 0));
     Row {
         code: 0,
         place: 0,
@@ -116,7 +116,7 @@ fn add_term(counts: Counts, line: &[u8], marks: &[usize; 18], names: &mut [u8; 4
     if n >= 256 {
         return text_rows::refuse(counts, 30, 0);
     }
-    if text_rows::is_taken(names, 32, n, text_split::field(line, marks, 0)) {
+    if text_rows::is_taken(names, 32, n, text_columns::field(line, marks, 0)) {
         return text_rows::refuse(counts, 2, 1);
     }
     put_term(counts, line, marks, names)
@@ -129,7 +129,7 @@ pub fn term_row(counts: Counts, line: &[u8], names: &mut [u8; 47232]) -> Row
     ensures { λ r. ⌜ Within r ⌝ }
 {
     let mut marks = [0usize; 18];
-    match text_split::check_line(line, 7, 0, &mut marks) {
+    match text_columns::check_line(line, 7, 0, &mut marks) {
         Shape::Faulty(place) => text_rows::refuse(counts, 31, place),
         Shape::Good => add_term(counts, line, &marks, names),
     }

@@ -2,8 +2,8 @@
 use mathlib.Core.Path.{sym, ap, _∙_}
 use Rattle.text_fields.specs.Class.{isName}
 use borrow.Author.Needs.{needs}
-use Rattle.text_split.proofs.is_name_byte.Statement.{statement}
-use Rattle.text_split.proofs.is_name_byte.Tie as tie
+use Rattle.text_columns.proofs.is_name_byte.Statement.{statement}
+use Rattle.text_columns.proofs.is_name_byte.Tie as tie
 
 byte-class-requires : tie.Need-byte-class-requires
 byte-class-requires c κs = search needs

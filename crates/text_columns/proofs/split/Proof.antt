@@ -6,9 +6,9 @@ use borrow.Author.Tests.{not-true, not-false, eqb-true}
 use lib.ListN.{length, getD}
 use Rattle.text_fields.specs.Class.{nameEnd}
 use Rattle.text_fields.proofs.Laws.{space-is}
-use Rattle.text_split.proofs.Splits.{Splitting, split-start, split-none, split-stop, split-last, last-marked, split-more, split-over, no-marks}
-use Rattle.text_split.proofs.split.Statement.{statement}
-use Rattle.text_split.proofs.split.Tie as tie
+use Rattle.text_columns.proofs.Splits.{Splitting, split-start, split-none, split-stop, split-last, last-marked, split-more, split-over, no-marks}
+use Rattle.text_columns.proofs.split.Statement.{statement}
+use Rattle.text_columns.proofs.split.Tie as tie
 
 abbrev Inv-loop : tie.InvT-loop
 Inv-loop line columns marks₀ from₀ k₀ marks from k = Splitting line columns marks from k

@@ -15,7 +15,7 @@ use Rattle.text_fields.specs.Shape.{filled, spaced, fieldsAre}
 use Rattle.text_fields.specs.declared.Shape.the-variants.{Good, Faulty}
 use Rattle.text_fields.specs.Marks.{FieldAt, Marked}
 use Rattle.text_fields.proofs.Laws.{space-is, pick-both}
-use Rattle.text_split.proofs.Cut.{pieces-one, pieces-cut, run-before, run-named, name-parted}
+use Rattle.text_columns.proofs.Cut.{pieces-one, pieces-cut, run-before, run-named, name-parted}
 
 -- a line has a first field
 head-of : (c : ℕ) (l : List ℕ) → 0 < length (pieces c l)

@@ -5,9 +5,9 @@ use native.Mathlib.Omega.{arith}
 use borrow.Author.Tests.{not-true, not-false}
 use lib.ListN.{length, drop}
 use Rattle.text_fields.specs.Class.{run, nameEnd}
-use Rattle.text_split.proofs.Cut.{run-more, run-stop, run-end}
-use Rattle.text_split.proofs.name_end.Statement.{statement}
-use Rattle.text_split.proofs.name_end.Tie as tie
+use Rattle.text_columns.proofs.Cut.{run-more, run-stop, run-end}
+use Rattle.text_columns.proofs.name_end.Statement.{statement}
+use Rattle.text_columns.proofs.name_end.Tie as tie
 
 abbrev Inv-loop : tie.InvT-loop
 Inv-loop line from i₀ i = (i ≤ length line) × (i + run (drop i line) ≡ nameEnd line from)

@@ -1,8 +1,8 @@
 -- The part of the line between the marks of a field.
 use mathlib.Core.Path.{sym}
 use borrow.Author.Needs.{needs}
-use Rattle.text_split.proofs.field.Statement.{statement}
-use Rattle.text_split.proofs.field.Tie as tie
+use Rattle.text_columns.proofs.field.Statement.{statement}
+use Rattle.text_columns.proofs.field.Tie as tie
 
 mul-from : tie.Need-mul-from
 mul-from c = search needs

@@ -7,9 +7,9 @@ use lib.Dec.{eqb}
 use lib.ListN.{drop}
 use Rattle.text_fields.specs.Split.{pieces}
 use Rattle.text_fields.specs.Shape.{firstMalformed}
-use Rattle.text_split.proofs.Lines.{formed-by, formed-more, formed-stop, formed-end}
-use Rattle.text_split.proofs.first_malformed.Statement.{statement}
-use Rattle.text_split.proofs.first_malformed.Tie as tie
+use Rattle.text_columns.proofs.Lines.{formed-by, formed-more, formed-stop, formed-end}
+use Rattle.text_columns.proofs.first_malformed.Statement.{statement}
+use Rattle.text_columns.proofs.first_malformed.Tie as tie
 
 abbrev Inv-loop : tie.InvT-loop
 Inv-loop line columns column marks k₀ k =

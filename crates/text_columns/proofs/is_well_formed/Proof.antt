@@ -1,8 +1,8 @@
 -- A field of a value column, or of another.
 use mathlib.Core.Path.{_∙_}
 use borrow.Author.Needs.{needs}
-use Rattle.text_split.proofs.is_well_formed.Statement.{statement}
-use Rattle.text_split.proofs.is_well_formed.Tie as tie
+use Rattle.text_columns.proofs.is_well_formed.Statement.{statement}
+use Rattle.text_columns.proofs.is_well_formed.Tie as tie
 
 holds-value-requires : tie.Need-holds-value-requires
 holds-value-requires c κs = search needs

@@ -2,11 +2,11 @@
 use mathlib.Core.Path.{sym, _∙_}
 use borrow.Author.Tests.{not-true, not-false}
 use Rattle.text_fields.specs.Split.{pieces}
-use Rattle.text_split.proofs.Lines.{shape-unfit, fields-long, shape-good, shape-faulty}
-use Rattle.text_split.proofs.Splits.{not-good}
+use Rattle.text_columns.proofs.Lines.{shape-unfit, fields-long, shape-good, shape-faulty}
+use Rattle.text_columns.proofs.Splits.{not-good}
 use borrow.Author.Needs.{needs}
-use Rattle.text_split.proofs.check_line.Statement.{statement}
-use Rattle.text_split.proofs.check_line.Tie as tie
+use Rattle.text_columns.proofs.check_line.Statement.{statement}
+use Rattle.text_columns.proofs.check_line.Tie as tie
 
 split-requires : tie.Need-split-requires
 split-requires c κs = search needs

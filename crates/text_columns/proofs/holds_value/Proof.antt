@@ -2,8 +2,8 @@
 use mathlib.Core.Path.{sym, ap, _∙_}
 use Rattle.text_fields.specs.Number.{isNumber}
 use borrow.Author.Needs.{needs}
-use Rattle.text_split.proofs.holds_value.Statement.{statement}
-use Rattle.text_split.proofs.holds_value.Tie as tie
+use Rattle.text_columns.proofs.holds_value.Statement.{statement}
+use Rattle.text_columns.proofs.holds_value.Tie as tie
 
 read-value-requires : tie.Need-read-value-requires
 read-value-requires c κs = search needs

@@ -2,8 +2,8 @@
 use mathlib.Core.Path.{sym, ap, _∙_}
 use Rattle.text_fields.specs.Class.{isSpace}
 use borrow.Author.Needs.{needs}
-use Rattle.text_split.proofs.is_space.Statement.{statement}
-use Rattle.text_split.proofs.is_space.Tie as tie
+use Rattle.text_columns.proofs.is_space.Statement.{statement}
+use Rattle.text_columns.proofs.is_space.Tie as tie
 
 byte-class-requires : tie.Need-byte-class-requires
 byte-class-requires c κs = search needs
