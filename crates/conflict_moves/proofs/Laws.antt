@@ -105,5 +105,6 @@ gone-after w N ws us n m r top t laid c h = rw (c .trail) (kept-gone t m (trailI
 pub top-after : (w N : ℕ) (ws us : List ℕ) (n m r top : ℕ) → Cut w N ws us n m r top → topLevel (trailIn w N ws n) < 65536 → top < 65536
 top-after w N ws us n m r top c h = omega (arith, h, c .greatest, ap topLevel (c .trail), top-kept m (trailIn w N ws n))
 
-pub kept-after : (w N : ℕ) (ws us : List ℕ) (n m r top l e : ℕ) → Cut w N ws us n m r top → m ≡ l - 1 → l ≡ e → trailIn w N us r ≡ keptTo (e - 1) (trailIn w N ws n)
+pub kept-after : (w N : ℕ) (ws us : List ℕ) (n m r top l e : ℕ) → Cut w N ws us n m r top → m ≡ l - 1 → l ≡ e
+    → trailIn w N us r ≡ keptTo (e - 1) (trailIn w N ws n)
 kept-after w N ws us n m r top l e c p q = c .trail ∙ ap (λ (x : ℕ). keptTo x (trailIn w N ws n)) (p ∙ ap (λ (x : ℕ). x - 1) q)
