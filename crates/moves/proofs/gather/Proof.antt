@@ -54,7 +54,12 @@ loop-less : tie.Need-loop-less Inv-loop μ-loop
 loop-less c = search needs
 
 loop-again : tie.Need-loop-again Inv-loop μ-loop
-loop-again c = (search needs, gather-more _ _ _ _ _ _ (c .before .before .before .before .before .before .loop-test .taken) (c .before .before .before .before .before .before .before .loop .inv .1) (c .before .before .before .before .if1 .left) _ (c .before .before .insert .ensures))
+loop-again c =
+    let inserted = c .before .before in
+    let tested = inserted .before .before in
+    let inside = tested .before .before in
+    let inv = inside .before .loop .inv .1 in
+    (search needs, gather-more _ _ _ _ _ _ (inside .loop-test .taken) inv (tested .if1 .left) _ (inserted .insert .ensures))
 
 same-length-2 : tie.Need-same-length-2 Inv-loop μ-loop
 same-length-2 c = search needs
