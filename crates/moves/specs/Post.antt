@@ -4,6 +4,8 @@ use mathlib.Core.Path.{_≡_}
 use mathlib.Core.Bool.{true, false}
 use mathlib.Core.List.{List, _∷_}
 use Rattle.calculus.specs.Trail.{Set, Trail, remove, on, levelAt, levelOf, topLevel, decision, justified}
+use Rattle.calculus.specs.Lists.{has}
+use Rattle.calculus.specs.Terms.{filled}
 use Rattle.calculus.specs.Steps.{jumped, flipped}
 use Rattle.calculus.specs.WellFormed.{Within, WellFormed}
 use Rattle.bitset.specs.Windows.{setAt}
@@ -30,8 +32,8 @@ ToDeduce w N ws n top t s level =
 abbrev pub decidedIn : ℕ → ℕ → List ℕ → ℕ → ℕ → ℕ → Trail
 decidedIn w N ws n t v = decision (trailIn w N ws n) t v ∷ trailIn w N ws n
 
-abbrev pub deducedIn : ℕ → ℕ → List ℕ → ℕ → ℕ → ℕ → Set → Trail
-deducedIn w N ws n t v s = justified (trailIn w N ws n) t v s ∷ trailIn w N ws n
+abbrev pub deducedIn : ℕ → ℕ → List ℕ → ℕ → ℕ → ℕ → List ℕ → Trail
+deducedIn w N ws n t v ps = justified (trailIn w N ws n) t v (has (filled ps)) ∷ trailIn w N ws n
 
 -- the trail tr of r entries, whose greatest level is top; the conflict is left open
 pub record Stands (w N : ℕ) (ws : List ℕ) (r top : ℕ) (tr : Trail) : Type 0 where

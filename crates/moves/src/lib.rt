@@ -81,8 +81,7 @@ pub fn propagate(
     level: Level,
 ) -> Kept
     requires { ⌜ ToDeduce w terms (now work) n (top .0) (t .0) (has (filled (now ps))) (level .0) ⌝ }
-    ensures { λ r. ⌜ Stands w terms (now (work .exit)) (r .count) (r .top .0)
-        (deducedIn w terms (now (work .entry)) n (t .0) v (has (filled (now (ps .entry))))) ⌝ }
+    ensures { λ r. ⌜ Stands w terms (now (work .exit)) (r .count) (r .top .0) (deducedIn w terms (now (work .entry)) n (t .0) v (now (ps .entry))) ⌝ }
 {
     let b = t.0 as usize * w;
     gather(work, b, w, ps);

@@ -55,11 +55,11 @@ loop-less c = search needs
 
 loop-again : tie.Need-loop-again Inv-loop μ-loop
 loop-again c =
-    let tested = c .before .before .before .before in
-    let inside = tested .before .before in (
-      search needs,
-      gather-more _ _ _ _ _ _ (inside .loop-test .taken) (inside .before .loop .inv .1) (tested .if1 .left) _ (c .before .before .insert .ensures),
-    )
+    let inserted = c .before .before in
+    let tested = inserted .before .before in
+    let inside = tested .before .before in
+    let inv = inside .before .loop .inv .1 in
+    (search needs, gather-more _ _ _ _ _ _ (inside .loop-test .taken) inv (tested .if1 .left) _ (inserted .insert .ensures))
 
 same-length-2 : tie.Need-same-length-2 Inv-loop μ-loop
 same-length-2 c = search needs
