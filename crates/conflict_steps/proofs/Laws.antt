@@ -7,14 +7,15 @@ use native.Mathlib.Omega.{arith}
 use lib.ListN.{length}
 use lib.Dec.{eqb}
 use borrow.Author.Tests.{not-true}
-use Rattle.calculus.specs.Trail.{Set, Trail, intersection, on, entry, decidedAt, whyAt, levelOf, topLevel, holds, firstOrder}
+use Rattle.calculus.specs.Trail.{Set, Trail, intersection, on, entry, levelAt, decidedAt, whyAt, levelOf, topLevel, holds, firstOrder}
 use Rattle.calculus.specs.WellFormed.{Within, WellFormed}
-use Rattle.calculus.proofs.Facts.{true-or-false}
-use Rattle.calculus.proofs.Entries.{level-ge, level-le}
-use Rattle.calculus.proofs.WellFormed.{newest, why-well-formed, top-length}
+use Rattle.calculus.proofs.Facts.{true-T, true-or-false}
+use Rattle.calculus.proofs.Entries.{entry-in, level-ge, level-le}
+use Rattle.calculus.proofs.WellFormed.{newest, why-well-formed, decided-high, top-length}
 use Rattle.bitset.specs.Windows.{setAt}
 use Rattle.trail.specs.Words.{trailIn}
 use Rattle.trail.proofs.Laws.{why-in, trail-length, room-all}
+use Rattle.trail.proofs.Abstract.{holds-no}
 use Rattle.trail.proofs.Frames.{why-words}
 use Rattle.decisions.specs.Decisions.{firstOrderAny}
 use Rattle.decisions.proofs.Laws.{none-of-level}
@@ -92,6 +93,24 @@ module _ (w n : ℕ) (ts ws : List ℕ) (count : ℕ) where
         let d = j .placed .found .laid in
         let h = top-less here t (j .placed .found .wellFormed) (j .placed .stands) (j .justified) in
         omega (arith, h, trail-length w n ws count, room-all w n ws count d, d .wide, d .narrow)
+
+    -- at level 0 its justification holds no decision, since a member's level is not above its own, and a decision's is above 0
+    pub barred-at-base : {m : ℕ} → (on here t ≡ true → m ≡ levelAt here t) → m ≡ 0
+        → false ≡ holdsFirstOrder w n ts ws count (whyIn w n ws count t)
+    barred-at-base e z = sym (holds-no (whyAt here t) (firstOrder ts (conflictLevel w n ws count)) here (j .placed .found .laid .distinct) none)
+      where
+        base : levelAt here t ≡ 0
+        base = sym (e (j .placed .stands)) ∙ z
+
+        none : (u : ℕ) → whyAt here t u ≡ true → on here u ≡ true → firstOrder ts (conflictLevel w n ws count) (entry here u) ≡ false
+        none u h o = go ((entry here u) .decided) refl
+          where
+            go : (d : Bool) → (entry here u) .decided ≡ d → firstOrder ts (conflictLevel w n ws count) (entry here u) ≡ false
+            go true q =
+                let low = why-well-formed here t u (j .placed .found .wellFormed) h .1 in
+                let high = decided-high here (entry here u) (j .placed .found .wellFormed) (entry-in here u (true-T _ o) .0) (true-T _ q) in
+                absurd (omega (arith, low, high, base))
+            go false q = rw q
 
     -- no first-order decision of any level in it: none of the conflict's
     pub barred-never : {b : Bool} → b ≡ holds here (setAt ws (t * w) w) (firstOrderAny ts) → not b ≡ true

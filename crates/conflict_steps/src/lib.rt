@@ -72,11 +72,15 @@ fn above_rest(
 }
 
 // Whether the justification of row a holds a first-order decision of the conflict's level, which is found only where the justification
-// holds one at all.
+// holds one at all. A row of level 0 rests on no decision, so that its justification is not read.
 fn barred(terms: &[u16], work: &[u64], w: usize, n: usize, count: usize, a: Row) -> bool
     requires { ⌜ Justified w n (now terms) (now work) count (a .0) ⌝ }
     ensures { λ r. ⌜ r ≡ holdsFirstOrder w n (now (terms .entry)) (now (work .entry)) count (whyIn w n (now (work .entry)) count (a .0)) ⌝ }
 {
+    let own = trail::level(work, w, n, count, a);
+    if own.0 == 0 {
+        return false;
+    }
     let b = a.0 as usize * w;
     if !decisions::holds_first_order_any(work, w, n, count, terms, b) {
         return false;
