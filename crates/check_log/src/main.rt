@@ -1,4 +1,6 @@
 // Reads the four sheets as text from standard input to its end, runs the log, and prints the result.
+ghost use mathlib.Core.Path.{_≡_};
+ghost use lib.ListN.{take};
 ghost use Rattle.text_rows.specs.View.{Bounded};
 use calculus::Outcome;
 use libc::STDERR_FILENO;
@@ -73,7 +75,9 @@ fn print_refusal(r: ReadOutcome) {
 }
 
 // The first n numbers of a sheet, or all of it where it has no more.
-fn first(sheet: &[u16], n: usize) -> &[u16] {
+fn first(sheet: &[u16], n: usize) -> &[u16]
+    ensures { λ r. ⌜ now r ≡ take n (now (sheet .entry)) ⌝ }
+{
     if n < sheet.len() { &sheet[..n] } else { sheet }
 }
 

@@ -18,6 +18,7 @@ use Rattle.calculus.specs.Rules.{fits, fitOf, ruleOf}
 use Rattle.calculus.specs.Steps.{premises, clashSet}
 use Rattle.calculus.proofs.Entries.{level-empty}
 use Rattle.calculus.proofs.Facts.{both-true}
+use Rattle.calculus.proofs.Forms.{all-filled}
 use Rattle.calculus.proofs.WellFormed.{level-more}
 use Rattle.rule_claims.specs.declared.Claim.{Claim}
 use Rattle.rule_claims.specs.Claims.{premisesOf}
@@ -26,19 +27,13 @@ use Rattle.search_steps.specs.Claims.{Premised, Claims, PremisesLevel}
 
 -- ---- premises
 
-pub all-blank : (tr : Trail) (p : ℕ) (xs : List ℕ) → eqb p blank ≡ true → all (on tr) (filled (p ∷ xs)) ≡ true
-all-blank tr p xs e = rw e
-
-pub all-more : (tr : Trail) (p : ℕ) (xs : List ℕ) → eqb p blank ≡ false → all (on tr) (filled (p ∷ xs)) ≡ (on tr p && all (on tr) (filled xs))
-all-more tr p xs e = rw e
-
 pub level-blank : (tr : Trail) (p : ℕ) (xs : List ℕ) → eqb p blank ≡ true → PremisesLevel tr (p ∷ xs) 0
 level-blank tr p xs e = λ h. rw e (sym (level-empty tr))
 
 pub level-filled : (tr : Trail) (p l m : ℕ) (xs : List ℕ) → Distinct tr → eqb p blank ≡ false → (on tr p ≡ true → l ≡ levelAt tr p)
     → PremisesLevel tr xs m → PremisesLevel tr (p ∷ xs) (max l m)
 level-filled tr p l m xs d e a b = λ h.
-    let k = both-true _ _ (sym (all-more tr p xs e) ∙ h) in
+    let k = both-true _ _ (sym (all-filled (on tr) p xs e) ∙ h) in
     rw (e, a (k .0), b (k .1)) (sym (level-more tr (has (filled xs)) p d))
 
 -- ---- the rule's answer

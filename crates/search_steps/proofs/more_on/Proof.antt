@@ -1,6 +1,6 @@
 -- `search_steps::more_on` meets its contract.
 use borrow.Author.Tests.{eq-eqb, ne-eqb}
-use Rattle.search_steps.proofs.Laws.{all-blank, all-more}
+use Rattle.calculus.proofs.Forms.{all-blank, all-filled}
 use mathlib.Core.Path.{sym}
 use borrow.Author.Needs.{needs}
 use Rattle.search_steps.proofs.more_on.Statement.{statement}
@@ -13,7 +13,7 @@ stands-requires : tie.Need-stands-requires
 stands-requires c κs = search needs
 
 returns-2 : tie.Need-returns-2
-returns-2 c = λ xs e. rw (c .stands .ensures, e) (sym (all-more _ (c .before .before .before .args .p) xs (ne-eqb _ _ (c .before .if1 .left))))
+returns-2 c = λ xs e. rw (c .stands .ensures, e) (sym (all-filled _ (c .before .before .before .args .p) xs (ne-eqb _ _ (c .before .if1 .left))))
 
 pub more-on-spec : {M : Type 1} → statement M
 more-on-spec = tie.close (tie.spec returns stands-requires returns-2)

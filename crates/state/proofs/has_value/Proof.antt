@@ -15,7 +15,9 @@ returns : tie.Need-returns
 returns c = search needs
 
 returns-2 : tie.Need-returns-2
-returns-2 c = rw (below-off _ _ (c .before .before .before .args .t .0) (c .before .before .before .pre .below) (omega arith))
+returns-2 c =
+    let start = c .before .before .before in
+    rw (below-off _ _ (start .args .t .0) (start .pre .below) (omega arith))
 
 pub has-value-spec : {M : Type 1} → statement M
 has-value-spec = tie.close (tie.spec cast-if1 has-value-requires returns returns-2)

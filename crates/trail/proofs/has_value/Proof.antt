@@ -41,7 +41,9 @@ cast-result : tie.Need-cast-result
 cast-result c = search needs
 
 returns : tie.Need-returns
-returns c = assigned-word _ _ _ _ _ (c .before .before .before .pre .0) (c .before .before .before .pre .1) _
+returns c =
+    let start = c .before .before .before in
+    assigned-word _ _ _ _ _ (start .pre .0) (start .pre .1) _
 
 pub has-value-spec : {M : Type 1} → statement M
 has-value-spec =
