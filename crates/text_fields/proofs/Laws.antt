@@ -1,14 +1,14 @@
 -- Laws of the definitions of specs/.
-use Prim.Native.Nat.{ℕ, suc, _+_, _≤_, _<_}
+use Prim.Native.Nat.{ℕ, zero, suc, _+_, _≤_, _<_}
 use mathlib.Core.Path.{_≡_, refl, ap, sym, _∙_}
-use mathlib.Core.Bool.{Bool, true, false, _&&_}
+use mathlib.Core.Bool.{Bool, true, false, _&&_, _||_, true≢false}
 use mathlib.Core.List.{List, [], _∷_}
 use native.Mathlib.Omega.{arith}
 use native.Mathlib.Numerals.{add-one}
-use borrow.Author.Tests.{eq-eqb, ne-eqb, le-leb, lt-leb}
+use borrow.Author.Tests.{eq-eqb, ne-eqb, eqb-false, le-leb, lt-leb}
 use lib.Dec.{eqb, leb}
-use lib.ListN.{length, drop, getD, drop-of-length-le}
-use lib.Seq.{drop-cons}
+use lib.ListN.{length, take, drop, getD, length-drop, drop-of-length-le}
+use lib.Seq.{drop-cons, drop-drop}
 use Rattle.text_fields.specs.Split.{pick, before, same}
 use Rattle.text_fields.specs.Class.{classOf, isSpace}
 use Rattle.text_fields.specs.declared.ByteClass.the-variants.{Space, Newline, Name, Other}
@@ -54,6 +54,26 @@ module _ (c : ℕ) (l : List ℕ) (i : ℕ) where
 
   pub before-end : length l ≤ i → before c (drop i l) ≡ 0
   before-end h = rw drop-of-length-le
+
+  -- one more byte is not `c`
+  pub before-on : i < length l → (x : Bool) → (x ≡ false → i + before c (drop i l) ≡ before c l)
+      → (x || eqb (getD l i 0) c) ≡ false → i + 1 + before c (drop (i + 1) l) ≡ before c l
+  before-on h true p e = absurd (true≢false e)
+  before-on h false p e = omega (arith, p refl, before-miss h (eqb-false _ _ e))
+
+-- some bytes without `c` at the front
+before-past : (c : ℕ) (l : List ℕ) (n : ℕ) → n ≤ length l → before c (take n l) ≡ length (take n l) → before c l ≡ n + before c (drop n l)
+before-past c l zero h e = omega arith
+before-past c [] (suc n) h e = omega arith
+before-past c (b ∷ bs) (suc n) h e = go (before-past c bs n (omega arith)) (eqb b c) e where
+  go : (before c (take n bs) ≡ length (take n bs) → before c bs ≡ n + before c (drop n bs)) → (t : Bool)
+      → pick t 0 (suc (before c (take n bs))) ≡ suc (length (take n bs)) → pick t 0 (suc (before c bs)) ≡ suc n + before c (drop n bs)
+  go ih true p = omega arith
+  go ih false p = omega (arith, ih (omega arith))
+
+pub before-block : (c : ℕ) (l : List ℕ) (i n : ℕ) → i + n ≤ length l → before c (take n (drop i l)) ≡ length (take n (drop i l))
+    → before c (drop i l) ≡ n + before c (drop (i + n) l)
+before-block c l i n h e = before-past c (drop i l) n (omega (arith, length-drop i l)) e ∙ ap (λ (k : List ℕ). n + before c k) (drop-drop n i l)
 
 -- a test that does not matter
 pub pick-both : {A : Type 0} {a b x : A} (t : Bool) → a ≡ x → b ≡ x → pick t a b ≡ x

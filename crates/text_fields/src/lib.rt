@@ -1,7 +1,8 @@
 // Bytes of a text: their classes, where one stands first, whether two runs of them are the same. Every function answers for any bytes.
 ghost use mathlib.Core.Path.{_≡_};
-ghost use Prim.Native.Nat.{_≤_};
-ghost use lib.ListN.{length};
+ghost use mathlib.Core.Bool.{false};
+ghost use Prim.Native.Nat.{_+_, _≤_};
+ghost use lib.ListN.{length, drop};
 ghost use Rattle.text_fields.specs.Split.{before, same as sameBytes};
 ghost use Rattle.text_fields.specs.Class.{classOf, isNewline};
 
@@ -48,12 +49,41 @@ pub fn byte_class(b: u8) -> ByteClass
     ByteClass::Other
 }
 
+// Whether `c` stands among some bytes. All bytes are asked, with no way out: so several are asked at once.
+fn holds(s: &[u8], c: u8) -> bool
+    ensures { λ r. ⌜ (r ≡ false → before c (now (s .entry)) ≡ length (now (s .entry))) ⌝ }
+{
+    let mut any = false;
+    let mut i = 0;
+    while i < s.len() {
+        any = any | (s[i] == c);
+        i += 1;
+    }
+    any
+}
+
+// A place before which `c` does not stand: sixteen bytes are asked at a time, while none of them is `c`.
+fn skip(s: &[u8], c: u8) -> usize
+    ensures { λ r. ⌜ r + before c (drop r (now (s .entry))) ≡ before c (now (s .entry)) ⌝ }
+    ensures { λ r. ⌜ r ≤ length (now (s .entry)) ⌝ }
+{
+    let mut i = 0;
+    while s.len() - i >= 16 {
+        let end = i + 16;
+        if holds(&s[i..end], c) {
+            return i;
+        }
+        i = end;
+    }
+    i
+}
+
 // How many bytes stand before the first `c`.
 pub fn scan(s: &[u8], c: u8) -> usize
     ensures { λ r. ⌜ r ≡ before c (now (s .entry)) ⌝ }
     ensures { λ r. ⌜ r ≤ length (now (s .entry)) ⌝ }
 {
-    let mut i = 0;
+    let mut i = skip(s, c);
     while i < s.len() {
         if s[i] == c {
             return i;

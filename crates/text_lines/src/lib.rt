@@ -220,7 +220,7 @@ fn store(sheet: &mut [u16], at: usize, v: u16)
 }
 
 // Stores a row's numbers from `at` on, those for which there is room.
-fn store_all(sheet: &mut [u16], at: usize, cells: &[u16])
+fn store_some(sheet: &mut [u16], at: usize, cells: &[u16])
     requires { ⌜ at + length (now cells) < 2 ^ 64 ⌝ }
     ensures { λ _. ⌜ now (sheet .exit) ≡ sets (now (sheet .entry)) at (now (cells .entry)) ⌝ }
 {
@@ -229,6 +229,29 @@ fn store_all(sheet: &mut [u16], at: usize, cells: &[u16])
         store(sheet, at + j, cells[j]);
         j += 1;
     }
+}
+
+// Stores a row's numbers from `at` on, where there is room for all of them: so several are stored at once.
+fn store_whole(sheet: &mut [u16], at: usize, cells: &[u16])
+    requires { ⌜ at + length (now cells) ≤ length (now sheet) ⌝ }
+    ensures { λ _. ⌜ now (sheet .exit) ≡ sets (now (sheet .entry)) at (now (cells .entry)) ⌝ }
+{
+    let mut j = 0;
+    while j < cells.len() {
+        sheet[at + j] = cells[j];
+        j += 1;
+    }
+}
+
+// Stores a row's numbers from `at` on, as far as there is room.
+fn store_all(sheet: &mut [u16], at: usize, cells: &[u16])
+    requires { ⌜ at + length (now cells) < 2 ^ 64 ⌝ }
+    ensures { λ _. ⌜ now (sheet .exit) ≡ sets (now (sheet .entry)) at (now (cells .entry)) ⌝ }
+{
+    if at + cells.len() <= sheet.len() {
+        return store_whole(sheet, at, cells);
+    }
+    store_some(sheet, at, cells)
 }
 
 // Stores a row in the sheet that its line goes to, behind the rows that the sheet has.

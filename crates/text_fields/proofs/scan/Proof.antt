@@ -2,6 +2,7 @@
 use Prim.Native.Nat.{_≤_, _-_, _+_}
 use mathlib.Core.Path.{_≡_}
 use native.Mathlib.Omega.{arith}
+use borrow.Author.Needs.{needs}
 use lib.ListN.{length, drop}
 use Rattle.text_fields.specs.Split.{before}
 use Rattle.text_fields.proofs.Laws.{before-hit, before-miss, before-end}
@@ -14,8 +15,11 @@ Inv-loop s c i₀ i = (i ≤ length s) × (i + before c (drop i s) ≡ before c 
 abbrev μ-loop : tie.MeasureT-loop
 μ-loop s c i₀ i = length s - i
 
+skip-requires : tie.Need-skip-requires Inv-loop μ-loop
+skip-requires c κs = search needs
+
 loop-holds : tie.Need-loop-holds Inv-loop μ-loop
-loop-holds c = omega arith
+loop-holds c = let e = c .skip .ensures in (e .1, e .0)
 
 shared-slice-read-if1 : tie.Need-shared-slice-read-if1 Inv-loop μ-loop
 shared-slice-read-if1 c = omega arith
@@ -23,8 +27,9 @@ shared-slice-read-if1 c = omega arith
 returns : tie.Need-returns Inv-loop μ-loop
 returns c =
     let x = c .before .before .before in
+    let a = x .before .before .before .args in
     omega
-    (arith, before-hit (x .before .args .c) (x .before .args .s .now) (x .loop .i) (omega arith) (c .if1 .taken))
+    (arith, before-hit (a .c) (a .s .now) (x .loop .i) (omega arith) (c .if1 .taken))
 
 add-i : tie.Need-add-i Inv-loop μ-loop
 add-i c = omega arith
@@ -35,13 +40,15 @@ loop-less c = omega arith
 loop-again : tie.Need-loop-again Inv-loop μ-loop
 loop-again c =
     let x = c .before .before .before in
+    let a = x .before .before .before .args in
     omega
-    (arith, before-miss (x .before .args .c) (x .before .args .s .now) (x .loop .i) (omega arith) (c .if1 .left))
+    (arith, before-miss (a .c) (a .s .now) (x .loop .i) (omega arith) (c .if1 .left))
 
 returns-2 : tie.Need-returns-2 Inv-loop μ-loop
 returns-2 c =
     let x = c .before in
-    omega (arith, before-end (x .before .args .c) (x .before .args .s .now) (x .loop .i) (omega arith))
+    let a = x .before .before .before .args in
+    omega (arith, before-end (a .c) (a .s .now) (x .loop .i) (omega arith))
 
 pub scan-spec : {M : Type 1} → statement M
 scan-spec =
@@ -49,6 +56,7 @@ scan-spec =
     (tie.spec
     Inv-loop
     μ-loop
+    skip-requires
     loop-holds
     shared-slice-read-if1
     returns

@@ -1,4 +1,4 @@
--- `text_lines::store_all` meets its contract.
+-- Numbers are stored one after the other, where there is room.
 use mathlib.Core.Path.{_≡_, refl, sym, ap, _∙_}
 use mathlib.Core.List.{List}
 use native.Mathlib.Omega.{arith}
@@ -7,8 +7,8 @@ use Prim.Native.Nat.{ℕ, _-_, _+_, _≤_}
 use lib.ListN.{length, drop}
 use lib.Seq.{sets}
 use Rattle.text_lines.proofs.Sheets.{sets-more, sets-end}
-use Rattle.text_lines.proofs.store_all.Statement.{statement}
-use Rattle.text_lines.proofs.store_all.Tie as tie
+use Rattle.text_lines.proofs.store_some.Statement.{statement}
+use Rattle.text_lines.proofs.store_some.Tie as tie
 
 abbrev Inv-loop : tie.InvT-loop
 Inv-loop sheet₀ at row j₀ sheet j = (j ≤ length row) × (length sheet ≡ length sheet₀) × (sets sheet (at + j) (drop j row) ≡ sets sheet₀ at row)
@@ -58,8 +58,8 @@ returns c =
     let a = c .before .before .before .before .args in
     sym (sets-end (l .sheet) (a .at) (a .cells .now) (l .j) (omega arith)) ∙ l .inv .2
 
-pub store-all-spec : {M : Type 1} → statement M
-store-all-spec =
+pub store-some-spec : {M : Type 1} → statement M
+store-some-spec =
     tie.close
     (tie.spec
     Inv-loop
