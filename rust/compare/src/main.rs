@@ -426,6 +426,7 @@ fn feed(program: &str, text: &[u8]) -> std::io::Result<Vec<u8>> {
     let mut child = Command::new(program)
         .stdin(Stdio::piped())
         .stdout(Stdio::piped())
+        .stderr(Stdio::null())
         .spawn()?;
     let mut input = child.stdin.take().expect("a pipe");
     let text = text.to_vec();
