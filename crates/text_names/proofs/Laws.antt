@@ -1,69 +1,18 @@
--- Laws of tags, of equal lists and of slots.
+-- Laws of slots.
 use Prim.Native.Nat.{ℕ, zero, suc, _+_, _*_, _/_, _%_, _≤_, _<_}
 use mathlib.Core.Path.{_≡_, refl, ap, sym, _∙_}
-use mathlib.Core.Bool.{Bool, true, false}
+use mathlib.Core.Bool.{false}
 use mathlib.Core.List.{List, [], _∷_, _++_, append-assoc}
 use native.Mathlib.Omega.{arith}
-use native.Mathlib.Nat.{add-zero, mul-le-mul}
+use native.Mathlib.Nat.{add-zero}
 use native.Mathlib.Numerals.{add-one}
-use borrow.Author.Tests.{eqb-true, eq-eqb, ne-eqb}
+use borrow.Author.Tests.{eq-eqb, ne-eqb}
 use lib.Dec.{eqb}
 use lib.ListN.{length, take, drop, getD, set, length-set, drop-of-length-le}
 use lib.Seq.{drop-cons, drop-drop, paste, paste-zero, paste-suc, length-paste, take-paste, drop-paste}
 use Rattle.text_fields.specs.Split.{pick, same}
-use Rattle.text_names.specs.Table.{weights, mixFrom, tagOf, lengthAt, nameFrom, held, lastPlace, padTo, slotOf, slotPut, withName}
-
--- the mix of a name's bytes, byte after byte
-module _ (h : ℕ) (l : List ℕ) (i : ℕ) where
-  pub mix-more : i < length l → mixFrom h i (drop i l) ≡ mixFrom (h + getD weights i 0 * getD l i 0) (i + 1) (drop (i + 1) l)
-  mix-more k = rw (drop-cons l i 0, add-one)
-
-  pub mix-end : length l ≤ i → mixFrom h i (drop i l) ≡ h
-  mix-end k = rw drop-of-length-le
-
-pub length-weights : length weights ≡ 64
-unfolding weights
-length-weights = refl
-
--- a byte that is mixed in, and the tag when all are
-pub mixed : (h : ℕ) (l : List ℕ) (i : ℕ) {ws : List ℕ} {x : ℕ} → ws ≡ weights → x ≡ getD ws i 0 * getD l i 0 → i < length l
-    → mixFrom (h + x) (i + 1) (drop (i + 1) l) ≡ mixFrom h i (drop i l)
-mixed h l i p q k = rw (q, p) (sym (mix-more h l i k))
-
-pub tagged : {h : ℕ} (l : List ℕ) → h ≡ mixFrom 0 0 l → h % 1021 ≡ tagOf l
-unfolding tagOf
-tagged l e = rw e
-
--- the product of two bytes
-pub product : (a b : ℕ) → a < 256 → b < 256 → a * b ≤ 65025
-product a b h k = let r : a * b ≤ 255 * 255 = mul-le-mul {n₂ = 255} {m₂ = 255} (omega arith) (omega arith) in r
-
--- a tag is below 1,021
-pub tag-small : (name : List ℕ) → tagOf name < 1021
-unfolding tagOf
-tag-small name = omega arith
-
--- lists that are the same are equal
-pub same-equal : (a b : List ℕ) → same a b ≡ true → a ≡ b
-same-equal [] [] e = refl
-same-equal [] (y ∷ ys) e = absurd (let z : _≡_ {A = ℕ} 0 1 = cc in omega arith)
-same-equal (x ∷ xs) [] e = absurd (let z : _≡_ {A = ℕ} 0 1 = cc in omega arith)
-same-equal (x ∷ xs) (y ∷ ys) e = go (same-equal xs ys) (eqb x y) refl e where
-  go : (same xs ys ≡ true → xs ≡ ys) → (t : Bool) → eqb x y ≡ t → pick t (same xs ys) false ≡ true → x ∷ xs ≡ y ∷ ys
-  go ih true p q = let h : x ≡ y = eqb-true x y p in let k : xs ≡ ys = ih q in cc
-  go ih false p q = absurd (let z : _≡_ {A = ℕ} 0 1 = cc in omega arith)
-
--- lists that differ in some way are not the same
-pub same-unequal : (a b : List ℕ) → (a ≡ b → ⊥) → same a b ≡ false
-same-unequal a b h = go (same a b) refl where
-  go : (t : Bool) → same a b ≡ t → same a b ≡ false
-  go true e = absurd (h (same-equal a b e))
-  go false e = e
-
--- a list is the same as itself
-pub same-self : (a : List ℕ) → same a a ≡ true
-same-self [] = refl
-same-self (x ∷ xs) = rw (eq-eqb x x refl, same-self xs)
+use Rattle.text_tags.specs.Tags.{tagOf}
+use Rattle.text_names.specs.Table.{lengthAt, nameFrom, held, padTo, slotOf, slotPut}
 
 pub length-padTo : (n : ℕ) (l : List ℕ) → length (padTo n l) ≡ n
 length-padTo zero l = refl
@@ -71,26 +20,22 @@ length-padTo (suc n) [] = ap suc (length-padTo n [])
 length-padTo (suc n) (x ∷ xs) = ap suc (length-padTo n xs)
 
 -- the bytes of a name's slot
-module _ (name : List ℕ) (earlier : ℕ) where
-  pub length-slot : length (slotOf name earlier) ≡ 4 + length name
+module _ (name : List ℕ) where
+  pub length-slot : length (slotOf name) ≡ 3 + length name
   unfolding slotOf
   length-slot = omega arith
 
-  pub slot-length : getD (slotOf name earlier) 0 0 ≡ length name
+  pub slot-length : getD (slotOf name) 0 0 ≡ length name
   unfolding slotOf
   slot-length = refl
 
-  pub slot-tag : getD (slotOf name earlier) 1 0 + getD (slotOf name earlier) 2 0 * 256 ≡ tagOf name
+  pub slot-tag : getD (slotOf name) 1 0 + getD (slotOf name) 2 0 * 256 ≡ tagOf name
   unfolding slotOf
   slot-tag = omega arith
 
-  pub slot-earlier : getD (slotOf name earlier) 3 0 ≡ earlier
+  pub slot-name : (i : ℕ) → getD (slotOf name) (3 + i) 0 ≡ getD name i 0
   unfolding slotOf
-  slot-earlier = refl
-
-  pub slot-name : (i : ℕ) → getD (slotOf name earlier) (4 + i) 0 ≡ getD name i 0
-  unfolding slotOf
-  slot-name i = let z : 4 + i ≡ suc (suc (suc (suc i))) = omega arith in rw z
+  slot-name i = let z : 3 + i ≡ suc (suc (suc i)) = omega arith in rw z
 
 -- a run of stores that copies s into d at a place
 module _ (d : List ℕ) (at : ℕ) (s : List ℕ) (i : ℕ) (t : List ℕ) (is : t ≡ paste d at s i) where
@@ -100,38 +45,37 @@ module _ (d : List ℕ) (at : ℕ) (s : List ℕ) (i : ℕ) (t : List ℕ) (is :
   pub put-length : i ≤ length s → at + i ≤ length d → length t ≡ length d
   put-length h k = ap length is ∙ length-paste d at s i k h
 
--- the stores that write a name's slot: four bytes, and then the name
-module _ (t : List ℕ) (s : ℕ) (name : List ℕ) (earlier : ℕ) (fits : s * 68 + 68 ≤ length t) (short : length name ≤ 64) where
+-- the stores that write a name's slot: three bytes, and then the name
+module _ (t : List ℕ) (s : ℕ) (name : List ℕ) (fits : s * 67 + 67 ≤ length t) (short : length name ≤ 64) where
   abbrev headed : ℕ → List ℕ
-  headed tag = set (set (set (set t (s * 68) (length name)) (s * 68 + 1) (tag % 256)) (s * 68 + 2) (tag / 256)) (s * 68 + 3) earlier
+  headed tag = set (set (set t (s * 67) (length name)) (s * 67 + 1) (tag % 256)) (s * 67 + 2) (tag / 256)
 
-  head-put : headed (tagOf name) ≡ paste t (s * 68) (slotOf name earlier) 4
+  head-put : headed (tagOf name) ≡ paste t (s * 67) (slotOf name) 3
   unfolding slotOf
   head-put =
-      let l = slotOf name earlier in
-      let a = put-more t (s * 68) l 0 t (paste-zero t (s * 68) l) (length name) refl (omega arith) (omega arith) in
-      let b = put-more t (s * 68) l 1 _ (rw add-zero at a) (tagOf name % 256) refl (omega arith) (omega arith) in
-      let c = put-more t (s * 68) l 2 _ b (tagOf name / 256) refl (omega arith) (omega arith) in
-      put-more t (s * 68) l 3 _ c earlier refl (omega arith) (omega arith)
+      let l = slotOf name in
+      let a = put-more t (s * 67) l 0 t (paste-zero t (s * 67) l) (length name) refl (omega arith) (omega arith) in
+      let b = put-more t (s * 67) l 1 _ (rw add-zero at a) (tagOf name % 256) refl (omega arith) (omega arith) in
+      put-more t (s * 67) l 2 _ b (tagOf name / 256) refl (omega arith) (omega arith)
 
   head-length : (tag : ℕ) → length (headed tag) ≡ length t
   head-length tag = simp length-set
 
-  pub slot-put-length : (tag : ℕ) (p : List ℕ) → p ≡ paste (headed tag) (s * 68 + 4) name (length name) → length p ≡ length t
+  pub slot-put-length : (tag : ℕ) (p : List ℕ) → p ≡ paste (headed tag) (s * 67 + 3) name (length name) → length p ≡ length t
   slot-put-length tag p e =
-      ap length e ∙ length-paste (headed tag) (s * 68 + 4) name (length name) (omega (arith, head-length tag)) (omega arith) ∙ head-length tag
+      ap length e ∙ length-paste (headed tag) (s * 67 + 3) name (length name) (omega (arith, head-length tag)) (omega arith) ∙ head-length tag
 
-  pub slot-put : {tag : ℕ} → tag ≡ tagOf name → (p : List ℕ) → p ≡ paste (headed tag) (s * 68 + 4) name (length name) → p ≡ slotPut t s name earlier
+  pub slot-put : {tag : ℕ} → tag ≡ tagOf name → (p : List ℕ) → p ≡ paste (headed tag) (s * 67 + 3) name (length name) → p ≡ slotPut t s name
   unfolding slotOf
   slot-put is p e =
-      let a = s * 68 in
+      let a = s * 67 in
       let n = length name in
-      let l = slotOf name earlier in
-      let u = paste t a l 4 in
-      let z : a + 4 + n ≡ a + length l = omega arith in
-      let tail : drop (a + 4 + n) u ≡ drop (a + 4 + n) t =
-      sym (drop-drop n (a + 4) u) ∙ ap (drop n) (drop-paste t a l 4 (omega arith) (omega arith)) ∙ drop-drop n (a + 4) t in
-      e ∙ rw (is, head-put, take-paste t a l 4 (omega arith) (omega arith), tail, z, append-assoc (take a t) (take 4 l) (take n name))
+      let l = slotOf name in
+      let u = paste t a l 3 in
+      let z : a + 3 + n ≡ a + length l = omega arith in
+      let tail : drop (a + 3 + n) u ≡ drop (a + 3 + n) t =
+      sym (drop-drop n (a + 3) u) ∙ ap (drop n) (drop-paste t a l 3 (omega arith) (omega arith)) ∙ drop-drop n (a + 3) t in
+      e ∙ rw (is, head-put, take-paste t a l 3 (omega arith) (omega arith), tail, z, append-assoc (take a t) (take 3 l) (take n name))
 
 -- whether a slot holds a name
 module _ (t : List ℕ) (s : ℕ) (name : List ℕ) where
@@ -142,9 +86,3 @@ module _ (t : List ℕ) (s : ℕ) (name : List ℕ) where
   pub held-by : lengthAt t s ≡ length name → same (take (length name) (drop (nameFrom s) t)) name ≡ held t s name
   unfolding held
   held-by h = rw (eq-eqb (lengthAt t s) (length name) h)
-
--- the stores that put a name
-pub put-is : (t : List ℕ) (base n : ℕ) (name : List ℕ) (tag last : ℕ) (p : List ℕ) → tag ≡ tagOf name → last ≡ lastPlace base tag
-    → p ≡ slotPut t (base + n) name (getD t last 0) → set p last n ≡ withName t base n name
-unfolding withName
-put-is t base n name tag last p e f g = rw (g, f, e)

@@ -1,3 +1,4 @@
 pub mod Laws
-pub mod Chase
+pub mod Search
+pub mod Found
 pub mod Table

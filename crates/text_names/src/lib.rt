@@ -1,46 +1,17 @@
-// A lent list of bytes with tables of names: 68 bytes for each name, and behind the slots the last name of each tag.
+// A lent list of bytes with tables of names: 67 bytes for each name, and behind the slots the tree of the names of each tag.
 ghost use mathlib.Core.Path.{_≡_};
 ghost use Prim.Native.Nat.{_+_, _*_, _≤_, _<_};
 ghost use lib.ListN.{length, getD};
 ghost use lib.Seq.{paste};
 ghost use Rattle.text_fields.specs.Words.{indexFrom};
-ghost use Rattle.text_names.specs.Table.{weights, mixFrom, tagOf, tagAt, held, lastPlace, namesFrom, slotPut, withName};
+ghost use Rattle.text_tags.specs.Tags.{tagOf};
+ghost use Rattle.text_names.specs.Table.{tagAt, held, firstPlace, belowPlace, digitOf, leadsOn, spotOf, namesFrom, slotPut, withName};
 use text_fields::Found;
 
-// A byte times its weight.
-fn weighted(w: u8, b: u8) -> u32
-    ensures { λ r. ⌜ r ≡ w * b ⌝ }
-    ensures { λ r. ⌜ r ≤ 65025 ⌝ }
-{
-    (w as u32) * (b as u32)
-}
-
-// The bytes of a name, each times the weight of its place.
-fn mix(w: &[u8], name: &[u8]) -> u32
-    requires { ⌜ now w ≡ weights ⌝ }
-    requires { ⌜ length (now name) ≤ 64 ⌝ }
-    ensures { λ r. ⌜ r ≡ mixFrom 0 0 (now (name .entry)) ⌝ }
-{
-    let mut h: u32 = 0;
-    let mut i = 0;
-    while i < name.len() {
-        h += weighted(w[i], name[i]);
-        i += 1;
-    }
-    h
-}
-
-// The tag of a name.
-fn tag_of(name: &[u8]) -> usize
-    requires { ⌜ length (now name) ≤ 64 ⌝ }
-    ensures { λ r. ⌜ r ≡ tagOf (now (name .entry)) ⌝ }
-    ensures { λ r. ⌜ r < 1024 ⌝ }
-{
-    let h = mix(
-        b"%H=B@8+^m0Y&v;7pJEOekw#CigX'hI?F/<|ST*rV6q5dPn1Ufy~z3N)aG-LxlM!:",
-        name,
-    );
-    (h % 1021) as usize
+// Where the search for a name ends: at the name that has it, or at the place for the number of a new one.
+pub enum Spot {
+    Held(usize),
+    Free(usize),
 }
 
 // A byte as an index.
@@ -53,39 +24,108 @@ fn wide(b: u8) -> usize
 
 // Whether slot s holds a name.
 fn holds_name(table: &[u8], s: usize, name: &[u8]) -> bool
-    requires { ⌜ s * 68 + 68 ≤ length (now table) ⌝ }
+    requires { ⌜ s * 67 + 67 ≤ length (now table) ⌝ }
     requires { ⌜ length (now name) ≤ 64 ⌝ }
     ensures { λ r. ⌜ r ≡ held (now (table .entry)) s (now (name .entry)) ⌝ }
 {
-    let place = s * 68;
+    let place = s * 67;
     if wide(table[place]) != name.len() {
         return false;
     }
-    let from = place + 4;
+    let from = place + 3;
     let to = from + name.len();
-    text_fields::same(&table[from..to], name)
+    text_tags::same_name(&table[from..to], name)
 }
 
 // The tag of slot s.
 fn slot_tag(table: &[u8], s: usize) -> usize
-    requires { ⌜ s * 68 + 68 ≤ length (now table) ⌝ }
+    requires { ⌜ s * 67 + 67 ≤ length (now table) ⌝ }
     ensures { λ r. ⌜ r ≡ tagAt (now (table .entry)) s ⌝ }
 {
-    wide(table[s * 68 + 1]) + wide(table[s * 68 + 2]) * 256
+    wide(table[s * 67 + 1]) + wide(table[s * 67 + 2]) * 256
 }
 
-// Where the number of the last name of a tag stands.
-fn last_place(base: usize, tag: usize) -> usize
+// Where the number of the first name of a tag stands.
+fn first_place(base: usize, tag: usize) -> usize
     requires { ⌜ base ≤ 288 ⌝ }
     requires { ⌜ tag < 1024 ⌝ }
-    ensures { λ r. ⌜ r ≡ lastPlace base tag ⌝ }
+    ensures { λ r. ⌜ r ≡ firstPlace base tag ⌝ }
 {
-    36992 + base * 32 + tag
+    36448 + base * 32 + tag
 }
 
-// Where a name stands among the `count` names of the table that begins at slot `base`: from the last name of its tag to earlier ones.
+// Where the number of the name below slot s by digit x stands.
+fn below_place(s: usize, x: usize) -> usize
+    requires { ⌜ s < 544 ⌝ }
+    requires { ⌜ x < 16 ⌝ }
+    ensures { λ r. ⌜ r ≡ belowPlace s x ⌝ }
+{
+    46688 + s * 16 + x
+}
+
+// Digit d of a name.
+fn digit(name: &[u8], d: usize) -> usize
+    ensures { λ r. ⌜ r ≡ digitOf (now (name .entry)) d ⌝ }
+    ensures { λ r. ⌜ r < 16 ⌝ }
+{
+    let i = d / 2;
+    if i >= name.len() {
+        return 0;
+    }
+    let b = wide(name[i]);
+    if d % 2 == 0 {
+        return b % 16;
+    }
+    b / 16 % 16
+}
+
+// Whether number e leads to one of `count` names: it is not below `low`, and its slot has the tag.
+fn leads_on(table: &[u8], base: usize, count: usize, tag: usize, low: usize, e: usize) -> bool
+    requires { ⌜ length (now table) ≡ 55392 ⌝ }
+    requires { ⌜ base + count ≤ 544 ⌝ }
+    ensures { λ r. ⌜ r ≡ leadsOn (now (table .entry)) base count tag low e ⌝ }
+{
+    if e < low {
+        return false;
+    }
+    if e >= count {
+        return false;
+    }
+    slot_tag(table, base + e) == tag
+}
+
+// Where the search for a name ends, from the first name of its tag down the tree.
+fn seek(table: &[u8], base: usize, count: usize, name: &[u8], tag: usize) -> Spot
+    requires { ⌜ length (now table) ≡ 55392 ⌝ }
+    requires { ⌜ base ≤ 288 ⌝ }
+    requires { ⌜ base + count ≤ 544 ⌝ }
+    requires { ⌜ length (now name) ≤ 64 ⌝ }
+    requires { ⌜ tag ≡ tagOf (now name) ⌝ }
+    requires { ⌜ tag < 1024 ⌝ }
+    ensures { λ r. ⌜ r ≡ spotOf (now (table .entry)) base count (now (name .entry)) ⌝ }
+{
+    let mut place = first_place(base, tag);
+    let mut low = 0;
+    let mut d = 0;
+    while low < count {
+        let e = wide(table[place]);
+        if !leads_on(table, base, count, tag, low, e) {
+            return Spot::Free(place);
+        }
+        let s = base + e;
+        if holds_name(table, s, name) {
+            return Spot::Held(e);
+        }
+        place = below_place(s, digit(name, d));
+        low = e + 1;
+        d += 1;
+    }
+    Spot::Free(place)
+}
+
+// Where a name stands among the `count` names of the table that begins at slot `base`.
 pub fn find_name(table: &[u8], base: usize, count: usize, name: &[u8]) -> Found
-    requires { ⌜ length (now table) ≡ 47232 ⌝ }
+    requires { ⌜ length (now table) ≡ 55392 ⌝ }
     requires { ⌜ base ≤ 288 ⌝ }
     requires { ⌜ base + count ≤ 544 ⌝ }
     ensures { λ r. ⌜ r ≡ indexFrom 0 (namesFrom (now (table .entry)) base count) (now (name .entry)) ⌝ }
@@ -93,22 +133,11 @@ pub fn find_name(table: &[u8], base: usize, count: usize, name: &[u8]) -> Found
     if name.len() > 64 {
         return Found::Nothing;
     }
-    let tag = tag_of(name);
-    let last = last_place(base, tag);
-    let mut top = count;
-    let mut e = wide(table[last]);
-    while e < top {
-        let s = base + e;
-        if slot_tag(table, s) != tag {
-            return Found::Nothing;
-        }
-        if holds_name(table, s, name) {
-            return Found::At(e);
-        }
-        top = e;
-        e = wide(table[s * 68 + 3]);
+    let tag = text_tags::tag_of(name);
+    match seek(table, base, count, name, tag) {
+        Spot::Held(e) => Found::At(e),
+        Spot::Free(_) => Found::Nothing,
     }
-    Found::Nothing
 }
 
 // Copies a name to a place.
@@ -124,32 +153,32 @@ fn copy(table: &mut [u8], at: usize, name: &[u8])
 }
 
 // Writes a name's slot.
-fn put_slot(table: &mut [u8], s: usize, name: &[u8], tag: usize, earlier: u8)
-    requires { ⌜ s * 68 + 68 ≤ length (now table) ⌝ }
+fn put_slot(table: &mut [u8], s: usize, name: &[u8], tag: usize)
+    requires { ⌜ s * 67 + 67 ≤ length (now table) ⌝ }
     requires { ⌜ length (now name) ≤ 64 ⌝ }
     requires { ⌜ tag < 1024 ⌝ }
     requires { ⌜ tag ≡ tagOf (now name) ⌝ }
-    ensures { λ _. ⌜ now (table .exit) ≡ slotPut (now (table .entry)) s (now (name .entry)) earlier ⌝ }
+    ensures { λ _. ⌜ now (table .exit) ≡ slotPut (now (table .entry)) s (now (name .entry)) ⌝ }
 {
-    let place = s * 68;
+    let place = s * 67;
     table[place] = name.len() as u8;
     table[place + 1] = (tag % 256) as u8;
     table[place + 2] = (tag / 256) as u8;
-    table[place + 3] = earlier;
-    copy(table, place + 4, name);
+    copy(table, place + 3, name);
 }
 
-// Puts name n into the table that begins at slot `base`.
+// Puts name n into the table that begins at slot `base`, unless the table has it.
 pub fn put_name(table: &mut [u8], base: usize, n: usize, name: &[u8])
-    requires { ⌜ length (now table) ≡ 47232 ⌝ }
+    requires { ⌜ length (now table) ≡ 55392 ⌝ }
     requires { ⌜ base ≤ 288 ⌝ }
     requires { ⌜ n < 256 ⌝ }
     requires { ⌜ length (now name) ≤ 64 ⌝ }
     ensures { λ _. ⌜ now (table .exit) ≡ withName (now (table .entry)) base n (now (name .entry)) ⌝ }
 {
-    let tag = tag_of(name);
-    let last = last_place(base, tag);
-    let earlier = table[last];
-    put_slot(table, base + n, name, tag, earlier);
-    table[last] = n as u8;
+    let tag = text_tags::tag_of(name);
+    let Spot::Free(place) = seek(table, base, n, name, tag) else {
+        return;
+    };
+    put_slot(table, base + n, name, tag);
+    table[place] = n as u8;
 }

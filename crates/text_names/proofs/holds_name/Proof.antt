@@ -46,7 +46,7 @@ returns-2 : tie.Need-returns-2
 returns-2 c =
     let told = c .before .before in
     let a = told .before .before .before .before .before .args in
-    let n : a .s * 68 + 4 + length (a .name .now) - (a .s * 68 + 4) ≡ length (a .name .now) = omega arith in
+    let n : a .s * 67 + 3 + length (a .name .now) - (a .s * 67 + 3) ≡ length (a .name .now) = omega arith in
     let h = c .same .ensures in
     (rw n at h) ∙ held-by (a .table .now) (a .s) (a .name .now) (sym (told .before .wide .ensures .0) ∙ told .if1 .left)
 
