@@ -130,6 +130,14 @@ module _ (t : List ℕ) (base n : ℕ) (name : List ℕ) (short : length name �
     go (At k) e = e ∙ sym (index-some k e n 0 (omega arith) (omega (arith, below k e)))
     go Nothing e = e ∙ sym (index-none e n 0)
 
+-- the same of the spot where the search ends
+module _ (t : List ℕ) (base n : ℕ) (name : List ℕ) {s : Spot} (s-is : s ≡ spotOf t base n name) (short : length name ≤ 64) (byte : getD name 0 0 < 256) where
+  pub finds : (e : ℕ) → s ≡ Held e → At e ≡ indexFrom 0 (namesFrom t base n) name
+  finds e q = ap foundAt (sym q ∙ s-is) ∙ found-is t base n name short byte
+
+  pub finds-none : (place : ℕ) → s ≡ Free place → Nothing ≡ indexFrom 0 (namesFrom t base n) name
+  finds-none place q = ap foundAt (sym q ∙ s-is) ∙ found-is t base n name short byte
+
 -- a name of more than 64 bytes is nowhere
 pub long-nowhere : (t : List ℕ) (base n : ℕ) (name : List ℕ) → 64 < length name → Nothing ≡ indexFrom 0 (namesFrom t base n) name
 unfolding nameAt

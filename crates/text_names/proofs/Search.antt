@@ -4,9 +4,10 @@ use mathlib.Core.Path.{_≡_, refl, ap, sym, _∙_}
 use mathlib.Core.Bool.{Bool, true, false, not}
 use mathlib.Core.List.{List, [], _∷_}
 use native.Mathlib.Omega.{arith}
-use borrow.Author.Tests.{eqb-true, leb-true, leb-false, le-leb, lt-leb, ltb-true, lt-ltb, le-ltb, not-true, not-false}
+use native.Mathlib.Numerals.{add-one}
+use borrow.Author.Tests.{eqb-true, eq-eqb, ne-eqb, leb-true, leb-false, le-leb, lt-leb, ltb-true, lt-ltb, le-ltb, not-true, not-false}
 use lib.Dec.{eqb, leb, ltb}
-use lib.ListN.{length, getD}
+use lib.ListN.{length, getD, List·getD-eq-default}
 use Rattle.text_fields.specs.Split.{pick}
 use Rattle.text_tags.specs.Tags.{tagOf}
 use Rattle.text_tags.proofs.Laws.{tag-small}
@@ -93,6 +94,20 @@ digit-small name d = go (eqb (d % 2) 0) where
   go true = omega arith
   go false = omega arith
 
+module _ (name : List ℕ) (d : ℕ) where
+  pub digit-past : length name ≤ d / 2 → 0 ≡ digitOf name d
+  digit-past h = go (eqb (d % 2) 0) where
+    go : (b : Bool) → 0 ≡ pick b (getD name (d / 2) 0 % 16) (getD name (d / 2) 0 / 16 % 16)
+    go true = rw (List·getD-eq-default name 0 h)
+    go false = rw (List·getD-eq-default name 0 h)
+
+  module _ {b : ℕ} (b-is : b ≡ getD name (d / 2) 0) where
+    pub digit-low : d % 2 ≡ 0 → b % 16 ≡ digitOf name d
+    digit-low h = rw (b-is, eq-eqb (d % 2) 0 h)
+
+    pub digit-high : (d % 2 ≡ 0 → ⊥) → b / 16 % 16 ≡ digitOf name d
+    digit-high h = rw (b-is, ne-eqb (d % 2) 0 h)
+
 -- at the first number of a tag, or at a number below one of n names that has the tag
 pub data Reached (t : List ℕ) (base n tag low place : ℕ) : Type 0 where
   first : low ≡ 0 → place ≡ firstPlace base tag → Reached t base n tag low place
@@ -153,3 +168,88 @@ module _ (t : List ℕ) (base n : ℕ) where
   pub spot-ended : (name : List ℕ) (place : ℕ) → spotOf t base n name ≡ Free place → Ended name place
   unfolding spotOf
   spot-ended name place q = seek-ended name n 0 (firstPlace base (tagOf name)) 0 place (omega arith) (first refl refl) q
+
+-- ---- the search in code
+
+-- where it stands: what is left of it ends where the whole search ends
+pub record Seeking (t : List ℕ) (base count : ℕ) (name : List ℕ) (tag place low d : ℕ) : Type 0 where
+  pub size : length t ≡ 55392
+  pub base-low : base ≤ 288
+  pub room : base + count ≤ 544
+  pub short : length name ≤ 64
+  pub tag-is : tag ≡ tagOf name
+  pub reached : Reached t base count tag low place
+  pub digits : d ≤ low
+  pub fuel : ℕ
+  pub enough : count ≤ low + fuel
+  pub left : seekFrom t base count name fuel low place d ≡ spotOf t base count name
+
+module _ {t : List ℕ} {base count : ℕ} {name : List ℕ} {tag : ℕ} where
+  pub seek-begins : {place : ℕ} → length t ≡ 55392 → base ≤ 288 → base + count ≤ 544 → length name ≤ 64 → tag ≡ tagOf name → place ≡ firstPlace base tag
+      → Seeking t base count name tag place 0 0
+  unfolding spotOf
+  seek-begins size low room short is p =
+      record {
+        size = size;
+        base-low = low;
+        room = room;
+        short = short;
+        tag-is = is;
+        reached = first refl p;
+        digits = omega arith;
+        fuel = count;
+        enough = omega arith;
+        left = rw (p, is);
+      }
+
+  module _ {place low d : ℕ} (l : Seeking t base count name tag place low d) where
+    pub seek-inside : place < 55392
+    seek-inside = reached-inside t base count (l .base-low) (l .room) (rw (l .tag-is) (tag-small name)) (l .reached)
+
+    pub seek-over : count ≤ low → Free place ≡ spotOf t base count name
+    seek-over h = sym (seek-past t base count name (l .fuel) low place d h) ∙ l .left
+
+    module _ {e : ℕ} (e-is : e ≡ getD t place 0) {b : Bool} (b-is : b ≡ leadsOn t base count tag low e) where
+      pub seek-stops : not b ≡ true → Free place ≡ spotOf t base count name
+      seek-stops h = sym (seek-ends t base count name low place d (l .fuel) (rw (l .tag-is, e-is) at (sym b-is ∙ not-true b h))) ∙ l .left
+
+      module _ (b-leads : not b ≡ false) where
+        leads : leadsOn t base count (tagOf name) low (getD t place 0) ≡ true
+        leads = rw (l .tag-is, e-is) at (sym b-is ∙ not-false b b-leads)
+
+        pub seek-low : (low ≤ e) × (e < count)
+        seek-low = let k = leads-to t base count (tagOf name) low (getD t place 0) leads in rw e-is (k .0, k .1)
+
+        module _ {c : Bool} (c-is : c ≡ held t (base + e) name) where
+          pub seek-finds : c ≡ true → Held e ≡ spotOf t base count name
+          seek-finds h = go (l .fuel) (l .enough) (l .left) where
+            there : held t (base + getD t place 0) name ≡ true
+            there = rw e-is at (sym c-is ∙ h)
+
+            go : (m : ℕ) → count ≤ low + m → seekFrom t base count name m low place d ≡ spotOf t base count name → Held e ≡ spotOf t base count name
+            go zero k q = absurd (omega (arith, seek-left t base count name low place d 0 k leads))
+            go (suc m) k q = ap Held e-is ∙ sym (seek-hits t base count name low place d m leads there) ∙ q
+
+          pub seek-next : c ≡ false → {x place′ : ℕ} → x ≡ digitOf name d → place′ ≡ belowPlace (base + e) x
+              → Seeking t base count name tag place′ (e + 1) (d + 1)
+          seek-next h p q = rw (q, p, add-one, add-one, e-is) (go (l .fuel) (l .enough) (l .left)) where
+            away : held t (base + getD t place 0) name ≡ false
+            away = rw e-is at (sym c-is ∙ h)
+
+            go : (m : ℕ) → count ≤ low + m → seekFrom t base count name m low place d ≡ spotOf t base count name
+                → Seeking t base count name tag (belowPlace (base + getD t place 0) (digitOf name d)) (suc (getD t place 0)) (suc d)
+            go zero k q = absurd (omega (arith, seek-left t base count name low place d 0 k leads))
+            go (suc m) k q =
+                let r = leads-to t base count (tagOf name) low (getD t place 0) leads in
+                record {
+                  size = l .size;
+                  base-low = l .base-low;
+                  room = l .room;
+                  short = l .short;
+                  tag-is = l .tag-is;
+                  reached = rw (l .tag-is) (reached-next t base count name low (getD t place 0) d leads);
+                  digits = omega (arith, l .digits, r .0);
+                  fuel = m;
+                  enough = omega (arith, r .0);
+                  left = sym (seek-goes-on t base count name low place d m leads away) ∙ q;
+                }

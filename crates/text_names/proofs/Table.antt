@@ -20,7 +20,7 @@ use Rattle.text_tags.specs.Tags.{tagOf}
 use Rattle.text_tags.proofs.Laws.{same-self, tag-small}
 use Rattle.text_names.specs.declared.Spot.{Spot}
 use Rattle.text_names.specs.declared.Spot.the-variants.{Held, Free}
-use Rattle.text_names.specs.Table.{lengthAt, tagAt, nameFrom, held, written, slotOf, firstPlace, belowPlace, digitOf, leadsOn, seekFrom, spotOf, foundAt, found, isNumber, nameAt, namesOn, namesFrom, putAt, withName}
+use Rattle.text_names.specs.Table.{lengthAt, tagAt, nameFrom, held, written, slotOf, firstPlace, belowPlace, digitOf, leadsOn, seekFrom, spotOf, foundAt, found, isNumber, nameAt, namesOn, namesFrom, slotPut, putAt, withName}
 use Rattle.text_names.proofs.Laws.{length-slot, slot-name, slot-length, slot-tag}
 use Rattle.text_names.proofs.Search.{Reached, first, next, Ended, leads-to, not-below, not-past, by-tag, not-left, seek-past, seek-ends, seek-hits, seek-goes-on, free-is, held-not-free, reached-next, reached-behind, reached-inside, reached-alike, spot-ended}
 use Rattle.text_names.proofs.Found.{take-most, written-short, held-written, found-is}
@@ -461,3 +461,21 @@ module _ (t : List ℕ) (base n : ℕ) (name : List ℕ) (size : length t ≡ 55
         let z : At e ≡ Nothing = ap foundAt (sym q) ∙ found-is t base n name short byte ∙ new in
         absurd (let y : _≡_ {A = ℕ} 0 1 = cc in omega arith)
     go (Free place) q = free-put t base n name size base-low few short place q
+
+-- ---- the stores that put a name
+
+module _ (t : List ℕ) (base n : ℕ) (name : List ℕ) {s : Spot} (s-is : s ≡ spotOf t base n name) where
+  pub put-none : (e : ℕ) → s ≡ Held e → t ≡ withName t base n name
+  unfolding withName
+  put-none e q = ap (putAt t base n name) (sym q ∙ s-is)
+
+  module _ (place : ℕ) (s-free : s ≡ Free place) (p : List ℕ) (p-is : p ≡ slotPut t (base + n) name) where
+    pub put-some : set p place n ≡ withName t base n name
+    unfolding withName
+    put-some = rw p-is (ap (putAt t base n name) (sym s-free ∙ s-is))
+
+    pub put-room : length t ≡ 55392 → base ≤ 288 → n < 256 → length name ≤ 64 → place < length p
+    put-room size low few short =
+        let long : length p ≡ length t = ap length p-is ∙ all-put t ((base + n) * 67) (slotOf name) (omega (arith, length-slot name)) in
+        let end = spot-ended t base n name place (sym s-is ∙ s-free) in
+        omega (arith, reached-inside t base n low (omega arith) (tag-small name) (end .reached))

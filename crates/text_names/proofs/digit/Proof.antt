@@ -1,29 +1,24 @@
+-- A digit is half a byte; past the name's end it is 0.
 use borrow.Author.Needs.{needs}
+use native.Mathlib.Omega.{arith}
+use Rattle.text_names.proofs.Search.{digit-past, digit-low, digit-high}
 use Rattle.text_names.proofs.digit.Statement.{statement}
 use Rattle.text_names.proofs.digit.Tie as tie
-use Rattle.text_names.proofs.digit.Reads as reads
-use Rattle.text_names.proofs.digit.Lts as lts
-use Rattle.text_names.proofs.wide.Reads as wide-reads
 
--- src/lib.rt:73:9
 returns : tie.Need-returns
-returns c = ?
+returns c = (search digit-past, omega arith)
 
--- src/lib.rt:75:18
 shared-slice-read-wide : tie.Need-shared-slice-read-wide
 shared-slice-read-wide c = search needs
 
--- src/lib.rt:75:9
 wide-requires : tie.Need-wide-requires
 wide-requires c κs = search needs
 
--- src/lib.rt:77:9
 returns-2 : tie.Need-returns-2
-returns-2 c = ?
+returns-2 c = (search digit-low, omega arith)
 
--- src/lib.rt:67:1
 returns-3 : tie.Need-returns-3
-returns-3 c = ?
+returns-3 c = (search digit-high, omega arith)
 
 pub digit-spec : {M : Type 1} → statement M
 digit-spec = tie.close (tie.spec returns shared-slice-read-wide wide-requires returns-2 returns-3)

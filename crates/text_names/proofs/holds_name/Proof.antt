@@ -30,24 +30,24 @@ add-from c = search needs
 add-to : tie.Need-add-to
 add-to c = search needs
 
-sub-same : tie.Need-sub-same
-sub-same c = search needs
+sub-same-name : tie.Need-sub-same-name
+sub-same-name c = search needs
 
-part-same-start : tie.Need-part-same-start
-part-same-start c = search needs
+part-same-name-start : tie.Need-part-same-name-start
+part-same-name-start c = search needs
 
-part-same-end : tie.Need-part-same-end
-part-same-end c = search needs
+part-same-name-end : tie.Need-part-same-name-end
+part-same-name-end c = search needs
 
-same-requires : tie.Need-same-requires
-same-requires c κs = search needs
+same-name-requires : tie.Need-same-name-requires
+same-name-requires c κs = search needs
 
 returns-2 : tie.Need-returns-2
 returns-2 c =
     let told = c .before .before in
     let a = told .before .before .before .before .before .args in
     let n : a .s * 67 + 3 + length (a .name .now) - (a .s * 67 + 3) ≡ length (a .name .now) = omega arith in
-    let h = c .same .ensures in
+    let h = c .same-name .ensures in
     (rw n at h) ∙ held-by (a .table .now) (a .s) (a .name .now) (sym (told .before .wide .ensures .0) ∙ told .if1 .left)
 
 pub holds-name-spec : {M : Type 1} → statement M
@@ -60,8 +60,8 @@ holds-name-spec =
     returns
     add-from
     add-to
-    sub-same
-    part-same-start
-    part-same-end
-    same-requires
+    sub-same-name
+    part-same-name-start
+    part-same-name-end
+    same-name-requires
     returns-2)

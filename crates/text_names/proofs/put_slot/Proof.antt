@@ -1,4 +1,4 @@
--- A name's slot: four bytes, and then the name.
+-- A name's slot: three bytes, and then the name.
 use borrow.Author.Needs.{needs}
 use native.Mathlib.Omega.{arith}
 use lib.ListN.{length-set}
@@ -33,12 +33,6 @@ add-table-2 c = search needs
 slice-write-table-3 : tie.Need-slice-write-table-3
 slice-write-table-3 c = simp length-set (omega arith)
 
-add-table-3 : tie.Need-add-table-3
-add-table-3 c = search needs
-
-slice-write-table-4 : tie.Need-slice-write-table-4
-slice-write-table-4 c = simp length-set (omega arith)
-
 add-copy : tie.Need-add-copy
 add-copy c = search needs
 
@@ -64,8 +58,6 @@ put-slot-spec =
     cast-table-3
     add-table-2
     slice-write-table-3
-    add-table-3
-    slice-write-table-4
     add-copy
     copy-requires
     same-length
