@@ -18,7 +18,7 @@ struct Read {
 fn read_all(
     start: Progress,
     line: &mut [u8; 526],
-    names: &mut [u8; 47232],
+    names: &mut [u8; 55392],
     sorts: &mut [u16],
     terms: &mut [u16],
     inputs: &mut [u16],
@@ -108,7 +108,7 @@ fn run_log(r: ReadOutcome, sorts: &[u16], terms: &[u16], inputs: &[u16], steps: 
 
 fn main() {
     let mut line = [0u8; 526];
-    let mut names = [0u8; 47232];
+    let mut names = [0u8; 55392];
     let mut sorts = [0u16; 64];
     let mut terms = [0u16; 1536];
     let mut inputs = [0u16; 512];

@@ -64,7 +64,7 @@ module _ (f : Progress) (line t a b c d : List ℕ)
   code-is = code-of ∙ rw (has, fault-is, length-names t 0 (f .core .counts .sorts), length-names t 32 (f .core .counts .terms))
 
   pub finished : (r : ReadOutcome) (line′ names′ a′ b′ c′ d′ : List ℕ) → r ≡ outcomeOf code fault (keptOf (f .core .counts) t)
-      → line′ ≡ replicate 526 0 → names′ ≡ replicate 47232 0
+      → line′ ≡ replicate 526 0 → names′ ≡ replicate 55392 0
       → a′ ≡ leftSheet code a → b′ ≡ leftSheet code b → c′ ≡ leftSheet code c → d′ ≡ leftSheet code d
       → Finished (streamOf f line t a b c d) r line′ names′ a′ b′ c′ d′
   finished r line′ names′ a′ b′ c′ d′ o l m p q u v =

@@ -65,7 +65,7 @@ leftSheet code sheet = pick (eqb code 0) sheet (replicate (length sheet) 0)
 pub record Finished (s : Stream) (r : ReadOutcome) (line′ names′ sorts′ terms′ inputs′ steps′ : List ℕ) : Type 0 where
   pub outcome-is : r ≡ outcomeOf (streamCode s) (streamFault s) (s .control .kept)
   pub line-is : line′ ≡ replicate 526 0
-  pub names-is : names′ ≡ replicate 47232 0
+  pub names-is : names′ ≡ replicate 55392 0
   pub sorts-is : sorts′ ≡ leftSheet (streamCode s) (s .sheets .sorts)
   pub terms-is : terms′ ≡ leftSheet (streamCode s) (s .sheets .terms)
   pub inputs-is : inputs′ ≡ leftSheet (streamCode s) (s .sheets .inputs)

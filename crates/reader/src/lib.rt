@@ -212,7 +212,7 @@ fn leave_sheet(code: u16, sheet: &mut [u16])
 pub fn finish(
     f: Progress,
     line: &mut [u8; 526],
-    names: &mut [u8; 47232],
+    names: &mut [u8; 55392],
     sorts: &mut [u16],
     terms: &mut [u16],
     inputs: &mut [u16],
@@ -253,7 +253,7 @@ pub extern "C" fn cdsat_read(
         r (now (sorts .exit)) (now (terms .exit)) (now (inputs .exit)) (now (steps .exit)) ⌝ }
 {
     let mut line = [0u8; 526];
-    let mut names = [0u8; 47232];
+    let mut names = [0u8; 55392];
     let start = begin(sorts, terms, inputs, steps);
     let f = text_stream::feed(
         start,

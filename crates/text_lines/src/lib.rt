@@ -125,7 +125,7 @@ fn empty_line(core: Core) -> Step
 }
 
 // A row of a sheet.
-fn sheet_row(sheet: Sheet, counts: Counts, line: &[u8], names: &mut [u8; 47232]) -> Row
+fn sheet_row(sheet: Sheet, counts: Counts, line: &[u8], names: &mut [u8; 55392]) -> Row
     requires { ⌜ Bounded counts ⌝ }
     ensures { λ r. ⌜ takenOf r (now (names .exit)) ≡ rowOf sheet (keptOf counts (now (names .entry))) (pieces 32 (now (line .entry))) ⌝ }
     ensures { λ r. ⌜ Within r ⌝ }
@@ -162,7 +162,7 @@ fn row_line(core: Core, taken: Row) -> Step
 }
 
 // A line that is not too long, after good ones.
-fn read_line(core: Core, line: &[u8], names: &mut [u8; 47232]) -> Step
+fn read_line(core: Core, line: &[u8], names: &mut [u8; 55392]) -> Step
     requires { ⌜ Bounded (core .counts) ⌝ }
     ensures { λ r. ⌜ effectOf r (now (names .exit)) ≡ readLine (controlOf core (now (names .entry))) (now (line .entry)) ⌝ }
     ensures { λ r. ⌜ StepBounded r ⌝ }
@@ -197,7 +197,7 @@ fn number_line(core: Core, n: usize) -> Core
 }
 
 // What line n does, after good lines.
-fn line_step(core: Core, n: usize, l: &[u8], names: &mut [u8; 47232]) -> Step
+fn line_step(core: Core, n: usize, l: &[u8], names: &mut [u8; 55392]) -> Step
     requires { ⌜ Bounded (core .counts) ⌝ }
     requires { ⌜ core .code ≡ 0 ⌝ }
     ensures { λ r. ⌜ effectOf r (now (names .exit)) ≡ lineEffect (controlOf core (now (names .entry))) n (now (l .entry)) ⌝ }
@@ -283,7 +283,7 @@ pub fn end_line(
     core: Core,
     n: usize,
     l: &[u8],
-    names: &mut [u8; 47232],
+    names: &mut [u8; 55392],
     sorts: &mut [u16],
     terms: &mut [u16],
     inputs: &mut [u16],

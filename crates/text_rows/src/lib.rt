@@ -45,7 +45,7 @@ pub fn refuse(counts: Counts, code: u16, place: usize) -> Row
 }
 
 // What a field says of the terms so far.
-fn term_ref(names: &[u8; 47232], count: usize, f: &[u8]) -> u16
+fn term_ref(names: &[u8; 55392], count: usize, f: &[u8]) -> u16
     requires { ⌜ count ≤ 256 ⌝ }
     ensures { λ r. ⌜ r ≡ refOf (namesFrom (now (names .entry)) 32 count) (now (f .entry)) ⌝ }
 {
@@ -60,7 +60,7 @@ fn term_ref(names: &[u8; 47232], count: usize, f: &[u8]) -> u16
 
 // Field k of a line as a term.
 pub fn term_column(
-    names: &[u8; 47232],
+    names: &[u8; 55392],
     count: usize,
     line: &[u8],
     marks: &[usize; 18],
@@ -75,7 +75,7 @@ pub fn term_column(
 }
 
 // What a field says of the sorts so far.
-fn sort_ref(names: &[u8; 47232], count: usize, f: &[u8]) -> u16
+fn sort_ref(names: &[u8; 55392], count: usize, f: &[u8]) -> u16
     requires { ⌜ count ≤ 32 ⌝ }
     ensures { λ r. ⌜ r ≡ sortRef (namesFrom (now (names .entry)) 0 count) (now (f .entry)) ⌝ }
 {
@@ -93,7 +93,7 @@ fn sort_ref(names: &[u8; 47232], count: usize, f: &[u8]) -> u16
 
 // Field k of a line as a sort.
 pub fn sort_column(
-    names: &[u8; 47232],
+    names: &[u8; 55392],
     count: usize,
     line: &[u8],
     marks: &[usize; 18],
@@ -108,7 +108,7 @@ pub fn sort_column(
 }
 
 // Whether a row may not have this name of its own.
-pub fn is_taken(names: &[u8; 47232], base: usize, count: usize, f: &[u8]) -> bool
+pub fn is_taken(names: &[u8; 55392], base: usize, count: usize, f: &[u8]) -> bool
     requires { ⌜ base ≤ 288 ⌝ }
     requires { ⌜ base + count ≤ 544 ⌝ }
     ensures { λ r. ⌜ r ≡ isTaken (namesFrom (now (names .entry)) base count) (now (f .entry)) ⌝ }

@@ -41,7 +41,7 @@ abbrev one-sort-more : Counts → Counts
 one-sort-more n = record { sorts = n .sorts + 1; terms = n .terms; heads = n .heads; inputs = n .inputs; steps = n .steps }
 
 -- a sort's name put into the table
-module _ (n : Counts) (t name : List ℕ) (size : length t ≡ 47232) (b : Bounded n) (room : n .sorts < 32) where
+module _ (n : Counts) (t name : List ℕ) (size : length t ≡ 55392) (b : Bounded n) (room : n .sorts < 32) where
   pub sort-put : named name ≡ true → length name ≤ 64 → isTaken (namesFrom t 0 (n .sorts)) name ≡ false → (t′ : List ℕ) → t′ ≡ withName t 0 (n .sorts) name
       → keptOf (one-sort-more n) t′ ≡ record {
         sorts = namesFrom t 0 (n .sorts) ++ (name ∷ []);
@@ -54,8 +54,8 @@ module _ (n : Counts) (t name : List ℕ) (size : length t ≡ 47232) (b : Bound
       let low : 0 ≤ 288 = omega arith in
       let few : n .sorts < 256 = omega arith in
       let put = names-put t 0 (n .sorts) name size low few h (named-byte name g) (untaken (namesFrom t 0 (n .sorts)) name new) in
-      let terms = names-after t 0 (n .sorts) name size low few h 32 (n .terms) (omega arith) (omega arith) (omega arith) in
-      let heads = names-after t 0 (n .sorts) name size low few h 288 (n .heads) (omega arith) (omega arith) (omega arith) in
+      let terms = names-after t 0 (n .sorts) name size low few h 32 (n .terms) (omega arith) (omega arith) (omega arith) (omega arith) in
+      let heads = names-after t 0 (n .sorts) name size low few h 288 (n .heads) (omega arith) (omega arith) (omega arith) (omega arith) in
       rw (e, put, terms, heads)
 
   -- a sort row stored

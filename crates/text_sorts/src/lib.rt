@@ -15,7 +15,7 @@ use text_rows::Counts;
 use text_rows::Row;
 
 // A sort row that is good.
-fn put_sort(counts: Counts, line: &[u8], marks: &[usize; 18], names: &mut [u8; 47232]) -> Row
+fn put_sort(counts: Counts, line: &[u8], marks: &[usize; 18], names: &mut [u8; 55392]) -> Row
     requires { ⌜ Bounded counts ⌝ }
     requires { ⌜ counts .sorts < 32 ⌝ }
     requires { ⌜ shapeOf 3 0 (pieces 32 (now line)) ≡ Shape.Good ⌝ }
@@ -44,7 +44,7 @@ fn put_sort(counts: Counts, line: &[u8], marks: &[usize; 18], names: &mut [u8; 4
 }
 
 // A sort row that is well formed.
-fn add_sort(counts: Counts, line: &[u8], marks: &[usize; 18], names: &mut [u8; 47232]) -> Row
+fn add_sort(counts: Counts, line: &[u8], marks: &[usize; 18], names: &mut [u8; 55392]) -> Row
     requires { ⌜ Bounded counts ⌝ }
     requires { ⌜ shapeOf 3 0 (pieces 32 (now line)) ≡ Shape.Good ⌝ }
     requires { ⌜ Marked (now line) (now marks) 3 ⌝ }
@@ -62,7 +62,7 @@ fn add_sort(counts: Counts, line: &[u8], marks: &[usize; 18], names: &mut [u8; 4
 }
 
 // A line of the sort sheet.
-pub fn sort_row(counts: Counts, line: &[u8], names: &mut [u8; 47232]) -> Row
+pub fn sort_row(counts: Counts, line: &[u8], names: &mut [u8; 55392]) -> Row
     requires { ⌜ Bounded counts ⌝ }
     ensures { λ r. ⌜ takenOf r (now (names .exit)) ≡ sortRow (keptOf counts (now (names .entry))) (pieces 32 (now (line .entry))) ⌝ }
     ensures { λ r. ⌜ Within r ⌝ }

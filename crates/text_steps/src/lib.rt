@@ -26,7 +26,7 @@ fn value_column(line: &[u8], marks: &[usize; 18], k: usize) -> u16
 }
 
 // The row of an input line that is well formed, while there is room for one more.
-fn good_input(counts: Counts, line: &[u8], marks: &[usize; 18], names: &[u8; 47232]) -> Row
+fn good_input(counts: Counts, line: &[u8], marks: &[usize; 18], names: &[u8; 55392]) -> Row
     requires { ⌜ Bounded counts ⌝ }
     requires { ⌜ Marked (now line) (now marks) 2 ⌝ }
     ensures { λ r. ⌜ takenOf r (now (names .entry))
@@ -55,7 +55,7 @@ fn good_input(counts: Counts, line: &[u8], marks: &[usize; 18], names: &[u8; 472
 }
 
 // A line of the input sheet: a term and a value.
-pub fn input_row(counts: Counts, line: &[u8], names: &[u8; 47232]) -> Row
+pub fn input_row(counts: Counts, line: &[u8], names: &[u8; 55392]) -> Row
     requires { ⌜ Bounded counts ⌝ }
     ensures { λ r. ⌜ takenOf r (now (names .entry)) ≡ inputRow (keptOf counts (now (names .entry))) (pieces 32 (now (line .entry))) ⌝ }
     ensures { λ r. ⌜ Within r ⌝ }
@@ -68,7 +68,7 @@ pub fn input_row(counts: Counts, line: &[u8], names: &[u8; 47232]) -> Row
 }
 
 // The nine numbers of a step line: step, rule, term, value, five premises.
-fn step_cells(counts: Counts, line: &[u8], marks: &[usize; 18], names: &[u8; 47232]) -> [u16; 9]
+fn step_cells(counts: Counts, line: &[u8], marks: &[usize; 18], names: &[u8; 55392]) -> [u16; 9]
     requires { ⌜ counts .terms ≤ 256 ⌝ }
     requires { ⌜ Marked (now line) (now marks) 9 ⌝ }
     ensures { λ r. ⌜ r ≡ stepCells (keptOf counts (now (names .entry))) (pieces 32 (now (line .entry))) ⌝ }
@@ -88,7 +88,7 @@ fn step_cells(counts: Counts, line: &[u8], marks: &[usize; 18], names: &[u8; 472
 }
 
 // The row of a step line that is well formed, while there is room for one more.
-fn good_step(counts: Counts, line: &[u8], marks: &[usize; 18], names: &[u8; 47232]) -> Row
+fn good_step(counts: Counts, line: &[u8], marks: &[usize; 18], names: &[u8; 55392]) -> Row
     requires { ⌜ Bounded counts ⌝ }
     requires { ⌜ Marked (now line) (now marks) 9 ⌝ }
     ensures { λ r. ⌜ takenOf r (now (names .entry))
@@ -116,7 +116,7 @@ fn good_step(counts: Counts, line: &[u8], marks: &[usize; 18], names: &[u8; 4723
 }
 
 // A line of the step sheet: a step, a rule, a term, a value, five premises.
-pub fn step_row(counts: Counts, line: &[u8], names: &[u8; 47232]) -> Row
+pub fn step_row(counts: Counts, line: &[u8], names: &[u8; 55392]) -> Row
     requires { ⌜ Bounded counts ⌝ }
     ensures { λ r. ⌜ takenOf r (now (names .entry)) ≡ stepRow (keptOf counts (now (names .entry))) (pieces 32 (now (line .entry))) ⌝ }
     ensures { λ r. ⌜ Within r ⌝ }

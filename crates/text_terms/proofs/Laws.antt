@@ -32,7 +32,7 @@ module _ (t f : List ℕ) (n : ℕ) where
       → HeadIs t n (freeHead (namesFrom t 288 n) f (indexFrom 0 (namesFrom t 288 n) f)) (record { number = 16 + k; heads = n }) t
   free-at k e = head-same t n (freeHead (namesFrom t 288 n) f (indexFrom 0 (namesFrom t 288 n) f)) (16 + k) (rw e) (rw e)
 
-  pub free-new : n < 256 → length t ≡ 47232 → named f ≡ true → length f ≤ 64 → (t′ : List ℕ) → t′ ≡ withName t 288 n f
+  pub free-new : n < 256 → length t ≡ 55392 → named f ≡ true → length f ≤ 64 → (t′ : List ℕ) → t′ ≡ withName t 288 n f
       → indexFrom 0 (namesFrom t 288 n) f ≡ Nothing
       → HeadIs t n (freeHead (namesFrom t 288 n) f (indexFrom 0 (namesFrom t 288 n) f)) (record { number = 16 + n; heads = n + 1 }) t′
   free-new room size g h t′ is e =
@@ -81,7 +81,7 @@ module _ (k : Kept) (fs : List (List ℕ)) where
 -- a term row stored: the head is read, then the term's name is put into the table
 module _ (n : Counts) (t name : List ℕ) (b : Bounded n) (room : n .terms < 256) (fs : List (List ℕ)) (good : shapeOf 7 0 fs ≡ Good)
     (is : name ≡ getD fs 0 []) (new : isTaken (namesFrom t 32 (n .terms)) (getD fs 0 []) ≡ false) where
-  pub term-stored : (r : HeadNumber) (t₁ : List ℕ) → length t₁ ≡ 47232 → HeadIs t (n .heads) (headOf (namesFrom t 288 (n .heads)) (getD fs 1 [])) r t₁
+  pub term-stored : (r : HeadNumber) (t₁ : List ℕ) → length t₁ ≡ 55392 → HeadIs t (n .heads) (headOf (namesFrom t 288 (n .heads)) (getD fs 1 [])) r t₁
       → (t₂ : List ℕ) → t₂ ≡ withName t₁ 32 (n .terms) name
       → (sort x y z w : ℕ) → sort ≡ sortRef (namesFrom t 0 (n .sorts)) (getD fs 2 [])
       → x ≡ refOf (namesFrom t 32 (n .terms)) (getD fs 3 []) → y ≡ refOf (namesFrom t 32 (n .terms)) (getD fs 4 [])
@@ -105,6 +105,6 @@ module _ (n : Counts) (t name : List ℕ) (b : Bounded n) (room : n .terms < 256
       let terms-are : namesFrom t₂ 32 (n .terms + 1) ≡ namesFrom t 32 (n .terms) ++ (name ∷ []) =
       rw e (names-put t₁ 32 (n .terms) name size₁ low room s (named-byte name g) fresh ∙ ap (λ (l : List (List ℕ)). l ++ (name ∷ [])) kept) in
       let heads-are : namesFrom t₂ 288 (r .heads) ≡ headOf (namesFrom t 288 (n .heads)) (getD fs 1 []) .heads =
-      rw e (names-after t₁ 32 (n .terms) name size₁ low room s 288 (r .heads) (omega (arith, h .at-most)) (omega arith) (omega arith)
+      rw e (names-after t₁ 32 (n .terms) name size₁ low room s 288 (r .heads) (omega arith) (omega (arith, h .at-most)) (omega arith) (omega arith)
       ∙ h .heads-are) in
       rw (sorts-are, terms-are, heads-are, h .number-is, p, q₁, q₂, q₃, q₄, is)

@@ -25,7 +25,7 @@ struct HeadNumber {
 }
 
 // A head that is no word of its own: free heads count from 16 by first use.
-fn free_head(names: &mut [u8; 47232], heads: usize, f: &[u8]) -> HeadNumber
+fn free_head(names: &mut [u8; 55392], heads: usize, f: &[u8]) -> HeadNumber
     requires { ⌜ heads < 256 ⌝ }
     requires { ⌜ named (now f) ≡ true ⌝ }
     requires { ⌜ length (now f) ≤ 64 ⌝ }
@@ -49,7 +49,7 @@ fn free_head(names: &mut [u8; 47232], heads: usize, f: &[u8]) -> HeadNumber
 }
 
 // The number of a head.
-fn head_of(names: &mut [u8; 47232], heads: usize, f: &[u8]) -> HeadNumber
+fn head_of(names: &mut [u8; 55392], heads: usize, f: &[u8]) -> HeadNumber
     requires { ⌜ heads < 256 ⌝ }
     requires { ⌜ named (now f) ≡ true ⌝ }
     requires { ⌜ length (now f) ≤ 64 ⌝ }
@@ -72,7 +72,7 @@ fn head_of(names: &mut [u8; 47232], heads: usize, f: &[u8]) -> HeadNumber
 }
 
 // A term row that is good.
-fn put_term(counts: Counts, line: &[u8], marks: &[usize; 18], names: &mut [u8; 47232]) -> Row
+fn put_term(counts: Counts, line: &[u8], marks: &[usize; 18], names: &mut [u8; 55392]) -> Row
     requires { ⌜ Bounded counts ⌝ }
     requires { ⌜ counts .terms < 256 ⌝ }
     requires { ⌜ shapeOf 7 0 (pieces 32 (now line)) ≡ Shape.Good ⌝ }
@@ -105,7 +105,7 @@ fn put_term(counts: Counts, line: &[u8], marks: &[usize; 18], names: &mut [u8; 4
 }
 
 // A term row that is well formed.
-fn add_term(counts: Counts, line: &[u8], marks: &[usize; 18], names: &mut [u8; 47232]) -> Row
+fn add_term(counts: Counts, line: &[u8], marks: &[usize; 18], names: &mut [u8; 55392]) -> Row
     requires { ⌜ Bounded counts ⌝ }
     requires { ⌜ shapeOf 7 0 (pieces 32 (now line)) ≡ Shape.Good ⌝ }
     requires { ⌜ Marked (now line) (now marks) 7 ⌝ }
@@ -123,7 +123,7 @@ fn add_term(counts: Counts, line: &[u8], marks: &[usize; 18], names: &mut [u8; 4
 }
 
 // A line of the term sheet.
-pub fn term_row(counts: Counts, line: &[u8], names: &mut [u8; 47232]) -> Row
+pub fn term_row(counts: Counts, line: &[u8], names: &mut [u8; 55392]) -> Row
     requires { ⌜ Bounded counts ⌝ }
     ensures { λ r. ⌜ takenOf r (now (names .exit)) ≡ termRow (keptOf counts (now (names .entry))) (pieces 32 (now (line .entry))) ⌝ }
     ensures { λ r. ⌜ Within r ⌝ }

@@ -63,7 +63,7 @@ returns c =
     let start = room .before .before .before .before .before .before .before .before .before in
     let a = start .args in
     let l : length (a .line .now) ≡ 526 = omega (arith, line .before .clear-bytes-arg) in
-    let m : length (a .names .now) ≡ 47232 = omega (arith, names .before .clear-bytes-arg2) in
+    let m : length (a .names .now) ≡ 55392 = omega (arith, names .before .clear-bytes-arg2) in
     finished (a .f) (a .line .now) (a .names .now) _ _ _ _ _ (room .before .fault-of .ensures (a .names .now)) _ (room .holds-rows .ensures) _
     (code .final-code .ensures) _ _ _ _ _ _ _ (c .outcome-of .ensures (a .names .now))
     (line .clear-bytes .ensures ∙ ap (λ (k : ℕ). replicate k 0) l) (names .clear-bytes2 .ensures ∙ ap (λ (k : ℕ). replicate k 0) m)
