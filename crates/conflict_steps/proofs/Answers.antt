@@ -1,18 +1,15 @@
 -- The answers of the steps of a conflict: what the number 0 says, and for each return a law.
-use mathlib.Core.Path.{_≡_, refl, sym, subst, _∙_}
+use mathlib.Core.Path.{_≡_, refl, sym, _∙_}
 use mathlib.Core.Bool.{true, false, not}
 use mathlib.Core.List.{List}
 use Prim.Native.Nat.{ℕ, _-_, _<_}
 use native.Mathlib.Omega.{arith}
 use lib.Dec.{eqb, ltb→lt}
 use Rattle.calculus.specs.declared.Level.{Level}
-use Rattle.calculus.specs.Sheets.{termRows}
 use Rattle.calculus.specs.Trail.{Set, Trail, remove, union, on, decidedAt, levelAt, whyAt, topLevel, keptTo}
-use Rattle.calculus.specs.WellFormed.{WellFormed}
 use Rattle.calculus.specs.Steps as calculus
 use Rattle.calculus.specs.Steps.{resolveRefusal, clearRefusal, jumpRefusal, flipRefusal}
 use Rattle.calculus.proofs.Facts.{and-l, and-r, T-true, T-false, unless-ok}
-use Rattle.calculus.proofs.WellFormed.{shared-high}
 use Rattle.trail.specs.Words.{trailIn}
 use Rattle.moves.specs.Post.{conflictIn, Stands, Conflicts, Above, restLevel, lowerLevel, jumpedIn, flippedIn}
 use Rattle.state.specs.declared.Status.{Status}
@@ -21,8 +18,8 @@ use Rattle.state.specs.declared.Answer.the-variants.{Allowed, Refused}
 use Rattle.state.specs.States.{Answers}
 use Rattle.state.proofs.States.{refused-by, passed-by}
 use Rattle.state.proofs.Landed.{landed, opened}
-use Rattle.conflict_steps.specs.Conflicts.{Conflicted, Found, Placed, inSearch}
-use Rattle.conflict_steps.proofs.Laws.{found, top-fits}
+use Rattle.conflict_steps.specs.Conflicts.{Conflicted, Found, Member, inSearch}
+use Rattle.conflict_steps.proofs.Laws.{found, held-high, top-fits}
 
 module _ (w n : ℕ) (ts ws : List ℕ) (st : Status) where
   abbrev here : Trail
@@ -106,7 +103,7 @@ module _ (w n : ℕ) (ts ws : List ℕ) (st : Status) where
     flip-refused h = (refused-by _ c-is h, refl)
 
     module _ (c-no : c ≡ 0) (g : Conflicted w n ts ws st l) where
-      f : Found w n ts ws (st .count)
+      f : Found w n ws (st .count)
       f = found w n ts ws st g
 
       flip-member : set l ≡ true
@@ -121,8 +118,7 @@ module _ (w n : ℕ) (ts ws : List ℕ) (st : Status) where
           let q = unless-ok _ 22 _ (omega arith) (p .1) in
           let r = unless-ok _ 18 _ (omega arith) (q .1) in
           let s = unless-ok _ 23 _ (omega arith) (r .1) in
-          let i : WellFormed (termRows ts) here = subst (λ (x : ℕ). WellFormed x here) (f .rows) (f .wellFormed) in
-          let y = shared-high ts here set i (f .within) l k _ (and-r (not (eqb l k)) _ (s .0)) in
+          let y = held-high w n ws (st .count) ts l k (g .standing .held .rows) f (and-r (not (eqb l k)) _ (s .0)) in
           (T-false _ (and-l (not (decidedAt here l)) _ (r .0)), omega (arith, y .0, y .1))
 
       pub flip-above : Above w n ws (st .count) l (lowerLevel w n ws (st .count))
@@ -131,8 +127,8 @@ module _ (w n : ℕ) (ts ws : List ℕ) (st : Status) where
 
       pub flip-small : topLevel here < 65536
       flip-small =
-          let p : Placed w n ts ws (st .count) l = record { found = f; row = g .row; stands = f .within l flip-member } in
-          top-fits w n ts ws (st .count) l (record { placed = p; justified = flip-free .0 })
+          let p : Member w n ws (st .count) l = record { found = f; row = g .row; inside = flip-member } in
+          top-fits w n ws (st .count) l (record { member = p; justified = flip-free .0 })
 
       pub flip-done : (vs : List ℕ) (count : ℕ) (top : Level) {r : Answer} → Stands w n vs count (top .0) (flippedIn w n ws (st .count) l)
           → r ≡ Allowed (inSearch count top) → Answers w n ts ws vs (calculus.flip ts here set l k) r

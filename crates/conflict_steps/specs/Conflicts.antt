@@ -4,8 +4,7 @@ use mathlib.Core.Bool.{Bool, true, false}
 use mathlib.Core.List.{List}
 use Prim.Native.Nat.{ℕ, _<_}
 use Rattle.calculus.specs.declared.Level.{Level}
-use Rattle.calculus.specs.Sheets.{termRows}
-use Rattle.calculus.specs.Trail.{Set, on, decidedAt, whyAt, levelOf, holds, firstOrder}
+use Rattle.calculus.specs.Trail.{Set, decidedAt, whyAt, levelOf, holds, firstOrder}
 use Rattle.calculus.specs.WellFormed.{Within, WellFormed}
 use Rattle.trail.specs.Words.{trailIn, Laid}
 use Rattle.moves.specs.Post.{conflictIn}
@@ -18,22 +17,21 @@ pub record Conflicted (w n : ℕ) (ts ws : List ℕ) (st : Status) (t : ℕ) : T
   pub conflict : st .conflict ≡ true
   pub row : t < n
 
--- the words are a well-formed trail of the sheet's rows, and the conflict's members stand on it
-pub record Found (w n : ℕ) (ts ws : List ℕ) (count : ℕ) : Type 0 where
-  pub rows : n ≡ termRows ts
+-- the words are a well-formed trail, and the conflict's members stand on it
+pub record Found (w n : ℕ) (ws : List ℕ) (count : ℕ) : Type 0 where
   pub laid : Laid w n ws count
   pub wellFormed : WellFormed n (trailIn w n ws count)
   pub within : Within (conflictIn w n ws) (trailIn w n ws count)
 
--- row t stands on that trail
-pub record Placed (w n : ℕ) (ts ws : List ℕ) (count t : ℕ) : Type 0 where
-  pub found : Found w n ts ws count
+-- row t is in that conflict
+pub record Member (w n : ℕ) (ws : List ℕ) (count t : ℕ) : Type 0 where
+  pub found : Found w n ws count
   pub row : t < n
-  pub stands : on (trailIn w n ws count) t ≡ true
+  pub inside : conflictIn w n ws t ≡ true
 
 -- and is no decision
-pub record Justified (w n : ℕ) (ts ws : List ℕ) (count t : ℕ) : Type 0 where
-  pub placed : Placed w n ts ws count t
+pub record Justified (w n : ℕ) (ws : List ℕ) (count t : ℕ) : Type 0 where
+  pub member : Member w n ws count t
   pub justified : decidedAt (trailIn w n ws count) t ≡ false
 
 -- the justification of row t

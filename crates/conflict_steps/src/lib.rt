@@ -1,16 +1,17 @@
 // The steps of a conflict: resolve, clear, jump, flip. Each has its number, found by reading alone, and then what it does.
 ghost use mathlib.Core.Path.{_≡_};
-ghost use Prim.Native.Nat.{_+_, _<_, _≤_};
+ghost use Prim.Native.Nat.{_+_, _*_, _<_, _≤_};
 ghost use lib.Dec.{ltb};
 ghost use lib.ListN.{length};
-ghost use Rattle.calculus.specs.Trail.{intersection, levelAt};
+ghost use Rattle.calculus.specs.Sheets.{termRows};
+ghost use Rattle.calculus.specs.Trail.{intersection, levelAt, topLevel};
 ghost use Rattle.calculus.specs.Steps as calculus;
 ghost use Rattle.calculus.specs.Steps.{resolveRefusal, clearRefusal, jumpRefusal, flipRefusal};
 ghost use Rattle.trail.specs.Words as words;
 ghost use Rattle.trail.specs.Words.{trailIn};
 ghost use Rattle.moves.specs.Post.{conflictIn, restLevel};
 ghost use Rattle.state.specs.States.{Answers};
-ghost use Rattle.conflict_steps.specs.Conflicts.{Conflicted, Found, Placed, Justified, whyIn, conflictLevel, holdsFirstOrder, inSearch};
+ghost use Rattle.conflict_steps.specs.Conflicts.{Conflicted, Found, Member, Justified, whyIn, conflictLevel, holdsFirstOrder, inSearch};
 use calculus::Level;
 use calculus::Row;
 use state::Answer;
@@ -28,8 +29,8 @@ fn place(work: &[u64], w: usize, n: usize) -> usize
 }
 
 // Whether row t is in the conflict.
-fn in_conflict(terms: &[u16], work: &[u64], w: usize, n: usize, count: usize, t: Row) -> bool
-    requires { ⌜ Found w n (now terms) (now work) count × (t .0 < n) ⌝ }
+fn in_conflict(work: &[u64], w: usize, n: usize, t: Row) -> bool
+    requires { ⌜ (words.conflict w n + w ≤ length (now work)) × (n ≤ 64 * w) × (t .0 < n) ⌝ }
     ensures { λ r. ⌜ r ≡ conflictIn w n (now (work .entry)) (t .0) ⌝ }
 {
     let e = place(work, w, n);
@@ -37,8 +38,8 @@ fn in_conflict(terms: &[u16], work: &[u64], w: usize, n: usize, count: usize, t:
 }
 
 // The conflict's level.
-fn conflict_level(terms: &[u16], work: &[u64], w: usize, n: usize, count: usize) -> Level
-    requires { ⌜ Found w n (now terms) (now work) count ⌝ }
+fn conflict_level(work: &[u64], w: usize, n: usize, count: usize) -> Level
+    requires { ⌜ Found w n (now work) count ⌝ }
     ensures { λ r. ⌜ r .0 ≡ conflictLevel w n (now (work .entry)) count ⌝ }
 {
     let e = place(work, w, n);
@@ -46,8 +47,8 @@ fn conflict_level(terms: &[u16], work: &[u64], w: usize, n: usize, count: usize)
 }
 
 // The level of the conflict without row t.
-fn rest_level(terms: &[u16], work: &[u64], w: usize, n: usize, count: usize, t: Row) -> Level
-    requires { ⌜ Found w n (now terms) (now work) count ⌝ }
+fn rest_level(work: &[u64], w: usize, n: usize, count: usize, t: Row) -> Level
+    requires { ⌜ Found w n (now work) count ⌝ }
     ensures { λ r. ⌜ r .0 ≡ restLevel w n (now (work .entry)) count (t .0) ⌝ }
 {
     let e = place(work, w, n);
@@ -55,38 +56,40 @@ fn rest_level(terms: &[u16], work: &[u64], w: usize, n: usize, count: usize, t: 
 }
 
 // Whether row t's level is above that of the rest of the conflict, which is `rest`.
-fn above_rest(
-    terms: &[u16],
-    work: &[u64],
-    w: usize,
-    n: usize,
-    count: usize,
-    t: Row,
-    rest: Level,
-) -> bool
-    requires { ⌜ Placed w n (now terms) (now work) count (t .0) × (rest .0 ≡ restLevel w n (now work) count (t .0)) ⌝ }
+fn above_rest(work: &[u64], w: usize, n: usize, count: usize, t: Row, rest: Level) -> bool
+    requires { ⌜ Member w n (now work) count (t .0) × (rest .0 ≡ restLevel w n (now work) count (t .0)) ⌝ }
     ensures { λ r. ⌜ r ≡ ltb (restLevel w n (now (work .entry)) count (t .0)) (levelAt (trailIn w n (now (work .entry)) count) (t .0)) ⌝ }
 {
     let own = trail::level(work, w, n, count, t);
     rest.0 < own.0
 }
 
-// Whether the justification of row a holds a first-order decision of the conflict's level, which is found only where the justification
-// holds one at all. A row of level 0 rests on no decision, so that its justification is not read.
-fn barred(terms: &[u16], work: &[u64], w: usize, n: usize, count: usize, a: Row) -> bool
-    requires { ⌜ Justified w n (now terms) (now work) count (a .0) ⌝ }
+// Whether the conflict's level is above `own`. It is not above `top`, the trail's greatest: at that level the conflict is not read.
+fn conflict_above(work: &[u64], w: usize, n: usize, count: usize, top: Level, own: Level) -> bool
+    requires { ⌜ Found w n (now work) count × (top .0 ≡ topLevel (trailIn w n (now work) count)) ⌝ }
+    ensures { λ r. ⌜ r ≡ ltb (own .0) (conflictLevel w n (now (work .entry)) count) ⌝ }
+{
+    if top.0 <= own.0 {
+        return false;
+    }
+    let m = conflict_level(work, w, n, count);
+    own.0 < m.0
+}
+
+// Whether the justification of row a, a member of the conflict, holds a first-order decision of the conflict's level. What justifies a is
+// not above a's own level: where the conflict is, there is none. A row of level 0 rests on no decision. Neither reads the justification.
+fn barred(terms: &[u16], work: &[u64], w: usize, n: usize, count: usize, top: Level, a: Row) -> bool
+    requires { ⌜ Justified w n (now work) count (a .0) × (n ≡ termRows (now terms)) × (top .0 ≡ topLevel (trailIn w n (now work) count)) ⌝ }
     ensures { λ r. ⌜ r ≡ holdsFirstOrder w n (now (terms .entry)) (now (work .entry)) count (whyIn w n (now (work .entry)) count (a .0)) ⌝ }
 {
     let own = trail::level(work, w, n, count, a);
     if own.0 == 0 {
         return false;
     }
-    let b = a.0 as usize * w;
-    if !decisions::holds_first_order_any(work, w, n, count, terms, b) {
+    if conflict_above(work, w, n, count, top, own) {
         return false;
     }
-    let m = conflict_level(terms, work, w, n, count);
-    decisions::holds_first_order(work, w, n, count, terms, b, m)
+    decisions::holds_first_order(work, w, n, count, terms, a.0 as usize * w, own)
 }
 
 // Whether the justifications of rows l and k share a first-order decision of the conflict's level, which is m.
@@ -100,7 +103,7 @@ fn share(
     k: Row,
     m: Level,
 ) -> bool
-    requires { ⌜ Justified w n (now terms) (now work) count (l .0) × Justified w n (now terms) (now work) count (k .0)
+    requires { ⌜ Justified w n (now work) count (l .0) × Justified w n (now work) count (k .0) × (n ≡ termRows (now terms))
         × (m .0 ≡ conflictLevel w n (now work) count) ⌝ }
     ensures { λ r. ⌜ r ≡ holdsFirstOrder w n (now (terms .entry)) (now (work .entry)) count
         (intersection (whyIn w n (now (work .entry)) count (l .0)) (whyIn w n (now (work .entry)) count (k .0))) ⌝ }
@@ -119,18 +122,26 @@ fn share(
 
 // ---- the numbers
 
-// Numbers 17, 18, 19.
-fn resolve_refusal(terms: &[u16], work: &[u64], w: usize, n: usize, count: usize, a: Row) -> u16
-    requires { ⌜ Found w n (now terms) (now work) count × (a .0 < n) ⌝ }
+// Numbers 17, 18, 19; `top` is the trail's greatest level.
+fn resolve_refusal(
+    terms: &[u16],
+    work: &[u64],
+    w: usize,
+    n: usize,
+    count: usize,
+    top: Level,
+    a: Row,
+) -> u16
+    requires { ⌜ Found w n (now work) count × (n ≡ termRows (now terms)) × (top .0 ≡ topLevel (trailIn w n (now work) count)) × (a .0 < n) ⌝ }
     ensures { λ r. ⌜ r ≡ resolveRefusal (now (terms .entry)) (trailIn w n (now (work .entry)) count) (conflictIn w n (now (work .entry))) (a .0) ⌝ }
 {
-    if !in_conflict(terms, work, w, n, count, a) {
+    if !in_conflict(work, w, n, a) {
         return 17;
     }
     if trail::decided(work, w, n, count, a) {
         return 18;
     }
-    if barred(terms, work, w, n, count, a) {
+    if barred(terms, work, w, n, count, top, a) {
         return 19;
     }
     0
@@ -138,10 +149,10 @@ fn resolve_refusal(terms: &[u16], work: &[u64], w: usize, n: usize, count: usize
 
 // Numbers 17, 20, 21.
 fn clear_refusal(terms: &[u16], work: &[u64], w: usize, n: usize, count: usize, a: Row) -> u16
-    requires { ⌜ Found w n (now terms) (now work) count × (a .0 < n) ⌝ }
+    requires { ⌜ Found w n (now work) count × (a .0 < n) ⌝ }
     ensures { λ r. ⌜ r ≡ clearRefusal (now (terms .entry)) (trailIn w n (now (work .entry)) count) (conflictIn w n (now (work .entry))) (a .0) ⌝ }
 {
-    if !in_conflict(terms, work, w, n, count, a) {
+    if !in_conflict(work, w, n, a) {
         return 17;
     }
     let decided = trail::decided(work, w, n, count, a);
@@ -149,8 +160,8 @@ fn clear_refusal(terms: &[u16], work: &[u64], w: usize, n: usize, count: usize, 
     if !(decided & !p) {
         return 20;
     }
-    let rest = rest_level(terms, work, w, n, count, a);
-    if !above_rest(terms, work, w, n, count, a, rest) {
+    let rest = rest_level(work, w, n, count, a);
+    if !above_rest(work, w, n, count, a, rest) {
         return 21;
     }
     0
@@ -166,16 +177,16 @@ fn jump_refusal(
     l: Row,
     m: Level,
 ) -> u16
-    requires { ⌜ Found w n (now terms) (now work) count × (l .0 < n) × (m .0 ≡ restLevel w n (now work) count (l .0)) ⌝ }
+    requires { ⌜ Found w n (now work) count × (l .0 < n) × (m .0 ≡ restLevel w n (now work) count (l .0)) ⌝ }
     ensures { λ r. ⌜ r ≡ jumpRefusal (now (terms .entry)) (trailIn w n (now (work .entry)) count) (conflictIn w n (now (work .entry))) (l .0) ⌝ }
 {
-    if !in_conflict(terms, work, w, n, count, l) {
+    if !in_conflict(work, w, n, l) {
         return 17;
     }
     if !state::is_prop(terms, l) {
         return 22;
     }
-    if !above_rest(terms, work, w, n, count, l, m) {
+    if !above_rest(work, w, n, count, l, m) {
         return 21;
     }
     0
@@ -192,14 +203,14 @@ fn flip_refusal(
     k: Row,
     m: Level,
 ) -> u16
-    requires { ⌜ Found w n (now terms) (now work) count × (l .0 < n) × (k .0 < n) × (m .0 ≡ conflictLevel w n (now work) count) ⌝ }
+    requires { ⌜ Found w n (now work) count × (n ≡ termRows (now terms)) × (l .0 < n) × (k .0 < n) × (m .0 ≡ conflictLevel w n (now work) count) ⌝ }
     ensures { λ r. ⌜ r ≡ flipRefusal (now (terms .entry))
         (trailIn w n (now (work .entry)) count) (conflictIn w n (now (work .entry))) (l .0) (k .0) ⌝ }
 {
-    if !in_conflict(terms, work, w, n, count, l) {
+    if !in_conflict(work, w, n, l) {
         return 17;
     }
-    if !in_conflict(terms, work, w, n, count, k) {
+    if !in_conflict(work, w, n, k) {
         return 17;
     }
     if !state::is_prop(terms, l) {
@@ -241,12 +252,12 @@ pub fn resolve(terms: &[u16], work: &mut [u64], w: usize, n: usize, st: Status, 
         (calculus.resolve (now (terms .entry)) (trailIn w n (now (work .entry)) (st .count)) (conflictIn w n (now (work .entry))) (a .0)) r ⌝ }
 {
     let count = st.count;
-    let c = resolve_refusal(terms, work, w, n, count, a);
+    let top = st.top;
+    let c = resolve_refusal(terms, work, w, n, count, top, a);
     if c != 0 {
         return Answer::Refused(c);
     }
     conflict_moves::resolve(work, w, n, count, a);
-    let top = st.top;
     Answer::Allowed(Status {
         count,
         top,
@@ -275,7 +286,7 @@ pub fn jump(terms: &[u16], work: &mut [u64], w: usize, n: usize, st: Status, l: 
         (calculus.jump (now (terms .entry)) (trailIn w n (now (work .entry)) (st .count)) (conflictIn w n (now (work .entry))) (l .0)) r ⌝ }
 {
     let count = st.count;
-    let m = rest_level(terms, work, w, n, count, l);
+    let m = rest_level(work, w, n, count, l);
     let c = jump_refusal(terms, work, w, n, count, l, m);
     if c != 0 {
         return Answer::Refused(c);
@@ -298,7 +309,7 @@ pub fn flip(
         (calculus.flip (now (terms .entry)) (trailIn w n (now (work .entry)) (st .count)) (conflictIn w n (now (work .entry))) (l .0) (k .0)) r ⌝ }
 {
     let count = st.count;
-    let m = conflict_level(terms, work, w, n, count);
+    let m = conflict_level(work, w, n, count);
     let c = flip_refusal(terms, work, w, n, count, l, k, m);
     if c != 0 {
         return Answer::Refused(c);

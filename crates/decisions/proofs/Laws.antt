@@ -2,8 +2,8 @@
 use Prim.Native.Nat.{ℕ, _+_, _-_, _/_, _≤_, _<_, _^_}
 use native.Mathlib.Omega.{arith}
 use mathlib.Core.Path.{_≡_, refl, sym, ap, ap₂, _∙_}
-use mathlib.Core.Bool.{Bool, true, false, not, _&&_, _||_, and-true}
-use mathlib.Core.List.{List, [], _∷_}
+use mathlib.Core.Bool.{Bool, true, false, not, _&&_, _||_}
+use mathlib.Core.List.{List}
 use lib.Dec.{eqb}
 use lib.ListN.{getD}
 use lib.Bits.{bitAnd}
@@ -11,7 +11,7 @@ use borrow.Author.Tests.{eq-eqb, ne-eqb}
 use Rattle.calculus.specs.Terms.{prop}
 use Rattle.calculus.specs.Trail.{Set, Trail, Entry, intersection, on, entry, holds, firstOrder}
 use Rattle.calculus.specs.WellFormed.{Distinct, Within}
-use Rattle.calculus.proofs.Facts.{true-or-false, both-true, none-true}
+use Rattle.calculus.proofs.Facts.{both-true}
 use Rattle.bitset.specs.Windows.{setAt}
 use Rattle.bitset.proofs.Windows.{set-past}
 use Rattle.bitset.specs.Members.{wordOf, firstOf, IsWord}
@@ -20,20 +20,19 @@ use Rattle.trail.specs.Words.{kinds, levels, trailIn}
 use Rattle.trail.proofs.Abstract.{holds-yes, holds-empty, holds-skip, holds-union, holds-wider}
 use Rattle.trail.proofs.Laws.{entry-at}
 use Rattle.trail.proofs.Walks.{Rest, first-on, rest-next}
-use Rattle.decisions.specs.Decisions.{firstOrderAny, firstOrderIf}
 
 -- ---- an entry, by its words
 
-module _ (w N : ℕ) (ws ts : List ℕ) (n t : ℕ) (any : Bool) (m : ℕ) (o : on (trailIn w N ws n) t ≡ true) where
-  first-order-word : eqb (getD ws (kinds w N + t) 0) 2 && (not (prop ts t) && (any || eqb (getD ws (levels w N + t) 0) m))
-      ≡ firstOrderIf ts any m (entry (trailIn w N ws n) t)
-  first-order-word = sym (ap (firstOrderIf ts any m) (entry-at w N ws n t o))
+module _ (w N : ℕ) (ws ts : List ℕ) (n t m : ℕ) (o : on (trailIn w N ws n) t ≡ true) where
+  first-order-word : eqb (getD ws (kinds w N + t) 0) 2 && (not (prop ts t) && eqb (getD ws (levels w N + t) 0) m)
+      ≡ firstOrder ts m (entry (trailIn w N ws n) t)
+  first-order-word = sym (ap (firstOrder ts m) (entry-at w N ws n t o))
 
   pub decision-word : getD ws (kinds w N + t) 0 ≡ 2
-      → not (prop ts t) && (any || eqb (getD ws (levels w N + t) 0) m) ≡ firstOrderIf ts any m (entry (trailIn w N ws n) t)
+      → not (prop ts t) && eqb (getD ws (levels w N + t) 0) m ≡ firstOrder ts m (entry (trailIn w N ws n) t)
   decision-word e = rw (eq-eqb _ 2 e) at first-order-word
 
-  pub justified-word : (getD ws (kinds w N + t) 0 ≡ 2 → ⊥) → false ≡ firstOrderIf ts any m (entry (trailIn w N ws n) t)
+  pub justified-word : (getD ws (kinds w N + t) 0 ≡ 2 → ⊥) → false ≡ firstOrder ts m (entry (trailIn w N ws n) t)
   justified-word e = rw (ne-eqb _ 2 e) at first-order-word
 
 -- ---- a word, member by member
@@ -65,9 +64,6 @@ module _ {tr : Trail} {k x rest : ℕ} {p : Entry → Bool} (u : Walked tr k x r
         }
 
 -- ---- a set, word by word
-
-pub word-within : (tr : Trail) (s : Set) (k x : ℕ) → IsWord s k x → Within s tr → Within (wordOf k x) tr
-word-within tr s k x w h u m = h u (word-in s k x u w m)
 
 -- the first k of w words hold none
 pub record Passed (tr : Trail) (s : Set) (w k : ℕ) (p : Entry → Bool) : Type 0 where
@@ -104,22 +100,3 @@ shared-within tr s r h u m = h u (both-true (s u) (r u) m .0)
 
 pub shared-past : (ws : List ℕ) (e f w u : ℕ) → w ≤ u / 64 → intersection (setAt ws e w) (setAt ws f w) u ≡ false
 shared-past ws e f w u l = rw (set-past ws e w u l)
-
--- ---- of any level, and of level m
-
-pub of-any-level : {r : Bool} (tr : Trail) (s : Set) (ts : List ℕ) (m : ℕ) → r ≡ holds tr s (firstOrderIf ts true m) → r ≡ holds tr s (firstOrderAny ts)
-of-any-level tr s ts m e = e ∙ ap (holds tr s) (λ i a. a .decided && and-true (not (prop ts (a .term))) i)
-
-narrower : (a b c d : Bool) → a && (b && c) ≡ false → a && (b && (c && d)) ≡ false
-narrower true true true d h = absurd (true-or-false refl h)
-narrower true true false d h = refl
-narrower true false c d h = refl
-narrower false b c d h = refl
-
--- none of any level: none of level m
-pub none-of-level : (tr : Trail) (s : Set) (ts : List ℕ) (m : ℕ) → holds tr s (firstOrderAny ts) ≡ false → holds tr s (firstOrder ts m) ≡ false
-unfolding holds
-none-of-level [] s ts m h = refl
-none-of-level (e ∷ older) s ts m h =
-    let b = none-true _ _ h in
-    rw (narrower (s (e .term)) (e .decided) (not (prop ts (e .term))) (eqb (e .level) m) (b .0)) (none-of-level older s ts m (b .1))

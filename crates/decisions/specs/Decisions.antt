@@ -1,22 +1,11 @@
--- First-order decisions whatever their level, and sets in which they are looked for.
+-- Sets in which first-order decisions are looked for.
 use Prim.Native.Nat.{ℕ, _+_, _*_, _≤_}
-use mathlib.Core.Bool.{Bool, not, _&&_, _||_}
 use mathlib.Core.List.{List}
-use lib.Dec.{eqb}
 use lib.ListN.{length}
-use Rattle.calculus.specs.Terms.{prop}
-use Rattle.calculus.specs.Trail.{Set, Entry, intersection}
+use Rattle.calculus.specs.Trail.{Set, intersection}
 use Rattle.calculus.specs.WellFormed.{Within}
 use Rattle.bitset.specs.Windows.{setAt}
 use Rattle.trail.specs.Words.{trailIn, Laid}
-
--- a decision on a term that is not of sort prop
-abbrev pub firstOrderAny : List ℕ → Entry → Bool
-firstOrderAny ts e = e .decided && not (prop ts (e .term))
-
--- such a decision, of any level or of level m
-abbrev pub firstOrderIf : List ℕ → Bool → ℕ → Entry → Bool
-firstOrderIf ts any m e = e .decided && (not (prop ts (e .term)) && (any || eqb (e .level) m))
 
 -- what the sets at e and f share
 abbrev pub sharedAt : List ℕ → ℕ → ℕ → ℕ → Set

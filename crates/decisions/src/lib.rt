@@ -8,11 +8,11 @@ ghost use Rattle.calculus.specs.WellFormed.{Within};
 ghost use Rattle.bitset.specs.Windows.{setAt};
 ghost use Rattle.bitset.specs.Members.{wordOf};
 ghost use Rattle.trail.specs.Words.{trailIn, Laid};
-ghost use Rattle.decisions.specs.Decisions.{firstOrderAny, firstOrderIf, sharedAt, Searchable, Shareable};
+ghost use Rattle.decisions.specs.Decisions.{sharedAt, Searchable, Shareable};
 use calculus::Level;
 use calculus::Row;
 
-// Whether term t, which is on the trail, is a first-order decision, of any level or of level m.
+// Whether term t, which is on the trail, is a first-order decision of level m.
 fn first_order(
     work: &[u64],
     w: usize,
@@ -20,16 +20,15 @@ fn first_order(
     n: usize,
     sheet: &[u16],
     t: Row,
-    any: bool,
     m: Level,
 ) -> bool
     requires { ⌜ Laid w terms (now work) n × (terms * 6 ≤ length (now sheet)) × (t .0 < terms) × (on (trailIn w terms (now work) n) (t .0) ≡ true) ⌝ }
-    ensures { λ r. ⌜ r ≡ firstOrderIf (now (sheet .entry)) any (m .0) (entry (trailIn w terms (now (work .entry)) n) (t .0)) ⌝ }
+    ensures { λ r. ⌜ r ≡ firstOrder (now (sheet .entry)) (m .0) (entry (trailIn w terms (now (work .entry)) n) (t .0)) ⌝ }
 {
     let b = terms * w;
     let u = t.0 as usize;
     if work[b + 2 * terms + u] == 2 {
-        return !(sheet[u * 6 + 1] == 0) & (any | (work[b + terms + u] == m.0));
+        return !(sheet[u * 6 + 1] == 0) & (work[b + terms + u] == m.0);
     }
     false
 }
@@ -43,42 +42,18 @@ fn word_holds(
     sheet: &[u16],
     k: usize,
     x: u64,
-    any: bool,
     m: Level,
 ) -> bool
     requires { ⌜ Laid w terms (now work) n × (terms * 6 ≤ length (now sheet)) × Within (wordOf k x) (trailIn w terms (now work) n) ⌝ }
-    ensures { λ r. ⌜ r ≡ holds (trailIn w terms (now (work .entry)) n) (wordOf k x) (firstOrderIf (now (sheet .entry)) any (m .0)) ⌝ }
+    ensures { λ r. ⌜ r ≡ holds (trailIn w terms (now (work .entry)) n) (wordOf k x) (firstOrder (now (sheet .entry)) (m .0)) ⌝ }
 {
     let mut rest = x;
     while 0 < rest {
         let t = bitset::first_member(k, rest);
-        if first_order(work, w, terms, n, sheet, t, any, m) {
+        if first_order(work, w, terms, n, sheet, t, m) {
             return true;
         }
         rest = rest & rest - 1;
-    }
-    false
-}
-
-// Whether the set at e holds such a decision.
-fn set_holds(
-    work: &[u64],
-    w: usize,
-    terms: usize,
-    n: usize,
-    sheet: &[u16],
-    e: usize,
-    any: bool,
-    m: Level,
-) -> bool
-    requires { ⌜ Searchable w terms (now work) n (now sheet) e ⌝ }
-    ensures { λ r. ⌜ r ≡ holds (trailIn w terms (now (work .entry)) n) (setAt (now (work .entry)) e w) (firstOrderIf (now (sheet .entry)) any (m .0)) ⌝ }
-{
-    for k in 0..w {
-        let x = work[e + k];
-        if word_holds(work, w, terms, n, sheet, k, x, any, m) {
-            return true;
-        }
     }
     false
 }
@@ -96,22 +71,13 @@ pub fn holds_first_order(
     requires { ⌜ Searchable w terms (now work) n (now sheet) e ⌝ }
     ensures { λ r. ⌜ r ≡ holds (trailIn w terms (now (work .entry)) n) (setAt (now (work .entry)) e w) (firstOrder (now (sheet .entry)) (m .0)) ⌝ }
 {
-    set_holds(work, w, terms, n, sheet, e, false, m)
-}
-
-// Whether it holds one of any level. Every resolve asks this.
-pub fn holds_first_order_any(
-    work: &[u64],
-    w: usize,
-    terms: usize,
-    n: usize,
-    sheet: &[u16],
-    e: usize,
-) -> bool
-    requires { ⌜ Searchable w terms (now work) n (now sheet) e ⌝ }
-    ensures { λ r. ⌜ r ≡ holds (trailIn w terms (now (work .entry)) n) (setAt (now (work .entry)) e w) (firstOrderAny (now (sheet .entry))) ⌝ }
-{
-    set_holds(work, w, terms, n, sheet, e, true, Level(0))
+    for k in 0..w {
+        let x = work[e + k];
+        if word_holds(work, w, terms, n, sheet, k, x, m) {
+            return true;
+        }
+    }
+    false
 }
 
 // Whether the sets at e and f share a first-order decision of level m; the members of the first are all on the trail.
@@ -130,7 +96,7 @@ pub fn share_first_order(
 {
     for k in 0..w {
         let x = work[e + k] & work[f + k];
-        if word_holds(work, w, terms, n, sheet, k, x, false, m) {
+        if word_holds(work, w, terms, n, sheet, k, x, m) {
             return true;
         }
     }

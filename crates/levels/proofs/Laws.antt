@@ -13,7 +13,7 @@ use Rattle.calculus.proofs.Facts.{both-true}
 use Rattle.bitset.specs.Windows.{setAt}
 use Rattle.bitset.proofs.Windows.{set-past}
 use Rattle.bitset.specs.Members.{wordOf, firstOf, IsWord}
-use Rattle.bitset.proofs.Members.{none-left, word-first, word-in, firstWords, words-none, words-more, words-all, set-word, less-word}
+use Rattle.bitset.proofs.Members.{none-left, word-first, firstWords, words-none, words-more, words-all, set-word, less-word}
 use Rattle.calculus.proofs.Entries.{level-empty}
 use Rattle.trail.proofs.Abstract.{level-insert, level-union}
 use Rattle.trail.proofs.Walks.{Rest, rest-next}
@@ -51,9 +51,6 @@ walk-end {tr} {k} {x} {top} {rest} {most} u p =
     none a = omega arith
 
 -- ---- a set, word by word
-
-pub word-within : (tr : Trail) (s : Set) (k x : ℕ) → IsWord s k x → Within s tr → Within (wordOf k x) tr
-word-within tr s k x w h u m = h u (word-in s k x u w m)
 
 -- the greatest level so far is that of the members in the first k of w words
 pub record Levels (tr : Trail) (s : Set) (w k top : ℕ) : Type 0 where

@@ -4,11 +4,15 @@ use native.Mathlib.Omega.{arith}
 use mathlib.Core.Path.{_≡_}
 use mathlib.Core.Bool.{true}
 use lib.Bits.{bitAnd}
-use Rattle.calculus.specs.Trail.{Trail, on}
+use Rattle.calculus.specs.Trail.{Set, Trail, on}
 use Rattle.calculus.specs.WellFormed.{Within, Below}
-use Rattle.bitset.specs.Members.{wordOf, firstOf}
-use Rattle.bitset.proofs.Members.{first-member, rest-less, rest-in}
+use Rattle.bitset.specs.Members.{wordOf, firstOf, IsWord}
+use Rattle.bitset.proofs.Members.{first-member, rest-less, rest-in, word-in}
 use Rattle.trail.proofs.Abstract.{on-below}
+
+-- the rows of a word of a set on the trail are on the trail
+pub word-within : (tr : Trail) (s : Set) (k x : ℕ) → IsWord s k x → Within s tr → Within (wordOf k x) tr
+word-within tr s k x w h u m = h u (word-in s k x u w m)
 
 -- what is left of word k: a number of 64 bits, whose rows are on the trail
 pub record Rest (tr : Trail) (k rest : ℕ) : Type 0 where

@@ -1,5 +1,5 @@
 -- The trail as numbers, one entry more: four stores. Assumes nothing.
-use Prim.Native.Nat.{ℕ, zero, suc, _+_, _*_, _%_, _≤_, _<_}
+use Prim.Native.Nat.{ℕ, suc, _+_, _*_, _%_, _≤_, _<_}
 use native.Mathlib.Omega.{arith}
 use mathlib.Core.Path.{_≡_, refl, sym, ap, ap₂, _∙_}
 use mathlib.Core.Bool.{Bool, true, false}
@@ -11,9 +11,10 @@ use mir.Val.{boolByte}
 use Rattle.calculus.specs.Lists.{num}
 use Rattle.calculus.specs.Trail.{Trail, Entry, everything, topLevel, entryNumbers, trailNumbersOf}
 use Rattle.calculus.specs.Run.{written}
+use Rattle.calculus.proofs.Columns.{numbers-length}
 use Rattle.calculus.proofs.Entries.{level-at}
 use Rattle.trail.specs.Words.{values, levels, kinds, order, trailIn, entryFor, Laid}
-use Rattle.trail.proofs.Laws.{trail-more, on-at, below-at, entry-at, room-all}
+use Rattle.trail.proofs.Laws.{trail-length, trail-more, on-at, below-at, entry-at, room-all}
 
 -- one number more
 written-at : (xs buffer : List ℕ) (k x : ℕ) → length xs ≡ k → k < length buffer → set (written xs buffer) k x ≡ written (xs ++ (x ∷ [])) buffer
@@ -58,11 +59,6 @@ module _ (xs buffer : List ℕ) (k : ℕ) (e : length xs ≡ k) (h : k + 4 ≤ l
       ∙ ap (λ (l : List ℕ). written l buffer) q
 
 -- ---- the numbers of a trail in words
-
-numbers-length : (w N : ℕ) (ws : List ℕ) (n : ℕ) → length (trailNumbersOf (trailIn w N ws n)) ≡ 4 * n
-unfolding trailNumbersOf trailIn
-numbers-length w N ws zero = refl
-numbers-length w N ws (suc n) = simp length-append (omega (arith, numbers-length w N ws n))
 
 flag : (b : Bool) → boolByte b ≡ num b
 flag true = refl
@@ -115,6 +111,10 @@ module _ {w N : ℕ} {ws out₀ out : List ℕ} {n i : ℕ} (u : Writing w N ws 
       let o = on-at w N ws n i l in
       omega (arith, h, level-at (trailIn w N ws n) everything row o refl, ap (λ (e : Entry). e .level) (entry-at w N ws n row o))
 
+  -- four numbers stand there for each entry so far
+  long-so-far : length (trailNumbersOf (trailIn w N ws i)) ≡ 4 * i
+  long-so-far = numbers-length (trailIn w N ws i) ∙ ap (_*_ 4) (trail-length w N ws i)
+
   one-more : trailNumbersOf (trailIn w N ws i) ++ entryNumbers (entryFor w N ws row) ≡ trailNumbersOf (trailIn w N ws (i + 1))
   one-more = sym (numbers-more (entryFor w N ws row) (trailIn w N ws i)) ∙ sym (ap trailNumbersOf (trail-more w N ws i))
 
@@ -128,6 +128,6 @@ module _ {w N : ℕ} {ws out₀ out : List ℕ} {n i : ℕ} (u : Writing w N ws 
         long = simp length-set (u .long);
         same =
             ap₂ stored (u .same) (flag decision)
-            ∙ written-four (trailNumbersOf (trailIn w N ws i)) out₀ (4 * i) (numbers-length w N ws i) (omega (arith, u .space)) row value level (num decision)
+            ∙ written-four (trailNumbersOf (trailIn w N ws i)) out₀ (4 * i) long-so-far (omega (arith, u .space)) row value level (num decision)
             ∙ ap (λ (l : List ℕ). written l out₀) one-more;
       }

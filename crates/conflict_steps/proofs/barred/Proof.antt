@@ -1,5 +1,5 @@
 -- `conflict_steps::barred` meets its contract.
-use Rattle.conflict_steps.proofs.Laws.{why-fits, sheet-long, why-within, barred-at-base, barred-never, barred-by}
+use Rattle.conflict_steps.proofs.Laws.{why-fits, why-within, barred-at-base, barred-below, barred-by}
 use native.Mathlib.Omega.{arith}
 use borrow.Author.Needs.{needs}
 use Rattle.conflict_steps.proofs.barred.Statement.{statement}
@@ -9,30 +9,24 @@ level-requires : tie.Need-level-requires
 level-requires c κs = search needs
 
 returns : tie.Need-returns
-returns c =
-    let asked = c .before .before in
-    let start = asked .before .before .before in
-    barred-at-base _ _ _ _ _ _ (start .pre) (asked .level .ensures) (c .if1 .taken)
+returns c = search barred-at-base
 
-cast-b : tie.Need-cast-b
-cast-b c = search needs
-
-mul-b : tie.Need-mul-b
-mul-b c =
-    let start = c .before .before .before .before .before .before in
-    omega (arith, why-fits _ _ _ _ _ _ (start .pre))
-
-holds-first-order-any-requires : tie.Need-holds-first-order-any-requires
-holds-first-order-any-requires c κs = search (needs, sheet-long, why-fits, why-within)
+conflict-above-requires : tie.Need-conflict-above-requires
+conflict-above-requires c κs = search needs
 
 returns-2 : tie.Need-returns-2
-returns-2 c = search barred-never
+returns-2 c = search barred-below
 
-conflict-level-requires : tie.Need-conflict-level-requires
-conflict-level-requires c κs = search needs
+cast-holds-first-order : tie.Need-cast-holds-first-order
+cast-holds-first-order c = search needs
+
+mul-holds-first-order : tie.Need-mul-holds-first-order
+mul-holds-first-order c =
+    let start = c .before .before .before .before .before .before .before .before in
+    omega (arith, why-fits _ _ _ _ _ (start .pre .0))
 
 holds-first-order-requires : tie.Need-holds-first-order-requires
-holds-first-order-requires c κs = search (needs, sheet-long, why-fits, why-within)
+holds-first-order-requires c κs = search (needs, why-fits, why-within)
 
 returns-3 : tie.Need-returns-3
 returns-3 c = search barred-by
@@ -43,10 +37,9 @@ barred-spec =
     (tie.spec
     level-requires
     returns
-    cast-b
-    mul-b
-    holds-first-order-any-requires
+    conflict-above-requires
     returns-2
-    conflict-level-requires
+    cast-holds-first-order
+    mul-holds-first-order
     holds-first-order-requires
     returns-3)

@@ -6,7 +6,7 @@ use Rattle.conflict_steps.proofs.clear.Statement.{statement}
 use Rattle.conflict_steps.proofs.clear.Tie as tie
 
 clear-refusal-requires : tie.Need-clear-refusal-requires
-clear-refusal-requires c κs = (search found, search needs)
+clear-refusal-requires c κs = search (needs, found)
 
 same-length : tie.Need-same-length
 same-length c = search needs

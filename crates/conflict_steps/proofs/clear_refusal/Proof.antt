@@ -1,5 +1,5 @@
 -- `conflict_steps::clear_refusal` meets its contract.
-use Rattle.conflict_steps.proofs.Laws.{placed}
+use Rattle.conflict_steps.proofs.Laws.{member}
 use Rattle.conflict_steps.proofs.Tests.{clear-17, clear-20, clear-21, clear-0}
 use borrow.Author.Needs.{needs}
 use Rattle.conflict_steps.proofs.clear_refusal.Statement.{statement}
@@ -24,7 +24,7 @@ rest-level-requires : tie.Need-rest-level-requires
 rest-level-requires c κs = search needs
 
 above-rest-requires : tie.Need-above-rest-requires
-above-rest-requires c κs = (search placed, search needs)
+above-rest-requires c κs = search (needs, member)
 
 returns-3 : tie.Need-returns-3
 returns-3 c = search clear-21

@@ -8,7 +8,7 @@ place-requires c κs = search needs
 
 level-of-requires : tie.Need-level-of-requires
 level-of-requires c κs =
-    let start = c .before .before .before in
+    let start = c .before .before in
     rw (c .place .ensures) (start .pre .laid, start .pre .laid .enough, start .pre .within)
 
 returns : tie.Need-returns

@@ -9,7 +9,7 @@ conflict-level-requires : tie.Need-conflict-level-requires
 conflict-level-requires c κs = search found
 
 flip-refusal-requires : tie.Need-flip-refusal-requires
-flip-refusal-requires c κs = (search found, search needs, search needs, search needs)
+flip-refusal-requires c κs = search (needs, found)
 
 same-length : tie.Need-same-length
 same-length c = search needs

@@ -1,5 +1,5 @@
 -- `conflict_steps::flip_refusal` meets its contract.
-use Rattle.conflict_steps.proofs.Laws.{placed, justified}
+use Rattle.conflict_steps.proofs.Laws.{member, justified}
 use Rattle.conflict_steps.proofs.Tests.{flip-17-l, flip-17-k, flip-22, flip-18-l, flip-18-k, flip-23-same, flip-23-apart, flip-0}
 use borrow.Author.Needs.{needs}
 use Rattle.conflict_steps.proofs.flip_refusal.Statement.{statement}
@@ -45,11 +45,12 @@ share-requires c κs =
     let both = l-tested .before .before .before .before in
     let first = both .before .before in
     let start = first .before .before .before .before .pre in
-    let l-placed = placed _ _ _ _ _ _ (start .0) (start .1) (first .before .in-conflict .ensures) (first .if1 .left) in
-    let k-placed = placed _ _ _ _ _ _ (start .0) (start .2) (both .before .in-conflict2 .ensures) (both .if2 .left) in (
-      justified _ _ _ _ _ _ l-placed (l-tested .before .decided .ensures) (l-tested .if4 .left),
-      justified _ _ _ _ _ _ k-placed (k-tested .before .decided2 .ensures) (k-tested .if5 .left),
-      start .3,
+    let l-in = member _ _ _ _ _ (start .0) (start .2) (first .before .in-conflict .ensures) (first .if1 .left) in
+    let k-in = member _ _ _ _ _ (start .0) (start .3) (both .before .in-conflict2 .ensures) (both .if2 .left) in (
+      justified _ _ _ _ _ l-in (l-tested .before .decided .ensures) (l-tested .if4 .left),
+      justified _ _ _ _ _ k-in (k-tested .before .decided2 .ensures) (k-tested .if5 .left),
+      start .1,
+      start .4,
     )
 
 returns-7 : tie.Need-returns-7

@@ -9,7 +9,7 @@ rest-level-requires : tie.Need-rest-level-requires
 rest-level-requires c κs = search found
 
 jump-refusal-requires : tie.Need-jump-refusal-requires
-jump-refusal-requires c κs = (search found, search needs, search needs)
+jump-refusal-requires c κs = search (needs, found)
 
 same-length : tie.Need-same-length
 same-length c = search needs

@@ -1,5 +1,5 @@
 -- `conflict_steps::jump_refusal` meets its contract.
-use Rattle.conflict_steps.proofs.Laws.{placed}
+use Rattle.conflict_steps.proofs.Laws.{member}
 use Rattle.conflict_steps.proofs.Tests.{jump-17, jump-22, jump-21, jump-0}
 use borrow.Author.Needs.{needs}
 use Rattle.conflict_steps.proofs.jump_refusal.Statement.{statement}
@@ -18,7 +18,7 @@ returns-2 : tie.Need-returns-2
 returns-2 c = search jump-22
 
 above-rest-requires : tie.Need-above-rest-requires
-above-rest-requires c κs = (search placed, search needs)
+above-rest-requires c κs = search (needs, member)
 
 returns-3 : tie.Need-returns-3
 returns-3 c = search jump-21

@@ -6,7 +6,7 @@ use Rattle.conflict_steps.proofs.resolve.Statement.{statement}
 use Rattle.conflict_steps.proofs.resolve.Tie as tie
 
 resolve-refusal-requires : tie.Need-resolve-refusal-requires
-resolve-refusal-requires c κs = (search found, search needs)
+resolve-refusal-requires c κs = search (needs, found)
 
 same-length : tie.Need-same-length
 same-length c = search needs
@@ -15,7 +15,7 @@ returns : tie.Need-returns
 returns c = search resolve-refused
 
 resolve-requires : tie.Need-resolve-requires
-resolve-requires c κs = search (needs, resolve-on, resolve-justified)
+resolve-requires c κs = (search needs, search needs, search resolve-on, search resolve-justified)
 
 same-length-2 : tie.Need-same-length-2
 same-length-2 c = search needs

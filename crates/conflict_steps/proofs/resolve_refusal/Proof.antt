@@ -1,5 +1,5 @@
 -- `conflict_steps::resolve_refusal` meets its contract.
-use Rattle.conflict_steps.proofs.Laws.{placed, justified}
+use Rattle.conflict_steps.proofs.Laws.{member, justified}
 use Rattle.conflict_steps.proofs.Tests.{resolve-17, resolve-18, resolve-19, resolve-0}
 use borrow.Author.Needs.{needs}
 use Rattle.conflict_steps.proofs.resolve_refusal.Statement.{statement}
@@ -18,7 +18,7 @@ returns-2 : tie.Need-returns-2
 returns-2 c = search resolve-18
 
 barred-requires : tie.Need-barred-requires
-barred-requires c κs = justified _ _ _ _ _ _ (search placed) (c .before .decided .ensures) (c .if2 .left)
+barred-requires c κs = (justified _ _ _ _ _ (search member) (c .before .decided .ensures) (c .if2 .left), search needs, search needs)
 
 returns-3 : tie.Need-returns-3
 returns-3 c = search resolve-19

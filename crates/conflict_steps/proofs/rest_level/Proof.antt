@@ -8,7 +8,7 @@ place-requires c κs = search needs
 
 level-without-requires : tie.Need-level-without-requires
 level-without-requires c κs =
-    let start = c .before .before .before in
+    let start = c .before .before in
     rw (c .place .ensures) (start .pre .laid, start .pre .laid .enough, start .pre .within)
 
 returns : tie.Need-returns

@@ -53,12 +53,12 @@ returns : tie.Need-returns
 returns c =
     let tested = c .before .before .before in
     let start = tested .before .before .before in
-    decision-word _ _ _ (start .args .sheet .now) _ _ (start .args .any) (start .args .m .0) (start .pre .3) (tested .if1 .taken)
+    decision-word _ _ _ (start .args .sheet .now) _ _ (start .args .m .0) (start .pre .3) (tested .if1 .taken)
 
 returns-2 : tie.Need-returns-2
 returns-2 c =
     let start = c .before .before .before in
-    justified-word _ _ _ (start .args .sheet .now) _ _ (start .args .any) (start .args .m .0) (start .pre .3) (c .if1 .left)
+    justified-word _ _ _ (start .args .sheet .now) _ _ (start .args .m .0) (start .pre .3) (c .if1 .left)
 
 pub first-order-spec : {M : Type 1} → statement M
 first-order-spec =

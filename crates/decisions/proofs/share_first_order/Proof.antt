@@ -4,7 +4,8 @@ use borrow.Author.Needs.{needs}
 use Rattle.bitset.specs.Windows.{setAt}
 use Rattle.calculus.specs.Trail.{intersection, firstOrder}
 use Rattle.trail.specs.Words.{trailIn}
-use Rattle.decisions.proofs.Laws.{Passed, passed-start, passed-found, passed-more, passed-all, word-within, shared-word, shared-within, shared-past}
+use Rattle.trail.proofs.Walks.{word-within}
+use Rattle.decisions.proofs.Laws.{Passed, passed-start, passed-found, passed-more, passed-all, shared-word, shared-within, shared-past}
 use Rattle.decisions.proofs.share_first_order.Statement.{statement}
 use Rattle.decisions.proofs.share_first_order.Tie as tie
 

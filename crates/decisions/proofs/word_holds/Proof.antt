@@ -1,19 +1,19 @@
 -- `decisions::word_holds` meets its contract. No member that is taken off is such a decision. Assumes nothing.
 use native.Mathlib.Omega.{arith}
 use borrow.Author.Needs.{needs}
+use Rattle.calculus.specs.Trail.{firstOrder}
 use Rattle.bitset.proofs.Members.{rest-less}
 use Rattle.trail.specs.Words.{trailIn}
 use Rattle.trail.proofs.Walks.{first-on, first-row}
-use Rattle.decisions.specs.Decisions.{firstOrderIf}
 use Rattle.decisions.proofs.Laws.{Walked, walk-start, walk-found, walk-next, walk-end}
 use Rattle.decisions.proofs.word_holds.Statement.{statement}
 use Rattle.decisions.proofs.word_holds.Tie as tie
 
 abbrev Inv-loop : tie.InvT-loop
-Inv-loop work w terms n sheet k x any m rest₀ rest = Walked (trailIn w terms work n) k x rest (firstOrderIf sheet any (m .0))
+Inv-loop work w terms n sheet k x m rest₀ rest = Walked (trailIn w terms work n) k x rest (firstOrder sheet (m .0))
 
 abbrev μ-loop : tie.MeasureT-loop
-μ-loop work w terms n sheet k x any m rest₀ rest = rest
+μ-loop work w terms n sheet k x m rest₀ rest = rest
 
 loop-holds : tie.Need-loop-holds Inv-loop μ-loop
 loop-holds c = walk-start _ (omega arith) (c .before .before .pre .2)

@@ -5,7 +5,8 @@ use Rattle.bitset.specs.Windows.{setAt}
 use Rattle.trail.specs.Words.{trailIn}
 use Rattle.bitset.proofs.Windows.{set-past}
 use Rattle.bitset.proofs.Members.{set-word}
-use Rattle.levels.proofs.Laws.{Levels, levels-start, levels-more, levels-all, word-within}
+use Rattle.trail.proofs.Walks.{word-within}
+use Rattle.levels.proofs.Laws.{Levels, levels-start, levels-more, levels-all}
 use Rattle.levels.proofs.level_of.Statement.{statement}
 use Rattle.levels.proofs.level_of.Tie as tie
 

@@ -4,7 +4,8 @@ use borrow.Author.Needs.{needs}
 use Rattle.bitset.specs.Windows.{setAt}
 use Rattle.trail.specs.Words.{trailIn}
 use Rattle.calculus.specs.Trail.{remove}
-use Rattle.levels.proofs.Laws.{Levels, levels-start, levels-more, levels-all, word-within, rest-word, rest-within, rest-past}
+use Rattle.trail.proofs.Walks.{word-within}
+use Rattle.levels.proofs.Laws.{Levels, levels-start, levels-more, levels-all, rest-word, rest-within, rest-past}
 use Rattle.levels.proofs.level_without.Statement.{statement}
 use Rattle.levels.proofs.level_without.Tie as tie
 

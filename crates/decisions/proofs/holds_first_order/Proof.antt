@@ -1,20 +1,21 @@
--- `decisions::set_holds` meets its contract. No word passed has such a decision. Assumes nothing.
+-- `decisions::holds_first_order` meets its contract. No word passed has such a decision. Assumes nothing.
 use Prim.Native.Nat.{_-_}
 use borrow.Author.Needs.{needs}
+use Rattle.calculus.specs.Trail.{firstOrder}
 use Rattle.bitset.specs.Windows.{setAt}
 use Rattle.bitset.proofs.Windows.{set-past}
 use Rattle.bitset.proofs.Members.{set-word}
 use Rattle.trail.specs.Words.{trailIn}
-use Rattle.decisions.specs.Decisions.{firstOrderIf}
-use Rattle.decisions.proofs.Laws.{Passed, passed-start, passed-found, passed-more, passed-all, word-within}
-use Rattle.decisions.proofs.set_holds.Statement.{statement}
-use Rattle.decisions.proofs.set_holds.Tie as tie
+use Rattle.trail.proofs.Walks.{word-within}
+use Rattle.decisions.proofs.Laws.{Passed, passed-start, passed-found, passed-more, passed-all}
+use Rattle.decisions.proofs.holds_first_order.Statement.{statement}
+use Rattle.decisions.proofs.holds_first_order.Tie as tie
 
 abbrev Inv-loop : tie.InvT-loop
-Inv-loop work w terms n sheet e any m k₀ k = Passed (trailIn w terms work n) (setAt work e w) w k (firstOrderIf sheet any (m .0))
+Inv-loop work w terms n sheet e m k₀ k = Passed (trailIn w terms work n) (setAt work e w) w k (firstOrder sheet (m .0))
 
 abbrev μ-loop : tie.MeasureT-loop
-μ-loop work w terms n sheet e any m k₀ k = w - k
+μ-loop work w terms n sheet e m k₀ k = w - k
 
 loop-holds : tie.Need-loop-holds Inv-loop μ-loop
 loop-holds c = passed-start _ _ _ _
@@ -53,8 +54,8 @@ loop-again c =
 returns-2 : tie.Need-returns-2 Inv-loop μ-loop
 returns-2 c = passed-all (c .before .loop .inv) (c .loop-test .left) (set-past _ _ _)
 
-pub set-holds-spec : {M : Type 1} → statement M
-set-holds-spec =
+pub holds-first-order-spec : {M : Type 1} → statement M
+holds-first-order-spec =
     tie.close
     (tie.spec
     Inv-loop
