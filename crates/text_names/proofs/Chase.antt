@@ -12,8 +12,8 @@ use Rattle.text_fields.specs.Words.{indexFrom}
 use Rattle.text_fields.specs.declared.Found.{Found}
 use Rattle.text_fields.specs.declared.Found.the-variants.{At, Nothing}
 use Rattle.text_fields.proofs.Laws.{same-length}
+use Rattle.text_tags.proofs.Laws.{same-equal, same-unequal, same-self}
 use Rattle.text_names.specs.Table.{tagOf, nameFrom, lastPlace, lengthAt, tagAt, earlierAt, held, chase, found, written, isNumber, nameAt, namesOn, namesFrom}
-use Rattle.text_names.proofs.Laws.{same-equal, same-unequal, same-self}
 
 -- what is done at number e
 abbrev pub visit : List ℕ → ℕ → ℕ → List ℕ → Found

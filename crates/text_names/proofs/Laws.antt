@@ -1,16 +1,15 @@
--- Laws of tags, of equal lists and of slots.
+-- Laws of tags and of slots.
 use Prim.Native.Nat.{ℕ, zero, suc, _+_, _*_, _/_, _%_, _≤_, _<_}
 use mathlib.Core.Path.{_≡_, refl, ap, sym, _∙_}
-use mathlib.Core.Bool.{Bool, true, false}
+use mathlib.Core.Bool.{false}
 use mathlib.Core.List.{List, [], _∷_, _++_, append-assoc}
 use native.Mathlib.Omega.{arith}
 use native.Mathlib.Nat.{add-zero, mul-le-mul}
 use native.Mathlib.Numerals.{add-one}
-use borrow.Author.Tests.{eqb-true, eq-eqb, ne-eqb}
-use lib.Dec.{eqb}
+use borrow.Author.Tests.{eq-eqb, ne-eqb}
 use lib.ListN.{length, take, drop, getD, set, length-set, drop-of-length-le}
 use lib.Seq.{drop-cons, drop-drop, paste, paste-zero, paste-suc, length-paste, take-paste, drop-paste}
-use Rattle.text_fields.specs.Split.{pick, same}
+use Rattle.text_fields.specs.Split.{same}
 use Rattle.text_names.specs.Table.{weights, mixFrom, tagOf, lengthAt, nameFrom, held, lastPlace, padTo, slotOf, slotPut, withName}
 
 -- the mix of a name's bytes, byte after byte
@@ -42,28 +41,6 @@ product a b h k = let r : a * b ≤ 255 * 255 = mul-le-mul {n₂ = 255} {m₂ = 
 pub tag-small : (name : List ℕ) → tagOf name < 1021
 unfolding tagOf
 tag-small name = omega arith
-
--- lists that are the same are equal
-pub same-equal : (a b : List ℕ) → same a b ≡ true → a ≡ b
-same-equal [] [] e = refl
-same-equal [] (y ∷ ys) e = absurd (let z : _≡_ {A = ℕ} 0 1 = cc in omega arith)
-same-equal (x ∷ xs) [] e = absurd (let z : _≡_ {A = ℕ} 0 1 = cc in omega arith)
-same-equal (x ∷ xs) (y ∷ ys) e = go (same-equal xs ys) (eqb x y) refl e where
-  go : (same xs ys ≡ true → xs ≡ ys) → (t : Bool) → eqb x y ≡ t → pick t (same xs ys) false ≡ true → x ∷ xs ≡ y ∷ ys
-  go ih true p q = let h : x ≡ y = eqb-true x y p in let k : xs ≡ ys = ih q in cc
-  go ih false p q = absurd (let z : _≡_ {A = ℕ} 0 1 = cc in omega arith)
-
--- lists that differ in some way are not the same
-pub same-unequal : (a b : List ℕ) → (a ≡ b → ⊥) → same a b ≡ false
-same-unequal a b h = go (same a b) refl where
-  go : (t : Bool) → same a b ≡ t → same a b ≡ false
-  go true e = absurd (h (same-equal a b e))
-  go false e = e
-
--- a list is the same as itself
-pub same-self : (a : List ℕ) → same a a ≡ true
-same-self [] = refl
-same-self (x ∷ xs) = rw (eq-eqb x x refl, same-self xs)
 
 pub length-padTo : (n : ℕ) (l : List ℕ) → length (padTo n l) ≡ n
 length-padTo zero l = refl

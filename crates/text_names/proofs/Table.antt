@@ -16,8 +16,9 @@ use Rattle.text_fields.specs.Class.{classOf, isName, named}
 use Rattle.text_fields.specs.Words.{indexFrom}
 use Rattle.text_fields.specs.declared.ByteClass.the-variants.{Space, Newline, Other}
 use Rattle.text_fields.specs.declared.Found.the-variants.{At, Nothing}
+use Rattle.text_tags.proofs.Laws.{same-self}
 use Rattle.text_names.specs.Table.{tagOf, lengthAt, tagAt, earlierAt, nameFrom, held, lastPlace, lastOf, chase, found, written, isNumber, nameAt, namesOn, namesFrom, slotOf, withName}
-use Rattle.text_names.proofs.Laws.{same-self, tag-small, length-slot, slot-name, slot-length, slot-tag, slot-earlier}
+use Rattle.text_names.proofs.Laws.{tag-small, length-slot, slot-name, slot-length, slot-tag, slot-earlier}
 use Rattle.text_names.proofs.Chase.{chase-at, chase-past, take-most, written-short, held-written, found-is}
 
 pub length-names : (t : List ℕ) (base n : ℕ) → length (namesFrom t base n) ≡ n
