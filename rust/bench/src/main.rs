@@ -223,6 +223,8 @@ fn all(bench: &Bench) -> Result<(), String> {
     bench.read("text, long names", work::long_names())?;
     bench.read("text, one byte's tag", work::one_byte_tag())?;
     bench.read("text, one tag", work::one_tag())?;
+    bench.read("text, one tag, short", work::one_tag_short())?;
+    bench.read("text, one tag, long", work::one_tag_long())?;
     bench.read("text, newlines", work::newlines())
 }
 

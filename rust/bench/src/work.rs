@@ -455,17 +455,53 @@ pub fn one_byte_tag() -> (String, Vec<u8>) {
     )
 }
 
-/// Names of one tag of the reader's own table, for which it is at its slowest.
-pub fn one_tag() -> (String, Vec<u8>) {
-    const WEIGHTS: &[u8; 64] = b"%H=B@8+^m0Y&v;7pJEOekw#CigX'hI?F/<|ST*rV6q5dPn1Ufy~z3N)aG-LxlM!:";
-    let tag = |name: &[u8]| {
-        let mixed = name
-            .iter()
-            .zip(WEIGHTS)
-            .map(|(b, w)| u32::from(*b) * u32::from(*w));
-        mixed.sum::<u32>() % 1_021
+/// The tag of a name in the reader's own table.
+fn reader_tag(name: &[u8]) -> u64 {
+    let mixed = |h: u64, w: u64| (h + w) % 4_294_967_296 * 2_654_435_761;
+    let word = |at: usize| {
+        let four = name[at..at + 4].try_into().expect("four bytes");
+        u64::from(u32::from_le_bytes(four))
     };
-    named_text("256 names of one tag", &names_that(|name| tag(name) == 0))
+    let h = match name.len().checked_sub(4) {
+        None => name.iter().fold(0, |h, &byte| mixed(h, byte.into())),
+        Some(last) => {
+            let before = (0..last).step_by(4).fold(0, |h, at| mixed(h, word(at)));
+            mixed(before, word(last))
+        }
+    };
+    h / 1_073_741_824 % 1_024
+}
+
+/// Names of one tag of the reader's own table: they make one tree.
+pub fn one_tag() -> (String, Vec<u8>) {
+    let names = names_that(|name| reader_tag(name) == 0);
+    named_text("256 names of one tag", &names)
+}
+
+/// Such names of three bytes each.
+pub fn one_tag_short() -> (String, Vec<u8>) {
+    let letter = |number: u32| char::from(33 + (number % 94) as u8);
+    let names: Vec<String> = (0..94 * 94 * 94)
+        .map(|number| {
+            [94 * 94, 94, 1]
+                .map(|unit| letter(number / unit))
+                .into_iter()
+                .collect()
+        })
+        .filter(|name: &String| reader_tag(name.as_bytes()) == 0)
+        .take(256)
+        .collect();
+    named_text("256 names of three bytes and one tag", &names)
+}
+
+/// Such names of 64 bytes each, which begin alike.
+pub fn one_tag_long() -> (String, Vec<u8>) {
+    let names: Vec<String> = (0..)
+        .map(|number| format!("{:_<56}{number:08}", "name"))
+        .filter(|name| reader_tag(name.as_bytes()) == 0)
+        .take(256)
+        .collect();
+    named_text("256 names of 64 bytes and one tag", &names)
 }
 
 /// Newlines alone: the first line is bad, and all others have only to be counted.
