@@ -112,7 +112,7 @@ pub fn field<'a>(line: &'a [u8], marks: &[usize; 18], k: usize) -> &'a [u8]
     &line[from..to]
 }
 
-// The number of the first malformed field, or 0.
+// The number of the first malformed field, or 0: each field is asked.
 fn first_malformed(line: &[u8], columns: usize, column: usize, marks: &[usize; 18]) -> usize
     requires { ⌜ columns ≤ 9 ⌝ }
     requires { ⌜ length (pieces 32 (now line)) ≡ columns ⌝ }
@@ -130,6 +130,39 @@ fn first_malformed(line: &[u8], columns: usize, column: usize, marks: &[usize; 1
     0
 }
 
+// The number of the first malformed field of a line of at most 64 bytes, or 0. No name in it is too long, so that only the value column is asked.
+fn malformed_value(line: &[u8], columns: usize, column: usize, marks: &[usize; 18]) -> usize
+    requires { ⌜ columns ≤ 9 ⌝ }
+    requires { ⌜ length (pieces 32 (now line)) ≡ columns ⌝ }
+    requires { ⌜ Marked (now line) (now marks) columns ⌝ }
+    requires { ⌜ length (now line) ≤ 64 ⌝ }
+    ensures { λ r. ⌜ r ≡ firstMalformed column 1 (pieces 32 (now (line .entry))) ⌝ }
+{
+    if column == 0 {
+        return 0;
+    }
+    if column > columns {
+        return 0;
+    }
+    if !holds_value(field(line, marks, column - 1)) {
+        return column;
+    }
+    0
+}
+
+// The number of the first malformed field, or 0, by the length of the line.
+fn malformed_field(line: &[u8], columns: usize, column: usize, marks: &[usize; 18]) -> usize
+    requires { ⌜ columns ≤ 9 ⌝ }
+    requires { ⌜ length (pieces 32 (now line)) ≡ columns ⌝ }
+    requires { ⌜ Marked (now line) (now marks) columns ⌝ }
+    ensures { λ r. ⌜ r ≡ firstMalformed column 1 (pieces 32 (now (line .entry))) ⌝ }
+{
+    if line.len() <= 64 {
+        return malformed_value(line, columns, column, marks);
+    }
+    first_malformed(line, columns, column, marks)
+}
+
 // Whether a line of values is well formed; then `marks` tells where its fields are. `column` is the number of the value column, 0 where there is none.
 pub fn check_line(line: &[u8], columns: usize, column: usize, marks: &mut [usize; 18]) -> Shape
     requires { ⌜ columns ≤ 9 ⌝ }
@@ -140,7 +173,7 @@ pub fn check_line(line: &[u8], columns: usize, column: usize, marks: &mut [usize
     if !split(line, columns, marks) {
         return Shape::Faulty(0);
     }
-    let place = first_malformed(line, columns, column, marks);
+    let place = malformed_field(line, columns, column, marks);
     if place == 0 {
         return Shape::Good;
     }

@@ -17,8 +17,8 @@ returns c =
     let a = called .before .before .before .args in
     (shape-unfit (a .columns) (a .column) (pieces 32 (a .line .now)) (sym (called .split .ensures .0) ∙ not-true _ (c .if1 .taken)), not-good _ _ _ 0)
 
-first-malformed-requires : tie.Need-first-malformed-requires
-first-malformed-requires c κs =
+malformed-field-requires : tie.Need-malformed-field-requires
+malformed-field-requires c κs =
     let told = c .before in
     let split = told .before .split .ensures in
     let start = told .before .before .before .before in
@@ -32,7 +32,7 @@ returns-2 c =
     let split = told .before .split .ensures in
     let a = told .before .before .before .before .args in
     let t = not-false _ (told .if1 .left) in
-    (shape-good _ (a .column) (pieces 32 (a .line .now)) (sym (split .0) ∙ t) _ (found .first-malformed .ensures) (c .if2 .taken), λ e. split .1 t)
+    (shape-good _ (a .column) (pieces 32 (a .line .now)) (sym (split .0) ∙ t) _ (found .malformed-field .ensures) (c .if2 .taken), λ e. split .1 t)
 
 returns-3 : tie.Need-returns-3
 returns-3 c =
@@ -41,8 +41,8 @@ returns-3 c =
     let split = told .before .split .ensures in
     let a = told .before .before .before .before .args in
     let fit = sym (split .0) ∙ not-false _ (told .if1 .left) in
-    (shape-faulty _ (a .column) (pieces 32 (a .line .now)) fit _ (found .first-malformed .ensures) (c .if2 .left), not-good _ _ _ _)
+    (shape-faulty _ (a .column) (pieces 32 (a .line .now)) fit _ (found .malformed-field .ensures) (c .if2 .left), not-good _ _ _ _)
 
 pub check-line-spec : {M : Type 1} → statement M
 check-line-spec =
-    tie.close (tie.spec split-requires returns first-malformed-requires returns-2 returns-3)
+    tie.close (tie.spec split-requires returns malformed-field-requires returns-2 returns-3)

@@ -1,6 +1,6 @@
 -- Bytes, two words, or words: by the length.
-use Rattle.text_tags.proofs.Laws.{word-pair}
 use borrow.Author.Needs.{needs}
+use Rattle.text_tags.proofs.Laws.{word-pair}
 use Rattle.text_tags.proofs.same_name.Statement.{statement}
 use Rattle.text_tags.proofs.same_name.Tie as tie
 

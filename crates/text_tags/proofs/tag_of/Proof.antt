@@ -1,6 +1,6 @@
 -- The tag is a part of what a name is mixed to.
-use Rattle.text_tags.specs.Tags.{tagOf}
 use borrow.Author.Needs.{needs}
+use Rattle.text_tags.specs.Tags.{tagOf}
 use Rattle.text_tags.proofs.tag_of.Statement.{statement}
 use Rattle.text_tags.proofs.tag_of.Tie as tie
 
