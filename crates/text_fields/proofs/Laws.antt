@@ -5,7 +5,7 @@ use mathlib.Core.Bool.{Bool, true, false, _&&_, _||_, true≢false}
 use mathlib.Core.List.{List, [], _∷_}
 use native.Mathlib.Omega.{arith}
 use native.Mathlib.Numerals.{add-one}
-use borrow.Author.Tests.{eq-eqb, ne-eqb, eqb-false, le-leb, lt-leb}
+use borrow.Author.Tests.{eq-eqb, ne-eqb, eqb-true, eqb-false, le-leb, lt-leb}
 use lib.Dec.{eqb, leb}
 use lib.ListN.{length, take, drop, getD, length-drop, drop-of-length-le}
 use lib.Seq.{drop-cons, drop-drop}
@@ -106,3 +106,25 @@ module _ (a b : List ℕ) (i : ℕ) where
   pub same-done : length a ≤ i → length b ≤ i → (x : Bool) → pick x (same (drop i a) (drop i b)) false ≡ x
   same-done h k true = rw (drop-of-length-le a, drop-of-length-le b)
   same-done h k false = refl
+
+-- lists that are the same are equal
+pub same-equal : (a b : List ℕ) → same a b ≡ true → a ≡ b
+same-equal [] [] e = refl
+same-equal [] (y ∷ ys) e = absurd (let z : _≡_ {A = ℕ} 0 1 = cc in omega arith)
+same-equal (x ∷ xs) [] e = absurd (let z : _≡_ {A = ℕ} 0 1 = cc in omega arith)
+same-equal (x ∷ xs) (y ∷ ys) e = go (same-equal xs ys) (eqb x y) refl e where
+  go : (same xs ys ≡ true → xs ≡ ys) → (t : Bool) → eqb x y ≡ t → pick t (same xs ys) false ≡ true → x ∷ xs ≡ y ∷ ys
+  go ih true p q = let h : x ≡ y = eqb-true x y p in let k : xs ≡ ys = ih q in cc
+  go ih false p q = absurd (let z : _≡_ {A = ℕ} 0 1 = cc in omega arith)
+
+-- lists that differ in some way are not the same
+pub same-unequal : (a b : List ℕ) → (a ≡ b → ⊥) → same a b ≡ false
+same-unequal a b h = go (same a b) refl where
+  go : (t : Bool) → same a b ≡ t → same a b ≡ false
+  go true e = absurd (h (same-equal a b e))
+  go false e = e
+
+-- a list is the same as itself
+pub same-self : (a : List ℕ) → same a a ≡ true
+same-self [] = refl
+same-self (x ∷ xs) = rw (eq-eqb x x refl, same-self xs)

@@ -11,12 +11,11 @@ use Rattle.text_fields.specs.Split.{pick, same}
 use Rattle.text_fields.specs.Words.{indexFrom}
 use Rattle.text_fields.specs.declared.Found.{Found}
 use Rattle.text_fields.specs.declared.Found.the-variants.{At, Nothing}
-use Rattle.text_fields.proofs.Laws.{same-length}
+use Rattle.text_fields.proofs.Laws.{same-length, same-equal, same-unequal, same-self}
 use Rattle.text_tags.specs.Tags.{tagOf}
-use Rattle.text_tags.proofs.Laws.{same-equal, same-unequal, same-self}
 use Rattle.text_names.specs.declared.Spot.{Spot}
 use Rattle.text_names.specs.declared.Spot.the-variants.{Held, Free}
-use Rattle.text_names.specs.Table.{nameFrom, lengthAt, held, firstPlace, belowPlace, digitOf, leadsOn, seekFrom, spotOf, foundAt, found, written, isNumber, nameAt, namesOn, namesFrom}
+use Rattle.text_names.specs.Table.{nameFrom, lengthAt, held, belowPlace, digitOf, leadsOn, seekFrom, spotOf, foundAt, found, written, isNumber, nameAt, namesOn, namesFrom}
 use Rattle.text_names.proofs.Search.{leads-to}
 
 -- ---- a name that is found stands in its slot

@@ -2,15 +2,14 @@
 use Prim.Native.Nat.{ℕ, zero, suc, _+_, _*_, _/_, _%_, _≤_, _<_}
 use mathlib.Core.Path.{_≡_, refl, ap, sym, _∙_}
 use mathlib.Core.Bool.{false}
-use mathlib.Core.List.{List, [], _∷_, _++_, append-assoc}
+use mathlib.Core.List.{List, [], _∷_, append-assoc}
 use native.Mathlib.Omega.{arith}
 use native.Mathlib.Nat.{add-zero}
 use native.Mathlib.Numerals.{add-one}
 use borrow.Author.Tests.{eq-eqb, ne-eqb}
-use lib.Dec.{eqb}
-use lib.ListN.{length, take, drop, getD, set, length-set, drop-of-length-le}
-use lib.Seq.{drop-cons, drop-drop, paste, paste-zero, paste-suc, length-paste, take-paste, drop-paste}
-use Rattle.text_fields.specs.Split.{pick, same}
+use lib.ListN.{length, take, drop, getD, set, length-set}
+use lib.Seq.{drop-drop, paste, paste-zero, paste-suc, length-paste, take-paste, drop-paste}
+use Rattle.text_fields.specs.Split.{same}
 use Rattle.text_tags.specs.Tags.{tagOf}
 use Rattle.text_names.specs.Table.{lengthAt, nameFrom, held, padTo, slotOf, slotPut}
 

@@ -1,8 +1,8 @@
 -- Laws of the search of a table: its steps, where it can be, and where it ends.
-use Prim.Native.Nat.{ℕ, zero, suc, _+_, _*_, _/_, _%_, _≤_, _<_}
+use Prim.Native.Nat.{ℕ, zero, suc, _+_, _/_, _%_, _≤_, _<_}
 use mathlib.Core.Path.{_≡_, refl, ap, sym, _∙_}
 use mathlib.Core.Bool.{Bool, true, false, not}
-use mathlib.Core.List.{List, [], _∷_}
+use mathlib.Core.List.{List}
 use native.Mathlib.Omega.{arith}
 use native.Mathlib.Numerals.{add-one}
 use borrow.Author.Tests.{eqb-true, eq-eqb, ne-eqb, leb-true, leb-false, le-leb, lt-leb, ltb-true, lt-ltb, le-ltb, not-true, not-false}
@@ -11,7 +11,6 @@ use lib.ListN.{length, getD, List·getD-eq-default}
 use Rattle.text_fields.specs.Split.{pick}
 use Rattle.text_tags.specs.Tags.{tagOf}
 use Rattle.text_tags.proofs.Laws.{tag-small}
-use Rattle.text_names.specs.declared.Spot.{Spot}
 use Rattle.text_names.specs.declared.Spot.the-variants.{Held, Free}
 use Rattle.text_names.specs.Table.{tagAt, held, firstPlace, belowPlace, digitOf, leadsOn, seekFrom, spotOf}
 

@@ -16,13 +16,14 @@ use Rattle.text_fields.specs.Class.{classOf, isName, named}
 use Rattle.text_fields.specs.Words.{indexFrom}
 use Rattle.text_fields.specs.declared.ByteClass.the-variants.{Space, Newline, Other}
 use Rattle.text_fields.specs.declared.Found.the-variants.{At, Nothing}
+use Rattle.text_fields.proofs.Laws.{same-self}
 use Rattle.text_tags.specs.Tags.{tagOf}
-use Rattle.text_tags.proofs.Laws.{same-self, tag-small}
+use Rattle.text_tags.proofs.Laws.{tag-small}
 use Rattle.text_names.specs.declared.Spot.{Spot}
 use Rattle.text_names.specs.declared.Spot.the-variants.{Held, Free}
 use Rattle.text_names.specs.Table.{lengthAt, tagAt, nameFrom, held, written, slotOf, firstPlace, belowPlace, digitOf, leadsOn, seekFrom, spotOf, foundAt, found, isNumber, nameAt, namesOn, namesFrom, slotPut, putAt, withName}
 use Rattle.text_names.proofs.Laws.{length-slot, slot-name, slot-length, slot-tag}
-use Rattle.text_names.proofs.Search.{Reached, first, next, Ended, leads-to, not-below, not-past, by-tag, not-left, seek-past, seek-ends, seek-hits, seek-goes-on, free-is, held-not-free, reached-next, reached-behind, reached-inside, reached-alike, spot-ended}
+use Rattle.text_names.proofs.Search.{Reached, first, next, Ended, leads-to, not-past, by-tag, not-left, seek-past, seek-ends, seek-hits, seek-goes-on, free-is, held-not-free, reached-next, reached-behind, reached-inside, reached-alike, spot-ended}
 use Rattle.text_names.proofs.Found.{take-most, written-short, held-written, found-is}
 
 pub length-names : (t : List ℕ) (base n : ℕ) → length (namesFrom t base n) ≡ n

@@ -1,7 +1,7 @@
 // A lent list of bytes with tables of names: 67 bytes for each name, and behind the slots the tree of the names of each tag.
 ghost use mathlib.Core.Path.{_≡_};
 ghost use Prim.Native.Nat.{_+_, _*_, _≤_, _<_};
-ghost use lib.ListN.{length, getD};
+ghost use lib.ListN.{length};
 ghost use lib.Seq.{paste};
 ghost use Rattle.text_fields.specs.Words.{indexFrom};
 ghost use Rattle.text_tags.specs.Tags.{tagOf};

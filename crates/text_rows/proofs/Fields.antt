@@ -5,11 +5,12 @@ use mathlib.Core.Bool.{Bool, true, false}
 use mathlib.Core.List.{List, [], _∷_}
 use native.Mathlib.Omega.{arith}
 use native.Mathlib.Nat.{le-of-suc-le-suc, add-zero}
-use borrow.Author.Tests.{eqb-true, leb-true, ne-eqb}
+use borrow.Author.Tests.{eqb-true, leb-true, eq-eqb, ne-eqb}
 use lib.Dec.{eqb, leb}
 use lib.ListN.{length, getD}
 use Rattle.text_fields.specs.Split.{pick}
 use Rattle.text_fields.specs.Class.{named}
+use Rattle.text_fields.specs.Number.{value, isNumber}
 use Rattle.text_fields.specs.Shape.{filled, spaced, wellFormed, firstMalformed, shapeAt, shapeOf}
 use Rattle.text_fields.specs.declared.Shape.the-variants.{Good, Faulty}
 use Rattle.text_names.proofs.Table.{both}
@@ -73,3 +74,10 @@ module _ (columns : ℕ) (fs : List (List ℕ)) (k : ℕ) (e : shapeOf columns 0
       let z : eqb (1 + k) 0 ≡ false = ne-eqb (1 + k) 0 (λ y. omega arith) in
       let g : leb (length (getD fs k [])) 64 ≡ true = rw z at f in
       leb-true (length (getD fs k [])) 64 g
+
+-- the field of the value column holds a value
+pub field-valued : (columns k : ℕ) (fs : List (List ℕ)) → shapeOf columns (suc k) fs ≡ Good → k < columns → isNumber (value (getD fs k [])) ≡ true
+field-valued columns k fs e h =
+    let w = shape-parts columns (suc k) fs e in
+    let f : wellFormed (eqb (1 + k) (suc k)) (getD fs k []) ≡ true = formed-at (suc k) 0 fs k (w .is-formed) (omega (arith, w .is-long)) in
+    rw (eq-eqb (1 + k) (suc k) (omega arith)) at f

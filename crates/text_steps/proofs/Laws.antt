@@ -1,6 +1,6 @@
 -- Laws of input rows and step rows, test after test.
 use Prim.Native.Nat.{ℕ, _+_, _≤_, _<_}
-use mathlib.Core.Path.{_≡_, ap, sym, _∙_}
+use mathlib.Core.Path.{_≡_}
 use mathlib.Core.List.{List, [], _∷_}
 use borrow.Author.Tests.{lt-ltb, le-ltb}
 use lib.ListN.{take, getD}
@@ -8,12 +8,7 @@ use Rattle.text_fields.specs.Number.{value, numberOr}
 use Rattle.text_fields.specs.Words.{stepWords, ruleWords, refOf}
 use Rattle.text_fields.specs.Shape.{shapeOf}
 use Rattle.text_fields.specs.declared.Shape.the-variants.{Good, Faulty}
-use Rattle.text_fields.specs.declared.Value.{Value}
 use Rattle.text_rows.specs.Rows.{Kept, Taken, refused, below, inputAdded, inputRow, stepCells, stepAdded, stepRow}
-
--- a value that was read from a field
-pub value-read : (f g : List ℕ) (r v : Value) → f ≡ g → r ≡ value f → r ≡ v → numberOr v ≡ numberOr (value g)
-value-read f g r v same is told = ap numberOr (sym told ∙ is ∙ ap value same)
 
 -- the ceiling
 module _ (k : Kept) (n ceiling : ℕ) (t : Taken) where

@@ -1,34 +1,34 @@
 // Rows of inputs and steps.
 ghost use mathlib.Core.Path.{_≡_};
+ghost use mathlib.Core.Bool.{true};
 ghost use mathlib.Core.List.{[]};
 ghost use Prim.Native.Nat.{_≤_, _<_};
 ghost use lib.ListN.{getD};
 ghost use Rattle.text_fields.specs.Split.{pieces};
-ghost use Rattle.text_fields.specs.Number.{value, numberOr};
+ghost use Rattle.text_fields.specs.Number.{value, isNumber, numberOr};
+ghost use Rattle.text_fields.specs.Shape.{shapeOf};
 ghost use Rattle.text_fields.specs.Marks.{FieldAt, Marked};
 ghost use Rattle.text_rows.specs.Rows.{below, inputAdded, inputRow, stepCells, stepAdded, stepRow};
 ghost use Rattle.text_rows.specs.View.{keptOf, takenOf, Bounded, Within};
 use text_fields::Shape;
-use text_fields::Value;
 use text_rows::Counts;
 use text_rows::Row;
 
-// Field k of a line as a value; a malformed one is blank.
+// Field k of a line, which holds a value.
 fn value_column(line: &[u8], marks: &[usize; 18], k: usize) -> u16
     requires { ⌜ k < 9 ⌝ }
     requires { ⌜ FieldAt (now line) (now marks) k ⌝ }
+    requires { ⌜ isNumber (value (getD (pieces 32 (now line)) k [])) ≡ true ⌝ }
     ensures { λ r. ⌜ r ≡ numberOr (value (getD (pieces 32 (now (line .entry))) k [])) ⌝ }
 {
-    match text_values::read_value(text_columns::field(line, marks, k)) {
-        Value::Number(v) => v,
-        Value::Malformed => 65535,
-    }
+    text_values::known_value(text_columns::field(line, marks, k))
 }
 
 // The row of an input line that is well formed, while there is room for one more.
 fn good_input(counts: Counts, line: &[u8], marks: &[usize; 18], names: &[u8; 55392]) -> Row
     requires { ⌜ Bounded counts ⌝ }
     requires { ⌜ Marked (now line) (now marks) 2 ⌝ }
+    requires { ⌜ shapeOf 2 2 (pieces 32 (now line)) ≡ Shape.Good ⌝ }
     ensures { λ r. ⌜ takenOf r (now (names .entry))
         ≡ below (keptOf counts (now (names .entry))) (counts .inputs) 256
         (inputAdded (keptOf counts (now (names .entry))) (pieces 32 (now (line .entry)))) ⌝ }
@@ -71,6 +71,7 @@ pub fn input_row(counts: Counts, line: &[u8], names: &[u8; 55392]) -> Row
 fn step_cells(counts: Counts, line: &[u8], marks: &[usize; 18], names: &[u8; 55392]) -> [u16; 9]
     requires { ⌜ counts .terms ≤ 256 ⌝ }
     requires { ⌜ Marked (now line) (now marks) 9 ⌝ }
+    requires { ⌜ shapeOf 9 4 (pieces 32 (now line)) ≡ Shape.Good ⌝ }
     ensures { λ r. ⌜ r ≡ stepCells (keptOf counts (now (names .entry))) (pieces 32 (now (line .entry))) ⌝ }
 {
     let terms = counts.terms;
@@ -91,6 +92,7 @@ fn step_cells(counts: Counts, line: &[u8], marks: &[usize; 18], names: &[u8; 553
 fn good_step(counts: Counts, line: &[u8], marks: &[usize; 18], names: &[u8; 55392]) -> Row
     requires { ⌜ Bounded counts ⌝ }
     requires { ⌜ Marked (now line) (now marks) 9 ⌝ }
+    requires { ⌜ shapeOf 9 4 (pieces 32 (now line)) ≡ Shape.Good ⌝ }
     ensures { λ r. ⌜ takenOf r (now (names .entry))
         ≡ below (keptOf counts (now (names .entry))) (counts .steps) 1024
         (stepAdded (keptOf counts (now (names .entry))) (pieces 32 (now (line .entry)))) ⌝ }

@@ -1,40 +1,19 @@
--- Laws of names: lists that are the same, words of bytes, and bytes that are mixed.
+-- Laws of names: words of bytes, and bytes that are mixed.
 use Prim.Native.Nat.{ℕ, zero, suc, _+_, _-_, _*_, _/_, _%_, _≤_, _<_}
 use mathlib.Core.Path.{_≡_, refl, ap, sym, _∙_}
 use mathlib.Core.Bool.{Bool, true, false, _&&_}
-use mathlib.Core.List.{List, [], _∷_}
+use mathlib.Core.List.{List}
 use native.Mathlib.Omega.{arith}
 use native.Mathlib.Numerals.{add-one}
-use borrow.Author.Tests.{eqb-true, eqb-false, eq-eqb, ltb-true, ltb-false, lt-ltb, le-ltb}
+use borrow.Author.Tests.{eqb-true, eqb-false, ltb-true, ltb-false, lt-ltb, le-ltb}
 use mir.Syntax.{w8}
 use mir.Val.{Fits}
 use lib.Dec.{eqb, ltb}
 use lib.ListN.{length, getD}
 use lib.Seq.{ext-getD}
-use Rattle.text_fields.specs.Split.{pick, same}
+use Rattle.text_fields.specs.Split.{same}
+use Rattle.text_fields.proofs.Laws.{same-unequal, same-self}
 use Rattle.text_tags.specs.Tags.{wordAt, wideAt, mixed, mixBytes, mixWords, mixName, tagOf}
-
--- lists that are the same are equal
-pub same-equal : (a b : List ℕ) → same a b ≡ true → a ≡ b
-same-equal [] [] e = refl
-same-equal [] (y ∷ ys) e = absurd (let z : _≡_ {A = ℕ} 0 1 = cc in omega arith)
-same-equal (x ∷ xs) [] e = absurd (let z : _≡_ {A = ℕ} 0 1 = cc in omega arith)
-same-equal (x ∷ xs) (y ∷ ys) e = go (same-equal xs ys) (eqb x y) refl e where
-  go : (same xs ys ≡ true → xs ≡ ys) → (t : Bool) → eqb x y ≡ t → pick t (same xs ys) false ≡ true → x ∷ xs ≡ y ∷ ys
-  go ih true p q = let h : x ≡ y = eqb-true x y p in let k : xs ≡ ys = ih q in cc
-  go ih false p q = absurd (let z : _≡_ {A = ℕ} 0 1 = cc in omega arith)
-
--- lists that differ in some way are not the same
-pub same-unequal : (a b : List ℕ) → (a ≡ b → ⊥) → same a b ≡ false
-same-unequal a b h = go (same a b) refl where
-  go : (t : Bool) → same a b ≡ t → same a b ≡ false
-  go true e = absurd (h (same-equal a b e))
-  go false e = e
-
--- a list is the same as itself
-pub same-self : (a : List ℕ) → same a a ≡ true
-same-self [] = refl
-same-self (x ∷ xs) = rw (eq-eqb x x refl, same-self xs)
 
 -- every element is a byte
 abbrev pub Bytes : List ℕ → Type 0

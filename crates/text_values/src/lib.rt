@@ -1,6 +1,7 @@
 // Values: decimal numbers, true, false and blank. Every function answers for any bytes.
 ghost use mathlib.Core.Path.{_≡_};
-ghost use Rattle.text_fields.specs.Number.{digits, decimal, number as numberOf, value as valueOf};
+ghost use mathlib.Core.Bool.{true};
+ghost use Rattle.text_fields.specs.Number.{digits, decimal, number as numberOf, value as valueOf, isNumber, numberOr};
 use text_fields::Value;
 
 // The number that a field's digits make.
@@ -63,4 +64,25 @@ pub fn read_value(f: &[u8]) -> Value
         return Value::Number(0);
     }
     read_number(f)
+}
+
+// The number of a field that is known to hold a value: its first byte tells which words it can be.
+pub fn known_value(f: &[u8]) -> u16
+    requires { ⌜ isNumber (valueOf (now f)) ≡ true ⌝ }
+    ensures { λ r. ⌜ r ≡ numberOr (valueOf (now (f .entry))) ⌝ }
+{
+    let b = f[0];
+    if b == b't' {
+        return 1;
+    }
+    if b == b'f' {
+        return 0;
+    }
+    if b == b'-' {
+        return 65535;
+    }
+    match read_decimal(f) {
+        Value::Number(v) => v,
+        Value::Malformed => 65535,
+    }
 }

@@ -1,6 +1,5 @@
 -- A name is put where the search for it ends: its slot is written, and its number there.
 use borrow.Author.Needs.{needs}
-use native.Mathlib.Omega.{arith}
 use Rattle.text_names.proofs.Table.{put-none, put-some, put-room}
 use Rattle.text_names.proofs.put_name.Statement.{statement}
 use Rattle.text_names.proofs.put_name.Tie as tie

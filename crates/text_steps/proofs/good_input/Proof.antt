@@ -4,6 +4,7 @@ use mathlib.Core.Path.{_∙_}
 use Rattle.text_fields.specs.Split.{pieces}
 use Rattle.text_rows.specs.Rows.{inputAdded}
 use Rattle.text_rows.specs.View.{keptOf}
+use Rattle.text_rows.proofs.Fields.{field-valued}
 use Rattle.text_steps.proofs.Laws.{below-full, below-room, input-added}
 use borrow.Author.Needs.{needs}
 use Rattle.text_steps.proofs.good_input.Statement.{statement}
@@ -27,10 +28,12 @@ returns c =
 term-column-requires : tie.Need-term-column-requires
 term-column-requires c κs =
     let start = c .before .before .before in
-    (omega (arith, start .pre .0), (omega arith, start .pre .1 _ (omega arith)))
+    (omega (arith, start .pre .0), (omega arith, start .pre .1 .0 _ (omega arith)))
 
 value-column-requires : tie.Need-value-column-requires
-value-column-requires c κs = (omega arith, c .before .before .before .before .pre .1 _ (omega arith))
+value-column-requires c κs =
+    let start = c .before .before .before .before in
+    (omega arith, (start .pre .1 .0 _ (omega arith), field-valued 2 1 _ (start .pre .1 .1) (omega arith)))
 
 add-t8 : tie.Need-add-t8
 add-t8 c = search needs

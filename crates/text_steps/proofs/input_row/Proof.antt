@@ -24,7 +24,8 @@ good-input-requires c κs =
     let at-enum-told = c .before in
     let at-check-line = at-enum-told .before .before in
     let start = at-check-line .before .before .before in
-    (start .pre, at-check-line .check-line .ensures .1 (at-enum-told .enum-told .given .1))
+    let good = at-enum-told .enum-told .given .1 in
+    (start .pre, (at-check-line .check-line .ensures .1 good, sym (at-check-line .check-line .ensures .0) ∙ good))
 
 returns : tie.Need-returns
 returns c =

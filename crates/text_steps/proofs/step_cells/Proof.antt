@@ -4,19 +4,20 @@ use mathlib.Core.Path.{ap, _∙_}
 use Rattle.text_fields.specs.Split.{pieces}
 use Rattle.text_fields.specs.Words.{stepWords, ruleWords, refOf}
 use Rattle.text_rows.specs.View.{keptOf}
+use Rattle.text_rows.proofs.Fields.{field-valued}
 use Rattle.text_steps.proofs.Laws.{nine-cells}
 use borrow.Author.Needs.{needs}
 use Rattle.text_steps.proofs.step_cells.Statement.{statement}
 use Rattle.text_steps.proofs.step_cells.Tie as tie
 
 field-requires : tie.Need-field-requires
-field-requires c κs = (omega arith, c .before .pre .1 _ (omega arith))
+field-requires c κs = (omega arith, c .before .pre .1 .0 _ (omega arith))
 
 step-number-requires : tie.Need-step-number-requires
 step-number-requires c κs = search needs
 
 field-requires-2 : tie.Need-field-requires-2
-field-requires-2 c κs = (omega arith, c .before .before .before .pre .1 _ (omega arith))
+field-requires-2 c κs = (omega arith, c .before .before .before .pre .1 .0 _ (omega arith))
 
 rule-number-requires : tie.Need-rule-number-requires
 rule-number-requires c κs = search needs
@@ -24,35 +25,37 @@ rule-number-requires c κs = search needs
 term-column-requires : tie.Need-term-column-requires
 term-column-requires c κs =
     let start = c .before .before .before .before .before in
-    (start .pre .0, (omega arith, start .pre .1 _ (omega arith)))
+    (start .pre .0, (omega arith, start .pre .1 .0 _ (omega arith)))
 
 value-column-requires : tie.Need-value-column-requires
-value-column-requires c κs = (omega arith, c .before .before .before .before .before .before .pre .1 _ (omega arith))
+value-column-requires c κs =
+    let start = c .before .before .before .before .before .before in
+    (omega arith, (start .pre .1 .0 _ (omega arith), field-valued 9 3 _ (start .pre .1 .1) (omega arith)))
 
 term-column-requires-2 : tie.Need-term-column-requires-2
 term-column-requires-2 c κs =
     let start = c .before .before .before .before .before .before .before in
-    (start .pre .0, (omega arith, start .pre .1 _ (omega arith)))
+    (start .pre .0, (omega arith, start .pre .1 .0 _ (omega arith)))
 
 term-column-requires-3 : tie.Need-term-column-requires-3
 term-column-requires-3 c κs =
     let start = c .before .before .before .before .before .before .before .before in
-    (start .pre .0, (omega arith, start .pre .1 _ (omega arith)))
+    (start .pre .0, (omega arith, start .pre .1 .0 _ (omega arith)))
 
 term-column-requires-4 : tie.Need-term-column-requires-4
 term-column-requires-4 c κs =
     let start = c .before .before .before .before .before .before .before .before .before in
-    (start .pre .0, (omega arith, start .pre .1 _ (omega arith)))
+    (start .pre .0, (omega arith, start .pre .1 .0 _ (omega arith)))
 
 term-column-requires-5 : tie.Need-term-column-requires-5
 term-column-requires-5 c κs =
     let start = c .before .before .before .before .before .before .before .before .before .before in
-    (start .pre .0, (omega arith, start .pre .1 _ (omega arith)))
+    (start .pre .0, (omega arith, start .pre .1 .0 _ (omega arith)))
 
 term-column-requires-6 : tie.Need-term-column-requires-6
 term-column-requires-6 c κs =
     let start = c .before .before .before .before .before .before .before .before .before .before .before in
-    (start .pre .0, (omega arith, start .pre .1 _ (omega arith)))
+    (start .pre .0, (omega arith, start .pre .1 .0 _ (omega arith)))
 
 returns : tie.Need-returns
 returns c =
