@@ -15,7 +15,7 @@ use Rattle.text_fields.proofs.Laws.{same-length, same-equal, same-unequal, same
 use Rattle.text_tags.specs.Tags.{tagOf}
 use Rattle.text_names.specs.declared.Spot.{Spot}
 use Rattle.text_names.specs.declared.Spot.the-variants.{Held, Free}
-use Rattle.text_names.specs.Table.{nameFrom, lengthAt, held, belowPlace, digitOf, leadsOn, seekFrom, spotOf, foundAt, found, written, isNumber, nameAt, namesOn, namesFrom}
+use Rattle.text_names.specs.Table.{nameFrom, lengthAt, held, numberAt, nextPlace, leadsOn, seekFrom, spotOf, foundAt, found, written, isNumber, nameAt, namesOn, namesFrom}
 use Rattle.text_names.proofs.Search.{leads-to}
 
 -- ---- a name that is found stands in its slot
@@ -24,17 +24,17 @@ seek-sound : (t : List ℕ) (base n : ℕ) (name : List ℕ) (m low place d k : 
     → (held t (base + k) name ≡ true) × (k < n)
 seek-sound t base n name zero low place d k q = absurd (let z : _≡_ {A = ℕ} 0 1 = cc in omega arith)
 seek-sound t base n name (suc m) low place d k q =
-    go (seek-sound t base n name m (suc (getD t place 0)) (belowPlace (base + getD t place 0) (digitOf name d)) (suc d) k)
-    (leadsOn t base n (tagOf name) low (getD t place 0)) (held t (base + getD t place 0) name) refl refl q where
-      go : (seekFrom t base n name m (suc (getD t place 0)) (belowPlace (base + getD t place 0) (digitOf name d)) (suc d) ≡ Held k
+    go (seek-sound t base n name m (suc (numberAt t place)) (nextPlace t base name place d) (suc d) k)
+    (leadsOn t base n (tagOf name) low (numberAt t place)) (held t (base + numberAt t place) name) refl refl q where
+      go : (seekFrom t base n name m (suc (numberAt t place)) (nextPlace t base name place d) (suc d) ≡ Held k
           → (held t (base + k) name ≡ true) × (k < n))
-          → (b c : Bool) → leadsOn t base n (tagOf name) low (getD t place 0) ≡ b → held t (base + getD t place 0) name ≡ c
-          → pick b (pick c (Held (getD t place 0)) (seekFrom t base n name m (suc (getD t place 0))
-          (belowPlace (base + getD t place 0) (digitOf name d)) (suc d))) (Free place) ≡ Held k
+          → (b c : Bool) → leadsOn t base n (tagOf name) low (numberAt t place) ≡ b → held t (base + numberAt t place) name ≡ c
+          → pick b (pick c (Held (numberAt t place)) (seekFrom t base n name m (suc (numberAt t place))
+          (nextPlace t base name place d) (suc d))) (Free place) ≡ Held k
           → (held t (base + k) name ≡ true) × (k < n)
       go ih true true p r z =
-          let y : getD t place 0 ≡ k = cc in
-          let s = leads-to t base n (tagOf name) low (getD t place 0) p in
+          let y : numberAt t place ≡ k = cc in
+          let s = leads-to t base n (tagOf name) low (numberAt t place) p in
           (rw (sym y) r, omega (arith, s .1))
       go ih true false p r z = ih z
       go ih false c p r z = absurd (let y : _≡_ {A = ℕ} 0 1 = cc in omega arith)

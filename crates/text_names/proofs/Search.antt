@@ -12,7 +12,7 @@ use Rattle.text_fields.specs.Split.{pick}
 use Rattle.text_tags.specs.Tags.{tagOf}
 use Rattle.text_tags.proofs.Laws.{tag-small}
 use Rattle.text_names.specs.declared.Spot.the-variants.{Held, Free}
-use Rattle.text_names.specs.Table.{tagAt, held, firstPlace, belowPlace, digitOf, leadsOn, seekFrom, spotOf}
+use Rattle.text_names.specs.Table.{tagAt, held, firstPlace, belowPlace, digitOf, numberAt, nextPlace, leadsOn, seekFrom, spotOf}
 
 -- ---- a number that leads on
 
@@ -62,12 +62,12 @@ held-not-free q = let z : _≡_ {A = ℕ} 0 1 = cc in omega arith
 module _ (t : List ℕ) (base n : ℕ) (name : List ℕ) where
   pub seek-past : (m low place d : ℕ) → n ≤ low → seekFrom t base n name m low place d ≡ Free place
   seek-past zero low place d h = refl
-  seek-past (suc m) low place d h = rw (not-left t base n (tagOf name) low (getD t place 0) h)
+  seek-past (suc m) low place d h = rw (not-left t base n (tagOf name) low (numberAt t place) h)
 
   module _ (low place d : ℕ) where
     -- the number that stands there
     abbrev e : ℕ
-    e = getD t place 0
+    e = numberAt t place
 
     pub seek-ends : (m : ℕ) → leadsOn t base n (tagOf name) low e ≡ false → seekFrom t base n name m low place d ≡ Free place
     seek-ends zero h = refl
@@ -142,26 +142,26 @@ module _ (t : List ℕ) (base n : ℕ) where
   pub record Ended (name : List ℕ) (place : ℕ) : Type 0 where
     pub low : ℕ
     pub reached : Reached t base n (tagOf name) low place
-    pub stops : leadsOn t base n (tagOf name) low (getD t place 0) ≡ false
+    pub stops : leadsOn t base n (tagOf name) low (numberAt t place) ≡ false
 
   seek-ended : (name : List ℕ) (m low place d end : ℕ) → n ≤ low + m → Reached t base n (tagOf name) low place
       → seekFrom t base n name m low place d ≡ Free end → Ended name end
   seek-ended name zero low place d end h r q =
       let z : place ≡ end = cc in
-      rw (sym z) (record { low = low; reached = r; stops = not-left t base n (tagOf name) low (getD t place 0) (omega arith) })
+      rw (sym z) (record { low = low; reached = r; stops = not-left t base n (tagOf name) low (numberAt t place) (omega arith) })
   seek-ended name (suc m) low place d end h r q =
-      go (seek-ended name m (suc (getD t place 0)) (belowPlace (base + getD t place 0) (digitOf name d)) (suc d) end)
-      (leadsOn t base n (tagOf name) low (getD t place 0)) (held t (base + getD t place 0) name) refl q where
-        go : (n ≤ suc (getD t place 0) + m → Reached t base n (tagOf name) (suc (getD t place 0)) (belowPlace (base + getD t place 0) (digitOf name d))
-            → seekFrom t base n name m (suc (getD t place 0)) (belowPlace (base + getD t place 0) (digitOf name d)) (suc d) ≡ Free end → Ended name end)
-            → (b c : Bool) → leadsOn t base n (tagOf name) low (getD t place 0) ≡ b
-            → pick b (pick c (Held (getD t place 0)) (seekFrom t base n name m (suc (getD t place 0))
-            (belowPlace (base + getD t place 0) (digitOf name d)) (suc d))) (Free place) ≡ Free end
+      go (seek-ended name m (suc (numberAt t place)) (nextPlace t base name place d) (suc d) end)
+      (leadsOn t base n (tagOf name) low (numberAt t place)) (held t (base + numberAt t place) name) refl q where
+        go : (n ≤ suc (numberAt t place) + m → Reached t base n (tagOf name) (suc (numberAt t place)) (nextPlace t base name place d)
+            → seekFrom t base n name m (suc (numberAt t place)) (nextPlace t base name place d) (suc d) ≡ Free end → Ended name end)
+            → (b c : Bool) → leadsOn t base n (tagOf name) low (numberAt t place) ≡ b
+            → pick b (pick c (Held (numberAt t place)) (seekFrom t base n name m (suc (numberAt t place))
+            (nextPlace t base name place d) (suc d))) (Free place) ≡ Free end
             → Ended name end
         go ih true true p z = absurd (let y : _≡_ {A = ℕ} 0 1 = cc in omega arith)
         go ih true false p z =
-            let s = leads-to t base n (tagOf name) low (getD t place 0) p in
-            ih (omega (arith, s .0)) (reached-next name low (getD t place 0) d p) z
+            let s = leads-to t base n (tagOf name) low (numberAt t place) p in
+            ih (omega (arith, s .0)) (reached-next name low (numberAt t place) d p) z
         go ih false c p z = let y : place ≡ end = cc in rw (sym y) (record { low = low; reached = r; stops = p })
 
   pub spot-ended : (name : List ℕ) (place : ℕ) → spotOf t base n name ≡ Free place → Ended name place
@@ -208,21 +208,21 @@ module _ {t : List ℕ} {base count : ℕ} {name : List ℕ} {tag : ℕ} where
     pub seek-over : count ≤ low → Free place ≡ spotOf t base count name
     seek-over h = sym (seek-past t base count name (l .fuel) low place d h) ∙ l .left
 
-    module _ {e : ℕ} (e-is : e ≡ getD t place 0) {b : Bool} (b-is : b ≡ leadsOn t base count tag low e) where
+    module _ {e : ℕ} (e-is : e ≡ numberAt t place) {b : Bool} (b-is : b ≡ leadsOn t base count tag low e) where
       pub seek-stops : not b ≡ true → Free place ≡ spotOf t base count name
       seek-stops h = sym (seek-ends t base count name low place d (l .fuel) (rw (l .tag-is, e-is) at (sym b-is ∙ not-true b h))) ∙ l .left
 
       module _ (b-leads : not b ≡ false) where
-        leads : leadsOn t base count (tagOf name) low (getD t place 0) ≡ true
+        leads : leadsOn t base count (tagOf name) low (numberAt t place) ≡ true
         leads = rw (l .tag-is, e-is) at (sym b-is ∙ not-false b b-leads)
 
         pub seek-low : (low ≤ e) × (e < count)
-        seek-low = let k = leads-to t base count (tagOf name) low (getD t place 0) leads in rw e-is (k .0, k .1)
+        seek-low = let k = leads-to t base count (tagOf name) low (numberAt t place) leads in rw e-is (k .0, k .1)
 
         module _ {c : Bool} (c-is : c ≡ held t (base + e) name) where
           pub seek-finds : c ≡ true → Held e ≡ spotOf t base count name
           seek-finds h = go (l .fuel) (l .enough) (l .left) where
-            there : held t (base + getD t place 0) name ≡ true
+            there : held t (base + numberAt t place) name ≡ true
             there = rw e-is at (sym c-is ∙ h)
 
             go : (m : ℕ) → count ≤ low + m → seekFrom t base count name m low place d ≡ spotOf t base count name → Held e ≡ spotOf t base count name
@@ -232,21 +232,21 @@ module _ {t : List ℕ} {base count : ℕ} {name : List ℕ} {tag : ℕ} where
           pub seek-next : c ≡ false → {x place′ : ℕ} → x ≡ digitOf name d → place′ ≡ belowPlace (base + e) x
               → Seeking t base count name tag place′ (e + 1) (d + 1)
           seek-next h p q = rw (q, p, add-one, add-one, e-is) (go (l .fuel) (l .enough) (l .left)) where
-            away : held t (base + getD t place 0) name ≡ false
+            away : held t (base + numberAt t place) name ≡ false
             away = rw e-is at (sym c-is ∙ h)
 
             go : (m : ℕ) → count ≤ low + m → seekFrom t base count name m low place d ≡ spotOf t base count name
-                → Seeking t base count name tag (belowPlace (base + getD t place 0) (digitOf name d)) (suc (getD t place 0)) (suc d)
+                → Seeking t base count name tag (nextPlace t base name place d) (suc (numberAt t place)) (suc d)
             go zero k q = absurd (omega (arith, seek-left t base count name low place d 0 k leads))
             go (suc m) k q =
-                let r = leads-to t base count (tagOf name) low (getD t place 0) leads in
+                let r = leads-to t base count (tagOf name) low (numberAt t place) leads in
                 record {
                   size = l .size;
                   base-low = l .base-low;
                   room = l .room;
                   short = l .short;
                   tag-is = l .tag-is;
-                  reached = rw (l .tag-is) (reached-next t base count name low (getD t place 0) d leads);
+                  reached = rw (l .tag-is) (reached-next t base count name low (numberAt t place) d leads);
                   digits = omega (arith, l .digits, r .0);
                   fuel = m;
                   enough = omega (arith, r .0);

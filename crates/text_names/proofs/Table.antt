@@ -21,7 +21,7 @@ use Rattle.text_tags.specs.Tags.{tagOf}
 use Rattle.text_tags.proofs.Laws.{tag-small}
 use Rattle.text_names.specs.declared.Spot.{Spot}
 use Rattle.text_names.specs.declared.Spot.the-variants.{Held, Free}
-use Rattle.text_names.specs.Table.{lengthAt, tagAt, nameFrom, held, written, slotOf, firstPlace, belowPlace, digitOf, leadsOn, seekFrom, spotOf, foundAt, found, isNumber, nameAt, namesOn, namesFrom, slotPut, putAt, withName}
+use Rattle.text_names.specs.Table.{lengthAt, tagAt, nameFrom, held, written, slotOf, firstPlace, belowPlace, digitOf, numberAt, nextPlace, leadsOn, seekFrom, spotOf, foundAt, found, isNumber, nameAt, namesOn, namesFrom, slotPut, putAt, withName}
 use Rattle.text_names.proofs.Laws.{length-slot, slot-name, slot-length, slot-tag}
 use Rattle.text_names.proofs.Search.{Reached, first, next, Ended, leads-to, not-past, by-tag, not-left, seek-past, seek-ends, seek-hits, seek-goes-on, free-is, held-not-free, reached-next, reached-behind, reached-inside, reached-alike, spot-ended}
 use Rattle.text_names.proofs.Found.{take-most, written-short, held-written, found-is}
@@ -112,24 +112,24 @@ module _ (t u : List ℕ) (long : length u ≡ length t) where
       go false p = not-past u base n tag low e (ltb-false e n p) ∙ sym (not-past t base n tag low e (ltb-false e n p))
 
     -- and where all numbers agree too that a search can be at, so does what it finds
-    module _ (numbers : (tag low place : ℕ) → tag < 1024 → Reached t base n tag low place → getD u place 0 ≡ getD t place 0) where
+    module _ (numbers : (tag low place : ℕ) → tag < 1024 → Reached t base n tag low place → numberAt u place ≡ numberAt t place) where
       seek-same : (x : List ℕ) → length x ≤ 64 → (m low place d : ℕ) → Reached t base n (tagOf x) low place
           → seekFrom u base n x m low place d ≡ seekFrom t base n x m low place d
       seek-same x h zero low place d r = refl
       seek-same x h (suc m) low place d r =
-          rw (numbers (tagOf x) low place (tag-small x) r, lead-same (tagOf x) low (getD t place 0))
-          (go (seek-same x h m (suc (getD t place 0)) (belowPlace (base + getD t place 0) (digitOf x d)) (suc d))
-          (leadsOn t base n (tagOf x) low (getD t place 0)) refl) where
-            go : (Reached t base n (tagOf x) (suc (getD t place 0)) (belowPlace (base + getD t place 0) (digitOf x d))
-                → seekFrom u base n x m (suc (getD t place 0)) (belowPlace (base + getD t place 0) (digitOf x d)) (suc d)
-                ≡ seekFrom t base n x m (suc (getD t place 0)) (belowPlace (base + getD t place 0) (digitOf x d)) (suc d))
-                → (b : Bool) → leadsOn t base n (tagOf x) low (getD t place 0) ≡ b
-                → pick b (pick (held u (base + getD t place 0) x) (Held (getD t place 0))
-                (seekFrom u base n x m (suc (getD t place 0)) (belowPlace (base + getD t place 0) (digitOf x d)) (suc d))) (Free place)
-                ≡ pick b (pick (held t (base + getD t place 0) x) (Held (getD t place 0))
-                (seekFrom t base n x m (suc (getD t place 0)) (belowPlace (base + getD t place 0) (digitOf x d)) (suc d))) (Free place)
+          rw (numbers (tagOf x) low place (tag-small x) r, lead-same (tagOf x) low (numberAt t place))
+          (go (seek-same x h m (suc (numberAt t place)) (nextPlace t base x place d) (suc d))
+          (leadsOn t base n (tagOf x) low (numberAt t place)) refl) where
+            go : (Reached t base n (tagOf x) (suc (numberAt t place)) (nextPlace t base x place d)
+                → seekFrom u base n x m (suc (numberAt t place)) (nextPlace t base x place d) (suc d)
+                ≡ seekFrom t base n x m (suc (numberAt t place)) (nextPlace t base x place d) (suc d))
+                → (b : Bool) → leadsOn t base n (tagOf x) low (numberAt t place) ≡ b
+                → pick b (pick (held u (base + numberAt t place) x) (Held (numberAt t place))
+                (seekFrom u base n x m (suc (numberAt t place)) (nextPlace t base x place d) (suc d))) (Free place)
+                ≡ pick b (pick (held t (base + numberAt t place) x) (Held (numberAt t place))
+                (seekFrom t base n x m (suc (numberAt t place)) (nextPlace t base x place d) (suc d))) (Free place)
             go ih true p =
-                let e = getD t place 0 in
+                let e = numberAt t place in
                 let k = leads-to t base n (tagOf x) low e p in
                 rw (held-same (base + e) (slots e (k .1)) x h, ih (reached-next t base n x low e d p))
             go ih false p = refl
@@ -152,12 +152,12 @@ module _ (t : List ℕ) (a : ℕ) (l : List ℕ) (fits : a + length l ≤ length
   put-parts : paste t a l (length l) ≡ take a t ++ (l ++ drop (a + length l) t)
   put-parts = append-assoc (take a t) (take (length l) l) (drop (a + length l) t) ∙ rw (take-all (length l) l (omega arith))
 
-  put-before : (i : ℕ) → i < a → getD (paste t a l (length l)) i 0 ≡ getD t i 0
+  put-before : (i : ℕ) → i < a → getD (paste t a l (length l)) i 0 ≡ numberAt t i
   put-before i h =
       let z : length (take a t) ≡ a = length-take-le a t (omega arith) in
       ap (λ (x : List ℕ). getD x i 0) put-parts ∙ List·getD-append (take a t) (l ++ drop (a + length l) t) 0 i (omega arith) ∙ getD-take a t i 0 h
 
-  put-after : (i : ℕ) → a + length l ≤ i → getD (paste t a l (length l)) i 0 ≡ getD t i 0
+  put-after : (i : ℕ) → a + length l ≤ i → getD (paste t a l (length l)) i 0 ≡ numberAt t i
   put-after i h =
       let z : a + length l + (i - (a + length l)) ≡ i = omega arith in
       let x = getD-drop (a + length l) (paste t a l (length l)) (i - (a + length l)) 0 in
@@ -200,16 +200,16 @@ module _ (t : List ℕ) (base n : ℕ) (name : List ℕ) (size : length t ≡ 55
   free-length : length after ≡ length t
   free-length = ap length put-number ∙ length-set pasted place n ∙ length-pasted
 
-  apart : (i : ℕ) → (i ≡ place → ⊥) → getD after i 0 ≡ getD pasted i 0
-  apart i h = ap (λ (u : List ℕ). getD u i 0) put-number ∙ getD-set-other pasted place i n 0 h
+  apart : (i : ℕ) → (i ≡ place → ⊥) → numberAt after i ≡ getD pasted i 0
+  apart i h = ap (λ (u : List ℕ). numberAt u i) put-number ∙ getD-set-other pasted place i n 0 h
 
-  number-new : getD after place 0 ≡ n
+  number-new : numberAt after place ≡ n
   number-new =
-      ap (λ (u : List ℕ). getD u place 0) put-number
+      ap (λ (u : List ℕ). numberAt u place) put-number
       ∙ getD-set-same pasted place n 0
       (omega (arith, length-pasted, reached-inside t base n base-low (omega arith) (tag-small name) (ended .reached)))
 
-  number-old : (i : ℕ) → 36448 ≤ i → (i ≡ place → ⊥) → getD after i 0 ≡ getD t i 0
+  number-old : (i : ℕ) → 36448 ≤ i → (i ≡ place → ⊥) → numberAt after i ≡ numberAt t i
   unfolding pasted
   number-old i h q = apart i q ∙ put-after t ((base + n) * 67) (slotOf name) fits i (omega (arith, length-slot name))
 
@@ -307,21 +307,21 @@ module _ (t : List ℕ) (base n : ℕ) (name : List ℕ) (size : length t ≡ 55
       → seekFrom after base (suc n) name (suc m) low i d ≡ Held n
   seek-new zero low i d h l b q = let z : i ≡ place = cc in rw z (at-place zero low d l)
   seek-new (suc m) low i d h l b q =
-      go (seek-new m (suc (getD t i 0)) (belowPlace (base + getD t i 0) (digitOf name d)) (suc d)) (eqb i place) refl
-      (leadsOn t base n (tagOf name) low (getD t i 0)) refl (held t (base + getD t i 0) name) refl where
-        go : (n ≤ suc (getD t i 0) + m → suc (getD t i 0) ≤ n → 36448 ≤ belowPlace (base + getD t i 0) (digitOf name d)
-            → seekFrom t base n name m (suc (getD t i 0)) (belowPlace (base + getD t i 0) (digitOf name d)) (suc d) ≡ Free place
-            → seekFrom after base (suc n) name (suc m) (suc (getD t i 0)) (belowPlace (base + getD t i 0) (digitOf name d)) (suc d) ≡ Held n)
-            → (a : Bool) → eqb i place ≡ a → (c : Bool) → leadsOn t base n (tagOf name) low (getD t i 0) ≡ c
-            → (x : Bool) → held t (base + getD t i 0) name ≡ x → seekFrom after base (suc n) name (suc (suc m)) low i d ≡ Held n
+      go (seek-new m (suc (numberAt t i)) (nextPlace t base name i d) (suc d)) (eqb i place) refl
+      (leadsOn t base n (tagOf name) low (numberAt t i)) refl (held t (base + numberAt t i) name) refl where
+        go : (n ≤ suc (numberAt t i) + m → suc (numberAt t i) ≤ n → 36448 ≤ nextPlace t base name i d
+            → seekFrom t base n name m (suc (numberAt t i)) (nextPlace t base name i d) (suc d) ≡ Free place
+            → seekFrom after base (suc n) name (suc m) (suc (numberAt t i)) (nextPlace t base name i d) (suc d) ≡ Held n)
+            → (a : Bool) → eqb i place ≡ a → (c : Bool) → leadsOn t base n (tagOf name) low (numberAt t i) ≡ c
+            → (x : Bool) → held t (base + numberAt t i) name ≡ x → seekFrom after base (suc n) name (suc (suc m)) low i d ≡ Held n
         go ih true p c r x y = rw (eqb-true i place p) (at-place (suc m) low d l)
         go ih false p false r x y = absurd (let z : i ≡ place = free-is (sym (seek-ends t base n name low i d (suc m) r) ∙ q) in eqb-false i place p z)
         go ih false p true r true y =
             absurd (held-not-free (sym (seek-hits t base n name low i d m r y) ∙ q))
         go ih false p true r false y =
-            let k = leads-to t base n (tagOf name) low (getD t i 0) r in
-            let o : getD after i 0 ≡ getD t i 0 = number-old i b (eqb-false i place p) in
-            rw (o, leads-old (tagOf name) low (getD t i 0) (λ z. omega (arith, k .1)) ∙ r, held-old (getD t i 0) name short (k .1) ∙ y)
+            let k = leads-to t base n (tagOf name) low (numberAt t i) r in
+            let o : numberAt after i ≡ numberAt t i = number-old i b (eqb-false i place p) in
+            rw (o, leads-old (tagOf name) low (numberAt t i) (λ z. omega (arith, k .1)) ∙ r, held-old (numberAt t i) name short (k .1) ∙ y)
             (ih (omega (arith, k .0)) (omega (arith, k .1)) (omega arith) (sym (seek-goes-on t base n name low i d m r y) ∙ q))
 
   found-new : found after base (suc n) name ≡ At n
@@ -336,7 +336,7 @@ module _ (t : List ℕ) (base n : ℕ) (name : List ℕ) (size : length t ≡ 55
 
   module _ (x : List ℕ) (x-short : length x ≤ 64) where
     -- at the new name's number the search ends: there is no name behind it
-    at-new : (m low i d : ℕ) (r : Spot) → getD after i 0 ≡ n → foundAt r ≡ Nothing → Kept (seekFrom after base (suc n) x (suc m) low i d) r
+    at-new : (m low i d : ℕ) (r : Spot) → numberAt after i ≡ n → foundAt r ≡ Nothing → Kept (seekFrom after base (suc n) x (suc m) low i d) r
     at-new m low i d r e none =
         rw e (go (leadsOn after base (suc n) (tagOf x) low n) (held after (base + n) x)) where
           go : (b c : Bool) → Kept (pick b (pick c (Held n) (seekFrom after base (suc n) x m (suc n) (belowPlace (base + n) (digitOf x d)) (suc d))) (Free i)) r
@@ -346,58 +346,60 @@ module _ (t : List ℕ) (base n : ℕ) (name : List ℕ) (size : length t ≡ 55
           go false c = inl (sym none)
 
     -- where the new number stands, no name was found before
-    none-before : (m low i d : ℕ) → Reached t base n (tagOf x) low i → getD after i 0 ≡ n → foundAt (seekFrom t base n x m low i d) ≡ Nothing
+    none-before : (m low i d : ℕ) → Reached t base n (tagOf x) low i → numberAt after i ≡ n → foundAt (seekFrom t base n x m low i d) ≡ Nothing
     none-before m low i d r e = ap foundAt (seek-ends t base n x low i d m (go (eqb i place) refl)) where
-      go : (b : Bool) → eqb i place ≡ b → leadsOn t base n (tagOf x) low (getD t i 0) ≡ false
+      go : (b : Bool) → eqb i place ≡ b → leadsOn t base n (tagOf x) low (numberAt t i) ≡ false
       go true p =
           let z = eqb-true i place p in
           let o : Reached t base n (tagOf name) (ended .low) i = rw z (ended .reached) in
           let a = reached-alike t base n base-low (tag-small x) (tag-small name) r o in
           rw (a .0, a .1, z) (ended .stops)
       go false p =
-          let o : getD t i 0 ≡ n = sym (number-old i (reached-behind t base n r) (eqb-false i place p)) ∙ e in
-          not-past t base n (tagOf x) low (getD t i 0) (omega arith)
+          let o : numberAt t i ≡ n = sym (number-old i (reached-behind t base n r) (eqb-false i place p)) ∙ e in
+          not-past t base n (tagOf x) low (numberAt t i) (omega arith)
 
     -- where another number stands, it is the one that stood there
-    number-same : (low i : ℕ) → Reached t base n (tagOf x) low i → (getD after i 0 ≡ n → ⊥) → getD after i 0 ≡ getD t i 0
+    number-same : (low i : ℕ) → Reached t base n (tagOf x) low i → (numberAt after i ≡ n → ⊥) → numberAt after i ≡ numberAt t i
     number-same low i r q = number-old i (reached-behind t base n r) (λ z. q (rw z number-new))
 
     kept : (m low i d : ℕ) → n ≤ low + m → low ≤ n → Reached t base n (tagOf x) low i
         → Kept (seekFrom after base (suc n) x (suc m) low i d) (seekFrom t base n x m low i d)
-    kept zero low i d h l r = go (eqb (getD after i 0) n) refl where
-      go : (b : Bool) → eqb (getD after i 0) n ≡ b → Kept (seekFrom after base (suc n) x 1 low i d) (seekFrom t base n x 0 low i d)
-      go true p = let e = eqb-true (getD after i 0) n p in at-new 0 low i d (seekFrom t base n x 0 low i d) e (none-before 0 low i d r e)
+    kept zero low i d h l r = go (eqb (numberAt after i) n) refl where
+      go : (b : Bool) → eqb (numberAt after i) n ≡ b → Kept (seekFrom after base (suc n) x 1 low i d) (seekFrom t base n x 0 low i d)
+      go true p = let e = eqb-true (numberAt after i) n p in at-new 0 low i d (seekFrom t base n x 0 low i d) e (none-before 0 low i d r e)
       go false p =
-          let q = eqb-false (getD after i 0) n p in
+          let q = eqb-false (numberAt after i) n p in
           inl (ap foundAt (seek-ends after base (suc n) x low i d 1
-          (leads-old (tagOf x) low (getD after i 0) q ∙ not-left t base n (tagOf x) low (getD after i 0) (omega arith))))
+          (leads-old (tagOf x) low (numberAt after i) q ∙ not-left t base n (tagOf x) low (numberAt after i) (omega arith))))
     kept (suc m) low i d h l r =
-        go (kept m (suc (getD t i 0)) (belowPlace (base + getD t i 0) (digitOf x d)) (suc d)) (eqb (getD after i 0) n) refl
-        (leadsOn t base n (tagOf x) low (getD t i 0)) refl (held t (base + getD t i 0) x) refl where
-          go : (n ≤ suc (getD t i 0) + m → suc (getD t i 0) ≤ n
-              → Reached t base n (tagOf x) (suc (getD t i 0)) (belowPlace (base + getD t i 0) (digitOf x d))
-              → Kept (seekFrom after base (suc n) x (suc m) (suc (getD t i 0)) (belowPlace (base + getD t i 0) (digitOf x d)) (suc d))
-              (seekFrom t base n x m (suc (getD t i 0)) (belowPlace (base + getD t i 0) (digitOf x d)) (suc d)))
-              → (b : Bool) → eqb (getD after i 0) n ≡ b → (c : Bool) → leadsOn t base n (tagOf x) low (getD t i 0) ≡ c
-              → (y : Bool) → held t (base + getD t i 0) x ≡ y
+        go (kept m (suc (numberAt t i)) (nextPlace t base x i d) (suc d)) (eqb (numberAt after i) n) refl
+        (leadsOn t base n (tagOf x) low (numberAt t i)) refl (held t (base + numberAt t i) x) refl where
+          go : (n ≤ suc (numberAt t i) + m → suc (numberAt t i) ≤ n
+              → Reached t base n (tagOf x) (suc (numberAt t i)) (nextPlace t base x i d)
+              → Kept (seekFrom after base (suc n) x (suc m) (suc (numberAt t i)) (nextPlace t base x i d) (suc d))
+              (seekFrom t base n x m (suc (numberAt t i)) (nextPlace t base x i d) (suc d)))
+              → (b : Bool) → eqb (numberAt after i) n ≡ b → (c : Bool) → leadsOn t base n (tagOf x) low (numberAt t i) ≡ c
+              → (y : Bool) → held t (base + numberAt t i) x ≡ y
               → Kept (seekFrom after base (suc n) x (suc (suc m)) low i d) (seekFrom t base n x (suc m) low i d)
-          go ih true p c w y v = let e = eqb-true (getD after i 0) n p in at-new (suc m) low i d (seekFrom t base n x (suc m) low i d) e (none-before (suc m) low i d r e)
+          go ih true p c w y v =
+              let e = eqb-true (numberAt after i) n p in
+              at-new (suc m) low i d (seekFrom t base n x (suc m) low i d) e (none-before (suc m) low i d r e)
           go ih false p false w y v =
-              let q = eqb-false (getD after i 0) n p in
+              let q = eqb-false (numberAt after i) n p in
               let o = number-same low i r q in
-              inl (rw (o, leads-old (tagOf x) low (getD t i 0) (λ z. q (o ∙ z)) ∙ w, w))
+              inl (rw (o, leads-old (tagOf x) low (numberAt t i) (λ z. q (o ∙ z)) ∙ w, w))
           go ih false p true w y v =
-              let q = eqb-false (getD after i 0) n p in
+              let q = eqb-false (numberAt after i) n p in
               let o = number-same low i r q in
-              let k = leads-to t base n (tagOf x) low (getD t i 0) w in
-              rw (o, leads-old (tagOf x) low (getD t i 0) (λ z. q (o ∙ z)) ∙ w, held-old (getD t i 0) x x-short (k .1) ∙ v, w, v) (two y) where
+              let k = leads-to t base n (tagOf x) low (numberAt t i) w in
+              rw (o, leads-old (tagOf x) low (numberAt t i) (λ z. q (o ∙ z)) ∙ w, held-old (numberAt t i) x x-short (k .1) ∙ v, w, v) (two y) where
                 two : (b : Bool) → Kept
-                    (pick b (Held (getD t i 0)) (seekFrom after base (suc n) x (suc m) (suc (getD t i 0)) (belowPlace (base + getD t i 0) (digitOf x d)) (suc d)))
-                    (pick b (Held (getD t i 0)) (seekFrom t base n x m (suc (getD t i 0)) (belowPlace (base + getD t i 0) (digitOf x d)) (suc d)))
+                    (pick b (Held (numberAt t i)) (seekFrom after base (suc n) x (suc m) (suc (numberAt t i)) (nextPlace t base x i d) (suc d)))
+                    (pick b (Held (numberAt t i)) (seekFrom t base n x m (suc (numberAt t i)) (nextPlace t base x i d) (suc d)))
                 two true = inl refl
                 two false =
-                    let k = leads-to t base n (tagOf x) low (getD t i 0) w in
-                    ih (omega (arith, k .0)) (omega (arith, k .1)) (reached-next t base n x low (getD t i 0) d w)
+                    let k = leads-to t base n (tagOf x) low (numberAt t i) w in
+                    ih (omega (arith, k .0)) (omega (arith, k .1)) (reached-next t base n x low (numberAt t i) d w)
 
     -- another name is found where it was, unless it is the new one
     pub found-old : Kept (spotOf after base (suc n) x) (spotOf t base n x)

@@ -60,14 +60,22 @@ digitOf name d = pick (eqb (d % 2) 0) (getD name (d / 2) 0 % 16) (getD name (d /
 unfoldable pub leadsOn : List ℕ → ℕ → ℕ → ℕ → ℕ → ℕ → Bool
 leadsOn t base n tag low e = pick (leb low e) (pick (ltb e n) (eqb (tagAt t (base + e)) tag) false) false
 
+-- the number that stands at a place
+abbrev pub numberAt : List ℕ → ℕ → ℕ
+numberAt t place = getD t place 0
+
+-- where the search for a name goes on below the name whose number stands at a place
+abbrev pub nextPlace : List ℕ → ℕ → List ℕ → ℕ → ℕ → ℕ
+nextPlace t base name place d = belowPlace (base + numberAt t place) (digitOf name d)
+
 -- where the search for a name among n names ends, from the number at `place` on, which is not below `low`, and from digit d on; each name that is met has a
 -- higher number than the one before it, so that n of them are the most that can be
 abbrev pub seekFrom : List ℕ → ℕ → ℕ → List ℕ → ℕ → ℕ → ℕ → ℕ → Spot
 seekFrom t base n name zero low place d = Free place
 seekFrom t base n name (suc m) low place d =
-    pick (leadsOn t base n (tagOf name) low (getD t place 0))
-    (pick (held t (base + getD t place 0) name) (Held (getD t place 0))
-    (seekFrom t base n name m (suc (getD t place 0)) (belowPlace (base + getD t place 0) (digitOf name d)) (suc d)))
+    pick (leadsOn t base n (tagOf name) low (numberAt t place))
+    (pick (held t (base + numberAt t place) name) (Held (numberAt t place))
+    (seekFrom t base n name m (suc (numberAt t place)) (nextPlace t base name place d) (suc d)))
     (Free place)
 
 unfoldable pub spotOf : List ℕ → ℕ → ℕ → List ℕ → Spot

@@ -26,12 +26,14 @@ returns-2 : tie.Need-returns-2
 returns-2 c =
     let held = c .before in
     let sought = held .before .before in
-    finds _ _ _ _ (sought .seek .ensures) (omega arith) (omega (arith, sought .before .before .before .shared-slice-known2 .given 0)) _ (held .e .given .1)
+    let byte = sought .before .before .before .shared-slice-known2 .given 0 in
+    finds _ _ _ _ (sought .seek .ensures) (omega arith) (omega (arith, byte)) _ (held .e .given .1)
 
 returns-3 : tie.Need-returns-3
 returns-3 c =
     let sought = c .before .before in
-    finds-none _ _ _ _ (sought .seek .ensures) (omega arith) (omega (arith, sought .before .before .before .shared-slice-known2 .given 0)) _ (c .enum-told .given .1)
+    let byte = sought .before .before .before .shared-slice-known2 .given 0 in
+    finds-none _ _ _ _ (sought .seek .ensures) (omega arith) (omega (arith, byte)) _ (c .enum-told .given .1)
 
 pub find-name-spec : {M : Type 1} → statement M
 find-name-spec =

@@ -1,6 +1,5 @@
 -- The first byte tells which of the three words a field is, or that it is a decimal number.
 use borrow.Author.Needs.{needs}
-use native.Mathlib.Omega.{arith}
 use Rattle.text_values.proofs.Laws.{known, known-number}
 use Rattle.text_values.proofs.known_value.Statement.{statement}
 use Rattle.text_values.proofs.known_value.Tie as tie
