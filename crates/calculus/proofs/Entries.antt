@@ -6,7 +6,7 @@ use mathlib.Core.List.{[], _∷_, List·Memᴰ, List·Memᴰ·head, List·Memᴰ
 use Prim.Native.Nat.{ℕ, _≤_, max}
 use native.Mathlib.Omega.{arith}
 use lib.Dec.{T, eqb, leb, eqb→eq, leb→le, le→leb, eqb-refl, T-not}
-use Rattle.calculus.specs.Trail.{Set, Trail, Entry, empty, on, absent, entry, levelAt, holds, levelOf, keptTo}
+use Rattle.calculus.specs.Trail.{Set, Trail, Entry, empty, everything, on, absent, entry, levelAt, holds, levelOf, topLevel, keptTo}
 use Rattle.calculus.proofs.Facts.{and-l, and-r, or-cases, or-l, or-r, T-true, true-T, true-or-false, none-true, cond-case}
 
 -- ---- look-up
@@ -80,6 +80,10 @@ level-le (x ∷ older) s m h =
     let r = level-le older s m (λ e k. h e (List·Memᴰ·tail k)) in
     cond-case (λ l. max (levelOf older s) l ≤ m) (s (x .term)) (x .level) 0
     (λ q. omega (arith, r, h x (List·Memᴰ·head refl) (true-T _ q))) (λ q. omega (arith, r))
+
+-- no set's level is above the greatest
+pub level-top : (tr : Trail) (s : Set) → levelOf tr s ≤ topLevel tr
+level-top tr s = level-le tr s _ (λ e m h. level-ge tr everything e m tt)
 
 pub level-empty : (tr : Trail) → levelOf tr empty ≡ 0
 level-empty tr = let h = level-le tr empty 0 (λ e m k. absurd k) in omega arith

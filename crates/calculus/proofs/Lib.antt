@@ -2,6 +2,7 @@
 pub mod Facts
 pub mod Forms
 pub mod Entries
+pub mod Trails
 pub mod Columns
 pub mod WellSorted
 pub mod Rows

@@ -20,7 +20,7 @@ use Rattle.calculus.specs.Steps.{State, searching, conflict, trailOf, co
 use Rattle.calculus.specs.Run.{follow, run, sheetsRefusal, callRefusal, start, endingOf, ending}
 use Rattle.calculus.specs.WellFormed.{Within, Distinct, Below, Grounded, relevelled, WellFormed, WellFormedState}
 use Rattle.calculus.proofs.Facts.{and-l, and-r, T-true, T-false, true-T, is-or-not, true-or-false, both-true, one-true, cond-case, all-at, has-at, unless-ok, orElse-ok, first-ok, answer-case}
-use Rattle.calculus.proofs.Entries.{entered-on, entry-in, entry-older, entry-off, level-ge, level-le, level-empty, kept-entry, kept-off, level-kept, level-at, holds-at}
+use Rattle.calculus.proofs.Entries.{entered-on, entry-in, entry-older, entry-off, level-top, level-empty, kept-entry, kept-off, level-kept, level-at, holds-at}
 
 -- ---- one entry and the trail before it
 
@@ -379,8 +379,7 @@ top-length [] r = omega arith
 top-length (x ∷ older) r =
     let q = newest x older r in
     let h = top-length older (q .1) in
-    let k : levelOf older (x .why) ≤ topLevel older = level-le older (x .why) _ (λ e m w. level-ge older (λ u. true) e m tt) in
-    go (x .decided) h k (q .0 .level)
+    go (x .decided) h (level-top older (x .why)) (q .0 .level)
   where
     go : (b : Bool) → topLevel older ≤ length older → levelOf older (x .why) ≤ topLevel older
         → x .level ≡ cond b (1 + topLevel older) (levelOf older (x .why)) → max (topLevel older) (x .level) ≤ suc (length older)

@@ -22,7 +22,7 @@ use Rattle.calculus.proofs.Facts.{first-ok}
 use Rattle.calculus.proofs.WellFormed.{input-well-formed, top-length}
 use Rattle.sheets.proofs.Laws.{passed-zero}
 use Rattle.trail.specs.Words.{trailIn}
-use Rattle.trail.proofs.Abstract.{room}
+use Rattle.calculus.proofs.Trails.{room}
 use Rattle.trail.proofs.Laws.{trail-length}
 use Rattle.moves.specs.Post.{Stands}
 use Rattle.state.specs.declared.Status.{Status}

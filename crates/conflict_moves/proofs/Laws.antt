@@ -6,17 +6,15 @@ use mathlib.Core.Logic.{inl, inr}
 use mathlib.Core.Bool.{true, false}
 use mathlib.Core.List.{List, [], _∷_}
 use lib.Dec.{leb}
-use Rattle.calculus.specs.Lists.{has}
-use Rattle.calculus.specs.Trail.{Set, Trail, empty, insert, remove, union, on, levelAt, decidedAt, whyAt, levelOf, topLevel, keptTo, decision, justified}
-use Rattle.calculus.specs.WellFormed.{Within}
+use Rattle.calculus.specs.Trail.{Set, Trail, remove, union, on, levelAt, decidedAt, whyAt, levelOf, topLevel, keptTo, decision, justified}
 use Rattle.calculus.proofs.Facts.{cond-case}
 use Rattle.calculus.proofs.Entries.{level-kept}
 use Rattle.bitset.specs.Windows.{setAt, Holds, Copied}
-use Rattle.bitset.proofs.Windows.{same-set, holds-twice}
+use Rattle.bitset.proofs.Windows.{same-set}
 use Rattle.trail.specs.Words.{conflict, entryOf, trailIn, Laid, Still, Pushed, Cut}
-use Rattle.trail.proofs.Abstract.{kept-gone, top-more, on-below}
+use Rattle.calculus.proofs.Trails.{kept-gone}
 use Rattle.trail.proofs.Laws.{why-in}
-use Rattle.trail.proofs.Frames.{built, beside, still-twice, why-words}
+use Rattle.trail.proofs.Frames.{built, still-twice, why-words}
 use Rattle.moves.specs.Post.{conflictIn, Stands, Conflicts}
 use Rattle.moves.proofs.Laws.{conflict-made, justified-stands}
 

@@ -8,15 +8,15 @@ use lib.ListN.{length}
 use lib.Dec.{T, eqb, ltb}
 use borrow.Author.Tests.{ltb-true, ltb-false, le-ltb}
 use Rattle.calculus.specs.Sheets.{termRows}
-use Rattle.calculus.specs.Trail.{Set, Trail, everything, intersection, on, entry, levelAt, decidedAt, whyAt, levelOf, topLevel, holds, firstOrder}
+use Rattle.calculus.specs.Trail.{Set, Trail, intersection, on, entry, levelAt, decidedAt, whyAt, levelOf, topLevel, holds, firstOrder}
 use Rattle.calculus.specs.WellFormed.{Within, WellFormed}
 use Rattle.calculus.proofs.Facts.{true-T, true-or-false}
-use Rattle.calculus.proofs.Entries.{level-ge, level-le, level-at}
+use Rattle.calculus.proofs.Entries.{level-top, level-at}
 use Rattle.calculus.proofs.WellFormed.{newest, why-well-formed, shared-high, top-length}
 use Rattle.bitset.specs.Windows.{setAt}
 use Rattle.trail.specs.Words.{trailIn}
 use Rattle.trail.proofs.Laws.{why-in, trail-length, room-all}
-use Rattle.trail.proofs.Abstract.{holds-wider}
+use Rattle.calculus.proofs.Trails.{holds-wider}
 use Rattle.trail.proofs.Frames.{why-words}
 use Rattle.moves.specs.Post.{conflictIn}
 use Rattle.state.specs.declared.Status.{Status}
@@ -34,10 +34,6 @@ found w n ts ws st g =
     }
 
 -- ---- levels are small
-
--- no set's level is above the greatest
-level-top : (tr : Trail) (s : Set) → levelOf tr s ≤ topLevel tr
-level-top tr s = level-le tr s _ (λ e m h. level-ge tr everything e m tt)
 
 -- where an entry is justified the greatest level is below the trail's length
 pub top-less : {n : ℕ} (tr : Trail) (t : ℕ) → WellFormed n tr → on tr t ≡ true → decidedAt tr t ≡ false → topLevel tr < length tr

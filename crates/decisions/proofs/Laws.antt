@@ -17,7 +17,7 @@ use Rattle.bitset.proofs.Windows.{set-past}
 use Rattle.bitset.specs.Members.{wordOf, firstOf, IsWord}
 use Rattle.bitset.proofs.Members.{none-left, first-member, word-first, word-in, firstWords, words-none, words-more, words-all, set-word, both-word}
 use Rattle.trail.specs.Words.{kinds, levels, trailIn}
-use Rattle.trail.proofs.Abstract.{holds-yes, holds-empty, holds-skip, holds-union, holds-wider}
+use Rattle.calculus.proofs.Trails.{holds-yes, holds-empty, holds-skip, holds-union, holds-wider}
 use Rattle.trail.proofs.Laws.{entry-at}
 use Rattle.trail.proofs.Walks.{Rest, first-on, rest-next}
 

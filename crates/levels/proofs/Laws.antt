@@ -15,7 +15,7 @@ use Rattle.bitset.proofs.Windows.{set-past}
 use Rattle.bitset.specs.Members.{wordOf, firstOf, IsWord}
 use Rattle.bitset.proofs.Members.{none-left, word-first, firstWords, words-none, words-more, words-all, set-word, less-word}
 use Rattle.calculus.proofs.Entries.{level-empty}
-use Rattle.trail.proofs.Abstract.{level-insert, level-union}
+use Rattle.calculus.proofs.Trails.{level-insert, level-union}
 use Rattle.trail.proofs.Walks.{Rest, rest-next}
 
 -- ---- a word, member by member

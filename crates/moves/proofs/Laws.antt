@@ -1,22 +1,17 @@
 -- How the changes of a step compose. Assumes nothing.
-use Prim.Native.Nat.{ℕ, _+_, _*_, _/_, _≤_, _<_, max}
+use Prim.Native.Nat.{ℕ, _+_, _*_, _/_, _<_, max}
 use native.Mathlib.Omega.{arith}
-use mathlib.Core.Path.{_≡_, sym, ap, ap₂, subst, _∙_}
-use mathlib.Core.Logic.{inl, inr}
+use mathlib.Core.Path.{_≡_, ap, _∙_}
 use mathlib.Core.Bool.{true, false}
-use mathlib.Core.List.{List, [], _∷_}
-use lib.Dec.{leb}
+use mathlib.Core.List.{List, _∷_}
 use Rattle.calculus.specs.Lists.{has}
-use Rattle.calculus.specs.Trail.{Set, Trail, empty, insert, remove, union, on, levelAt, decidedAt, whyAt, levelOf, topLevel, keptTo, decision, justified}
+use Rattle.calculus.specs.Trail.{Set, Trail, empty, insert, levelOf, topLevel, decision, justified}
 use Rattle.calculus.specs.WellFormed.{Within}
-use Rattle.calculus.proofs.Facts.{cond-case}
-use Rattle.calculus.proofs.Entries.{level-kept}
-use Rattle.bitset.specs.Windows.{setAt, Holds, Copied}
-use Rattle.bitset.proofs.Windows.{same-set, holds-twice}
-use Rattle.trail.specs.Words.{conflict, entryOf, trailIn, Laid, Still, Pushed, Cut}
-use Rattle.trail.proofs.Abstract.{kept-gone, top-more, on-below}
-use Rattle.trail.proofs.Laws.{why-in}
-use Rattle.trail.proofs.Frames.{built, beside, still-twice, why-words}
+use Rattle.bitset.specs.Windows.{setAt, Holds}
+use Rattle.bitset.proofs.Windows.{holds-twice}
+use Rattle.trail.specs.Words.{conflict, entryOf, trailIn, Laid, Pushed}
+use Rattle.calculus.proofs.Trails.{top-more, on-below}
+use Rattle.trail.proofs.Frames.{beside}
 use Rattle.calculus.specs.Inputs.{given}
 use Rattle.moves.proofs.Gathers.{has-front}
 use Rattle.moves.specs.Post.{conflictIn, Stands, Conflicts}

@@ -14,7 +14,7 @@ use Rattle.calculus.specs.Steps.{premises, clashSet, decideRefusal, inferenceRe
 use Rattle.calculus.proofs.Facts.{T-false, T-true, and-l, unless-ok}
 use Rattle.calculus.proofs.WellFormed.{top-length, inference-ok}
 use Rattle.trail.specs.Words.{trailIn, Laid}
-use Rattle.trail.proofs.Abstract.{room-more}
+use Rattle.calculus.proofs.Trails.{room-more}
 use Rattle.trail.proofs.Laws.{trail-length}
 use Rattle.moves.specs.Post.{Stands, Conflicts}
 use Rattle.state.specs.declared.Status.{Status}

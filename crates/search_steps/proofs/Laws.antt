@@ -1,6 +1,6 @@
 -- Premises column by column, what a rule answers, and the level of a clash.
 use mathlib.Core.Path.{_≡_, refl, sym, _∙_}
-use mathlib.Core.Bool.{Bool, true, false, _&&_}
+use mathlib.Core.Bool.{Bool, true, false}
 use mathlib.Core.List.{List, _∷_}
 use Prim.Native.Nat.{ℕ, max}
 use native.Mathlib.Omega.{arith}
@@ -9,7 +9,7 @@ use Rattle.calculus.specs.declared.Fit.{Fit}
 use Rattle.calculus.specs.declared.Fit.the-variants.{Fits, Unfit}
 use Rattle.calculus.specs.declared.Rule.{Rule}
 use Rattle.calculus.specs.declared.Step.{Step}
-use Rattle.calculus.specs.Lists.{all, has}
+use Rattle.calculus.specs.Lists.{has}
 use Rattle.calculus.specs.Sheets.{blank}
 use Rattle.calculus.specs.Terms.{filled}
 use Rattle.calculus.specs.Trail.{Trail, on, levelAt, levelOf, premisesAt}

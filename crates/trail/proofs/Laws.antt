@@ -16,7 +16,7 @@ use Rattle.calculus.specs.WellFormed.{Distinct, Below}
 use Rattle.calculus.proofs.Facts.{is-or-not, true-or-false}
 use Rattle.bitset.proofs.Windows.{same-set}
 use Rattle.trail.specs.Words.{values, levels, kinds, order, entryFor, trailIn, Laid}
-use Rattle.trail.proofs.Abstract.{off-parts, room, room-more}
+use Rattle.calculus.proofs.Trails.{off-parts, room, room-more}
 
 -- ---- the one product: a justification ends where the next begins or before
 pub why-in : (w t u : ℕ) → t < u → t * w + w ≤ u * w

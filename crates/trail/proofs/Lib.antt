@@ -1,5 +1,5 @@
 -- Laws that belong to no one function.
-pub mod Abstract
+pub mod Kinds
 pub mod Laws
 pub mod Frames
 pub mod Walks

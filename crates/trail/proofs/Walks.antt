@@ -8,7 +8,7 @@ use Rattle.calculus.specs.Trail.{Set, Trail, on}
 use Rattle.calculus.specs.WellFormed.{Within, Below}
 use Rattle.bitset.specs.Members.{wordOf, firstOf, IsWord}
 use Rattle.bitset.proofs.Members.{first-member, rest-less, rest-in, word-in}
-use Rattle.trail.proofs.Abstract.{on-below}
+use Rattle.calculus.proofs.Trails.{on-below}
 
 -- the rows of a word of a set on the trail are on the trail
 pub word-within : (tr : Trail) (s : Set) (k x : ℕ) → IsWord s k x → Within s tr → Within (wordOf k x) tr

@@ -4,7 +4,6 @@ use lib.ListN.{length-take}
 use lib.Seq.{take-all}
 use native.Mathlib.Omega.{arith}
 use borrow.Author.Tests.{ltb-true}
-use borrow.Author.Needs.{needs}
 use Rattle.check_log.proofs.first.Statement.{statement}
 use Rattle.check_log.proofs.first.Tie as tie
 

@@ -1,10 +1,7 @@
 -- `conflict_moves::flip` meets its contract. Assumes nothing.
-use Prim.Native.Nat.{ℕ, _-_}
 use mathlib.Core.Path.{ap, _∙_}
 use native.Mathlib.Omega.{arith}
 use Rattle.calculus.specs.Lists.{opposite}
-use Rattle.calculus.specs.Trail.{keptTo}
-use Rattle.trail.specs.Words.{trailIn}
 use Rattle.conflict_moves.proofs.Laws.{flip-stands, gone-after, top-after, kept-after}
 use borrow.Author.Needs.{needs}
 use Rattle.conflict_moves.proofs.flip.Statement.{statement}

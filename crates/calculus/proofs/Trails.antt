@@ -1,18 +1,17 @@
--- Laws of trails whose terms are distinct and below a bound, and of the kind of a term. Nothing of words. Assumes nothing.
+-- Laws of trails whose terms are distinct and below a bound: look-up, what is kept, levels, and what a set of rows holds. Assumes nothing.
 use Prim.Native.Nat.{ℕ, zero, suc, _≤_, _<_, max}
 use native.Mathlib.Omega.{arith}
-use mathlib.Core.Path.{_≡_, refl, sym, ap, ap₂, _∙_}
+use mathlib.Core.Path.{_≡_, refl, sym, ap, _∙_}
 use mathlib.Core.Logic.{⊎-elim}
 use mathlib.Core.Bool.{Bool, true, false, _&&_, _||_, cond, or-false, or-true}
 use mathlib.Core.List.{[], _∷_}
 use lib.Dec.{eqb, leb}
 use lib.ListN.{length}
 use borrow.Author.Tests.{eqb-true, eqb-false, eq-eqb, le-leb, lt-leb}
-use Rattle.calculus.specs.Trail.{Set, Trail, Entry, empty, insert, union, on, entry, levelAt, decidedAt, holds, levelOf, topLevel, keptTo}
+use Rattle.calculus.specs.Trail.{Set, Trail, Entry, empty, insert, union, on, entry, levelAt, holds, levelOf, topLevel, keptTo}
 use Rattle.calculus.specs.WellFormed.{Distinct, Below}
 use Rattle.calculus.proofs.Facts.{is-or-not, true-or-false, none-true, both-true, one-true, cond-case}
 use Rattle.calculus.proofs.Entries.{entry-here, entry-older, kept-off}
-use Rattle.trail.specs.Words.{kindAt}
 
 -- ---- on the trail or not
 
@@ -45,27 +44,6 @@ on-below n t (e ∷ older) b h =
     (λ q. let r : e .term ≡ t = eqb-true _ _ q in omega (arith, b .0))
     (λ q. on-below n t older (b .1) (rw q at h))
     (is-or-not (eqb (e .term) t))
-
--- ---- the kind of a term
-
-abbrev kindFor : Bool → Entry → ℕ
-kindFor b e = cond b (cond (e .decided) 2 1) 0
-
-pub kind-here : (t : ℕ) (e : Entry) (older : Trail) → e .term ≡ t → kindAt (e ∷ older) t ≡ cond (e .decided) 2 1
-unfolding kindAt
-kind-here t e older h = ap₂ kindFor (on-here t e older h) (entry-here e older t (eq-eqb (e .term) t h))
-
-pub kind-older : (t : ℕ) (e : Entry) (older : Trail) → eqb (e .term) t ≡ false → kindAt (e ∷ older) t ≡ kindAt older t
-unfolding kindAt
-kind-older t e older h = ap₂ kindFor (on-older t e older h) (entry-older e older t h)
-
-pub kind-off : (t : ℕ) (tr : Trail) → on tr t ≡ false → kindAt tr t ≡ 0
-unfolding kindAt
-kind-off t tr h = rw h
-
-pub kind-on : (t : ℕ) (tr : Trail) → on tr t ≡ true → kindAt tr t ≡ cond (decidedAt tr t) 2 1
-unfolding kindAt
-kind-on t tr h = rw h
 
 -- ---- distinct terms below n are at most n
 
