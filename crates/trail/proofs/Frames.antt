@@ -17,7 +17,7 @@ use Rattle.calculus.proofs.Entries.{entry-off}
 use Rattle.bitset.specs.Windows.{setAt, Only}
 use Rattle.bitset.proofs.Windows.{Filled}
 use Rattle.trail.specs.Words.{values, kinds, order, conflict, trailIn, kindAt, Laid, Started, Still}
-use Rattle.trail.proofs.Kinds.{kind-off, kind-on}
+use Rattle.trail.proofs.TermKind.{kind-off, kind-on}
 use Rattle.trail.proofs.Laws.{why-in, below-at, on-at, entry-same, trail-same, room-all, entry-at}
 
 -- the numbers and the order are the same, and so is the justification of each term in the order

@@ -1,5 +1,5 @@
 -- Laws that belong to no one function.
-pub mod Kinds
+pub mod TermKind
 pub mod Laws
 pub mod Frames
 pub mod Walks

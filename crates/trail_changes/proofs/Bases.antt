@@ -14,7 +14,7 @@ use Rattle.calculus.proofs.Facts.{is-or-not, both-true, cond-case}
 use Rattle.calculus.proofs.WellFormed.{newest}
 use Rattle.trail.specs.Words.{levels, kinds, order, entryFor, trailIn, kindAt, Laid}
 use Rattle.trail_changes.specs.Bases.{baseOf, Base}
-use Rattle.trail.proofs.Kinds.{kind-on}
+use Rattle.trail.proofs.TermKind.{kind-on}
 use Rattle.trail.proofs.Laws.{trail-more, below-at, entry-at, room-all}
 
 -- ---- trails

@@ -17,7 +17,7 @@ use Rattle.bitset.specs.Windows.{Only}
 use Rattle.trail.specs.Words.{levels, kinds, order, entryFor, trailIn, kindAt, Laid, Cut}
 use Rattle.trail_changes.specs.Bases.{Base}
 use Rattle.calculus.proofs.Trails.{off-parts, on-older, kept-more, kept-less, kept-distinct, kept-below, top-more}
-use Rattle.trail.proofs.Kinds.{kind-here, kind-older, kind-off, kind-on}
+use Rattle.trail.proofs.TermKind.{kind-here, kind-older, kind-off, kind-on}
 use Rattle.trail.proofs.Laws.{why-in, trail-more, below-at, off-at, on-at, distinct-at, below-first, entry-same, trail-set, entry-at, room-all}
 use Rattle.trail_changes.proofs.Bases.{base-low, kept-all, kind-first}
 

@@ -17,7 +17,7 @@ use Rattle.calculus.proofs.Facts.{is-or-not}
 use Rattle.bitset.specs.Windows.{setAt}
 use Rattle.bitset.proofs.Windows.{same-set}
 use Rattle.trail.specs.Words.{values, levels, kinds, order, entryOf, entryFor, trailIn, kindAt, Laid, Pushed}
-use Rattle.trail.proofs.Kinds.{kind-here, kind-older}
+use Rattle.trail.proofs.TermKind.{kind-here, kind-older}
 use Rattle.trail.proofs.Laws.{why-in, trail-more, below-at, off-at, entry-same, trail-same, room-one}
 
 -- ---- four stores, read back
