@@ -2,10 +2,11 @@
 ghost use mathlib.Core.Path.{_≡_};
 ghost use mathlib.Core.Bool.{true};
 ghost use mathlib.Core.List.{[]};
-ghost use Prim.Native.Nat.{_≤_, _<_};
+ghost use Prim.Native.Nat.{_+_, _≤_, _<_};
 ghost use lib.ListN.{length, getD};
 ghost use Rattle.text_fields.specs.Split.{pieces};
-ghost use Rattle.text_fields.specs.Class.{classOf, isSpace, isName, nameEnd};
+ghost use Rattle.text_fields.specs.Class.{classOf, isSpace, isName, run, nameEnd};
+ghost use Rattle.text_fields.specs.Fours.{Passes};
 ghost use Rattle.text_fields.specs.Number.{value as valueOf, isNumber};
 ghost use Rattle.text_fields.specs.Shape.{wellFormed, firstMalformed, fieldsAre, shapeOf};
 ghost use Rattle.text_fields.specs.Marks.{FieldAt, Marked};
@@ -57,8 +58,28 @@ fn is_well_formed(valued: bool, f: &[u8]) -> bool
     f.len() <= 64
 }
 
-// The end of the bytes of names that stand from `from` on.
-fn name_end(line: &[u8], from: usize) -> usize
+// How many of the four bytes from i on are parts of a name, up to the first that is not.
+fn names_of_four(line: &[u8], i: usize) -> usize
+    requires { ⌜ i + 4 ≤ length (now line) ⌝ }
+    ensures { λ r. ⌜ Passes run (now (line .entry)) i r ⌝ }
+{
+    if !is_name_byte(line[i]) {
+        return 0;
+    }
+    if !is_name_byte(line[i + 1]) {
+        return 1;
+    }
+    if !is_name_byte(line[i + 2]) {
+        return 2;
+    }
+    if !is_name_byte(line[i + 3]) {
+        return 3;
+    }
+    4
+}
+
+// The end of the bytes of names that stand from `from` on, one byte at a time.
+fn name_rest(line: &[u8], from: usize) -> usize
     requires { ⌜ from ≤ length (now line) ⌝ }
     ensures { λ r. ⌜ r ≡ nameEnd (now (line .entry)) from ⌝ }
     ensures { λ r. ⌜ r ≤ length (now (line .entry)) ⌝ }
@@ -71,6 +92,23 @@ fn name_end(line: &[u8], from: usize) -> usize
         i += 1;
     }
     i
+}
+
+// The end of the bytes of names that stand from `from` on: four bytes at a time, then one.
+fn name_end(line: &[u8], from: usize) -> usize
+    requires { ⌜ from ≤ length (now line) ⌝ }
+    ensures { λ r. ⌜ r ≡ nameEnd (now (line .entry)) from ⌝ }
+    ensures { λ r. ⌜ r ≤ length (now (line .entry)) ⌝ }
+{
+    let mut i = from;
+    while line.len() - i >= 4 {
+        let k = names_of_four(line, i);
+        if k < 4 {
+            return i + k;
+        }
+        i += 4;
+    }
+    name_rest(line, i)
 }
 
 // Whether a line has so many fields, all filled; then `marks` tells where each starts and ends.

@@ -1,3 +1,4 @@
 pub mod Laws
+pub mod Fours
 pub mod Lines
 pub mod Words

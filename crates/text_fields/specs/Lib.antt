@@ -4,3 +4,4 @@ pub mod Number
 pub mod Words
 pub mod Shape
 pub mod Marks
+pub mod Fours

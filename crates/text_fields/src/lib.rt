@@ -5,6 +5,7 @@ ghost use Prim.Native.Nat.{_+_, _≤_};
 ghost use lib.ListN.{length, drop};
 ghost use Rattle.text_fields.specs.Split.{before, same as sameBytes};
 ghost use Rattle.text_fields.specs.Class.{classOf, isNewline};
+ghost use Rattle.text_fields.specs.Fours.{Passes};
 
 // The class of a byte.
 pub enum ByteClass {
@@ -78,12 +79,33 @@ fn skip(s: &[u8], c: u8) -> usize
     i
 }
 
-// How many bytes stand before the first `c`.
-pub fn scan(s: &[u8], c: u8) -> usize
-    ensures { λ r. ⌜ r ≡ before c (now (s .entry)) ⌝ }
+// How many of the four bytes from i on stand before the first `c`: four where it is none of them.
+fn of_four(s: &[u8], c: u8, i: usize) -> usize
+    requires { ⌜ i + 4 ≤ length (now s) ⌝ }
+    ensures { λ r. ⌜ Passes (before c) (now (s .entry)) i r ⌝ }
+{
+    if s[i] == c {
+        return 0;
+    }
+    if s[i + 1] == c {
+        return 1;
+    }
+    if s[i + 2] == c {
+        return 2;
+    }
+    if s[i + 3] == c {
+        return 3;
+    }
+    4
+}
+
+// How many bytes stand before the first `c`, which is sought from `from` on, one byte at a time.
+fn scan_rest(s: &[u8], c: u8, from: usize) -> usize
+    requires { ⌜ from ≤ length (now s) ⌝ }
+    ensures { λ r. ⌜ r ≡ from + before c (drop from (now (s .entry))) ⌝ }
     ensures { λ r. ⌜ r ≤ length (now (s .entry)) ⌝ }
 {
-    let mut i = skip(s, c);
+    let mut i = from;
     while i < s.len() {
         if s[i] == c {
             return i;
@@ -91,6 +113,22 @@ pub fn scan(s: &[u8], c: u8) -> usize
         i += 1;
     }
     i
+}
+
+// How many bytes stand before the first `c`: it is sought sixteen bytes at a time, then four, then one.
+pub fn scan(s: &[u8], c: u8) -> usize
+    ensures { λ r. ⌜ r ≡ before c (now (s .entry)) ⌝ }
+    ensures { λ r. ⌜ r ≤ length (now (s .entry)) ⌝ }
+{
+    let mut i = skip(s, c);
+    while s.len() - i >= 4 {
+        let k = of_four(s, c, i);
+        if k < 4 {
+            return i + k;
+        }
+        i += 4;
+    }
+    scan_rest(s, c, i)
 }
 
 // Whether two slices hold the same bytes. All bytes are compared, with no way out: so several are compared at once.

@@ -1,11 +1,10 @@
--- The end of the bytes of names from a place on: those from i on end at the same place.
+-- Four bytes at a time, then one: the bytes of names from i on end at the same place.
 use Prim.Native.Nat.{_≤_, _-_, _+_}
-use mathlib.Core.Path.{_≡_, refl, sym, _∙_}
+use mathlib.Core.Path.{_≡_, refl, _∙_}
 use native.Mathlib.Omega.{arith}
-use borrow.Author.Tests.{not-true, not-false}
 use lib.ListN.{length, drop}
 use Rattle.text_fields.specs.Class.{run, nameEnd}
-use Rattle.text_columns.proofs.Cut.{run-more, run-stop, run-end}
+use Rattle.text_fields.proofs.Fours.{ends-there, goes-on}
 use Rattle.text_columns.proofs.name_end.Statement.{statement}
 use Rattle.text_columns.proofs.name_end.Tie as tie
 
@@ -18,18 +17,20 @@ abbrev μ-loop : tie.MeasureT-loop
 loop-holds : tie.Need-loop-holds Inv-loop μ-loop
 loop-holds c = (omega arith, refl)
 
-shared-slice-read-is-name-byte : tie.Need-shared-slice-read-is-name-byte Inv-loop μ-loop
-shared-slice-read-is-name-byte c = omega arith
+sub-loop : tie.Need-sub-loop Inv-loop μ-loop
+sub-loop c = omega arith
 
-is-name-byte-requires : tie.Need-is-name-byte-requires Inv-loop μ-loop
-is-name-byte-requires c κs = tt
+names-of-four-requires : tie.Need-names-of-four-requires Inv-loop μ-loop
+names-of-four-requires c κs = omega arith
+
+add-result : tie.Need-add-result Inv-loop μ-loop
+add-result c = omega (arith, c .before .names-of-four .ensures .most)
 
 returns : tie.Need-returns Inv-loop μ-loop
 returns c =
-    let told = c .before in
-    let l = told .before .before .before in
-    let e = run-stop (l .before .before .args .line .now) (l .loop .i) (omega arith) (sym (told .is-name-byte .ensures) ∙ not-true _ (c .if1 .taken)) in
-    (omega (arith, l .loop .inv .1), l .loop .inv .0)
+    let asked = c .before in
+    let at-loop = asked .before .before in
+    (ends-there (asked .names-of-four .ensures) (c .if1 .taken) ∙ at-loop .loop .inv .1, omega (arith, asked .names-of-four .ensures .most))
 
 add-i : tie.Need-add-i Inv-loop μ-loop
 add-i c = omega arith
@@ -39,16 +40,15 @@ loop-less c = omega arith
 
 loop-again : tie.Need-loop-again Inv-loop μ-loop
 loop-again c =
-    let told = c .before in
-    let l = told .before .before .before in
-    let e = run-more (l .before .before .args .line .now) (l .loop .i) (omega arith) (sym (told .is-name-byte .ensures) ∙ not-false _ (c .if1 .left)) in
-    (omega arith, omega (arith, l .loop .inv .1))
+    let asked = c .before in
+    let at-loop = asked .before .before in
+    (omega arith, goes-on (asked .names-of-four .ensures) (c .if1 .left) ∙ at-loop .loop .inv .1)
+
+name-rest-requires : tie.Need-name-rest-requires Inv-loop μ-loop
+name-rest-requires c κs = omega arith
 
 returns-2 : tie.Need-returns-2 Inv-loop μ-loop
-returns-2 c =
-    let l = c .before in
-    let e = run-end (l .before .before .args .line .now) (l .loop .i) (omega arith) in
-    (omega (arith, l .loop .inv .1), l .loop .inv .0)
+returns-2 c = let e = c .name-rest .ensures in (e .0 ∙ c .before .before .loop .inv .1, e .1)
 
 pub name-end-spec : {M : Type 1} → statement M
 name-end-spec =
@@ -57,10 +57,12 @@ name-end-spec =
     Inv-loop
     μ-loop
     loop-holds
-    shared-slice-read-is-name-byte
-    is-name-byte-requires
+    sub-loop
+    names-of-four-requires
+    add-result
     returns
     add-i
     loop-less
     loop-again
+    name-rest-requires
     returns-2)
