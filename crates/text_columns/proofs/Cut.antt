@@ -1,17 +1,18 @@
 -- Laws of a line cut at its spaces: the bytes of names at the front of what is left, and what they say of the fields.
 use Prim.Native.Nat.{ℕ, suc, _+_, _≤_, _<_}
 use mathlib.Core.Path.{_≡_, refl, sym, _∙_}
-use mathlib.Core.Bool.{Bool, true, false}
+use mathlib.Core.Bool.{Bool, true, false, not}
 use mathlib.Core.Logic.{_⊎_, inl, inr}
 use mathlib.Core.List.{List, [], _∷_}
 use native.Mathlib.Omega.{arith}
 use native.Mathlib.Numerals.{add-one}
-use borrow.Author.Tests.{eq-eqb}
+use borrow.Author.Tests.{eq-eqb, not-true, not-false}
 use lib.Dec.{eqb}
 use lib.ListN.{length, take, drop, getD, drop-of-length-le}
 use lib.Seq.{drop-cons}
 use Rattle.text_fields.specs.Split.{pick, before, prepend, pieces}
 use Rattle.text_fields.specs.Class.{classOf, isName, named, run}
+use Rattle.text_fields.proofs.Fours.{Ends}
 
 -- no separator: one piece
 pub pieces-one : (c : ℕ) (l : List ℕ) → before c l ≡ length l → pieces c l ≡ l ∷ []
@@ -72,3 +73,17 @@ module _ (l : List ℕ) (i : ℕ) where
 
   pub run-end : length l ≤ i → run (drop i l) ≡ 0
   run-end h = rw drop-of-length-le
+
+-- so a search for their end stops at a byte that is part of no name
+pub name-ends : (l : List ℕ) → Ends run l (λ p. isName (classOf (getD l p 0)) ≡ false)
+name-ends l = record { here = run-stop l; further = λ p h n. run-more l p h (go (isName (classOf (getD l p 0))) n) } where
+  go : (b : Bool) → (b ≡ false → ⊥) → b ≡ true
+  go true n = refl
+  go false n = absurd (n refl)
+
+-- what a test of a byte tells
+pub no-name : {b x : Bool} → b ≡ x → not b ≡ true → x ≡ false
+no-name e h = sym e ∙ not-true _ h
+
+pub a-name : {b x : Bool} → b ≡ x → not b ≡ false → x ≡ false → ⊥
+a-name e h q = let z : _≡_ {A = Bool} true false = sym (not-false _ h) ∙ e ∙ q in absurd (let y : _≡_ {A = ℕ} 0 1 = cc in omega arith)
