@@ -68,7 +68,7 @@ fn print_place(line: u64, field: u64) {
 
 // A text that was refused: the result, and the place of the first bad line.
 fn print_refusal(r: ReadOutcome) {
-    print_result(b"refused", 0, r.code, 0);
+    print_result(b"refused", 0, r.number, 0);
     if r.line > 0 {
         print_place(r.line, r.place);
     }
@@ -137,7 +137,7 @@ fn main() {
         io::write_all(STDERR_FILENO, b"standard input could not be read\n");
         return;
     }
-    if r.code == 0 {
+    if r.number == 0 {
         run_log(r, &sorts, &terms, &inputs, &steps);
     } else {
         print_refusal(r);

@@ -16,64 +16,64 @@ use Rattle.reader.specs.declared.ReadOutcome.{ReadOutcome}
 use Rattle.reader.specs.Text.{isSteps, faultOf, counted, outcomeOf}
 use Rattle.text_lines.specs.View.{controlOf}
 use Rattle.text_stream.specs.Stream.{streamOf}
-use Rattle.reader.specs.Stream.{streamFault, streamCode, holdRows, codeOf, leftSheet, Finished}
+use Rattle.reader.specs.Stream.{streamFault, streamNumber, holdRows, numberOf, leftSheet, Finished}
 
 -- the fault, test after test
 module _ (core : Core) (t : List ℕ) (at n : ℕ) where
-  pub fault-line : (core .code ≡ 0 → ⊥)
-      → record { code = core .code; line = core .line; place = core .place } ≡ faultOf (controlOf core t) (eqb at 0) n
-  fault-line h = rw (ne-eqb (core .code) 0 h)
+  pub fault-line : (core .number ≡ 0 → ⊥)
+      → record { number = core .number; line = core .line; place = core .place } ≡ faultOf (controlOf core t) (eqb at 0) n
+  fault-line h = rw (ne-eqb (core .number) 0 h)
 
-  module _ (good : core .code ≡ 0) {steps : Bool} (steps-is : steps ≡ isSteps (core .sheet)) where
-    pub fault-sheet : {r : Fault} → not steps ≡ true → r ≡ record { code = 31; line = n; place = 0 } → r ≡ faultOf (controlOf core t) (eqb at 0) n
-    fault-sheet h is = is ∙ rw (eq-eqb (core .code) 0 good, sym steps-is ∙ not-true steps h)
+  module _ (good : core .number ≡ 0) {steps : Bool} (steps-is : steps ≡ isSteps (core .sheet)) where
+    pub fault-sheet : {r : Fault} → not steps ≡ true → r ≡ record { number = 31; line = n; place = 0 } → r ≡ faultOf (controlOf core t) (eqb at 0) n
+    fault-sheet h is = is ∙ rw (eq-eqb (core .number) 0 good, sym steps-is ∙ not-true steps h)
 
     module _ (in-steps : not steps ≡ false) where
-      pub fault-header : {r : Fault} → not (core .headed) ≡ true → r ≡ record { code = 31; line = n; place = 0 }
+      pub fault-header : {r : Fault} → not (core .headed) ≡ true → r ≡ record { number = 31; line = n; place = 0 }
           → r ≡ faultOf (controlOf core t) (eqb at 0) n
-      fault-header h is = is ∙ rw (eq-eqb (core .code) 0 good, sym steps-is ∙ not-false steps in-steps, not-true (core .headed) h)
+      fault-header h is = is ∙ rw (eq-eqb (core .number) 0 good, sym steps-is ∙ not-false steps in-steps, not-true (core .headed) h)
 
       module _ (has-header : not (core .headed) ≡ false) where
-        pub fault-rest : {r : Fault} → (at ≡ 0 → ⊥) → r ≡ record { code = 31; line = n; place = 0 } → r ≡ faultOf (controlOf core t) (eqb at 0) n
+        pub fault-rest : {r : Fault} → (at ≡ 0 → ⊥) → r ≡ record { number = 31; line = n; place = 0 } → r ≡ faultOf (controlOf core t) (eqb at 0) n
         fault-rest h is =
-            is ∙ rw (eq-eqb (core .code) 0 good, sym steps-is ∙ not-false steps in-steps, not-false (core .headed) has-header, ne-eqb at 0 h)
+            is ∙ rw (eq-eqb (core .number) 0 good, sym steps-is ∙ not-false steps in-steps, not-false (core .headed) has-header, ne-eqb at 0 h)
 
-        pub fault-none : at ≡ 0 → record { code = 0; line = 0; place = 0 } ≡ faultOf (controlOf core t) (eqb at 0) n
+        pub fault-none : at ≡ 0 → record { number = 0; line = 0; place = 0 } ≡ faultOf (controlOf core t) (eqb at 0) n
         fault-none h =
-            rw (eq-eqb (core .code) 0 good, sym steps-is ∙ not-false steps in-steps, not-false (core .headed) has-header, eq-eqb at 0 h)
+            rw (eq-eqb (core .number) 0 good, sym steps-is ∙ not-false steps in-steps, not-false (core .headed) has-header, eq-eqb at 0 h)
 
 -- what is returned
-pub outcome-counts : (code : ℕ) (f : Fault) (n : Counts) (t : List ℕ) (a b c d : ℕ)
-    → a ≡ counted code (n .sorts) → b ≡ counted code (n .terms) → c ≡ counted code (n .inputs) → d ≡ counted code (n .steps)
-    → _≡_ {A = ReadOutcome} (record { code = code; sorts = a; terms = b; inputs = c; steps = d; line = f .line; place = f .place })
-    (outcomeOf code f (keptOf n t))
-outcome-counts code f n t a b c d p q r s = rw (p, q, r, s, length-names t 0 (n .sorts), length-names t 32 (n .terms))
+pub outcome-counts : (number : ℕ) (f : Fault) (n : Counts) (t : List ℕ) (a b c d : ℕ)
+    → a ≡ counted number (n .sorts) → b ≡ counted number (n .terms) → c ≡ counted number (n .inputs) → d ≡ counted number (n .steps)
+    → _≡_ {A = ReadOutcome} (record { number = number; sorts = a; terms = b; inputs = c; steps = d; line = f .line; place = f .place })
+    (outcomeOf number f (keptOf n t))
+outcome-counts number f n t a b c d p q r s = rw (p, q, r, s, length-names t 0 (n .sorts), length-names t 32 (n .terms))
 
 -- the end
 module _ (f : Progress) (line t a b c d : List ℕ)
     (fault : Fault) (is : fault ≡ faultOf (controlOf (f .core) t) (eqb (f .pos .at) 0) (f .pos .line))
     (room : Bool) (has : room ≡ holdRows (f .core .counts .sorts) (f .core .counts .terms) (f .core .counts .inputs) (f .core .counts .steps)
     (length a) (length b) (length c) (length d))
-    (code : ℕ) (code-of : code ≡ codeOf (fault .code) room) where
+    (number : ℕ) (number-of : number ≡ numberOf (fault .number) room) where
   fault-is : fault ≡ streamFault (streamOf f line t a b c d)
   unfolding streamFault
   fault-is = is
 
-  code-is : code ≡ streamCode (streamOf f line t a b c d)
-  unfolding streamCode
-  code-is = code-of ∙ rw (has, fault-is, length-names t 0 (f .core .counts .sorts), length-names t 32 (f .core .counts .terms))
+  number-is : number ≡ streamNumber (streamOf f line t a b c d)
+  unfolding streamNumber
+  number-is = number-of ∙ rw (has, fault-is, length-names t 0 (f .core .counts .sorts), length-names t 32 (f .core .counts .terms))
 
-  pub finished : (r : ReadOutcome) (line′ names′ a′ b′ c′ d′ : List ℕ) → r ≡ outcomeOf code fault (keptOf (f .core .counts) t)
+  pub finished : (r : ReadOutcome) (line′ names′ a′ b′ c′ d′ : List ℕ) → r ≡ outcomeOf number fault (keptOf (f .core .counts) t)
       → line′ ≡ replicate 526 0 → names′ ≡ replicate 55392 0
-      → a′ ≡ leftSheet code a → b′ ≡ leftSheet code b → c′ ≡ leftSheet code c → d′ ≡ leftSheet code d
+      → a′ ≡ leftSheet number a → b′ ≡ leftSheet number b → c′ ≡ leftSheet number c → d′ ≡ leftSheet number d
       → Finished (streamOf f line t a b c d) r line′ names′ a′ b′ c′ d′
   finished r line′ names′ a′ b′ c′ d′ o l m p q u v =
       record {
-        outcome-is = o ∙ rw (code-is, fault-is);
+        outcome-is = o ∙ rw (number-is, fault-is);
         line-is = l;
         names-is = m;
-        sorts-is = p ∙ ap (λ (x : ℕ). leftSheet x a) code-is;
-        terms-is = q ∙ ap (λ (x : ℕ). leftSheet x b) code-is;
-        inputs-is = u ∙ ap (λ (x : ℕ). leftSheet x c) code-is;
-        steps-is = v ∙ ap (λ (x : ℕ). leftSheet x d) code-is;
+        sorts-is = p ∙ ap (λ (x : ℕ). leftSheet x a) number-is;
+        terms-is = q ∙ ap (λ (x : ℕ). leftSheet x b) number-is;
+        inputs-is = u ∙ ap (λ (x : ℕ). leftSheet x c) number-is;
+        steps-is = v ∙ ap (λ (x : ℕ). leftSheet x d) number-is;
       }

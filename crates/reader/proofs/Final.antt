@@ -11,9 +11,9 @@ use Rattle.text_names.specs.Table.{padTo}
 use Rattle.text_names.proofs.Laws.{length-padTo}
 use Rattle.text_stream.specs.declared.Progress.{Progress}
 use Rattle.reader.specs.declared.ReadOutcome.{ReadOutcome}
-use Rattle.reader.specs.Text.{Lent, lentOf, last, linesFold, startState, fits, textState, textFault, textCode, textOutcome, textSheet, TextRead}
+use Rattle.reader.specs.Text.{Lent, lentOf, last, linesFold, startState, fits, textState, textFault, textNumber, textOutcome, textSheet, TextRead}
 use Rattle.text_stream.specs.Stream.{Stream, feedAll, freshStream, streamOf}
-use Rattle.reader.specs.Stream.{startProgress, streamFault, streamCode, holdRows, leftSheet, Begun, Finished}
+use Rattle.reader.specs.Stream.{startProgress, streamFault, streamNumber, holdRows, leftSheet, Begun, Finished}
 use Rattle.text_lines.proofs.Sheets.{pad-none}
 use Rattle.reader.proofs.Sizes.{sized-sorts, sized-terms, sized-inputs, sized-steps}
 use Rattle.reader.proofs.Whole.{Follows, reached, padded, whole-text}
@@ -29,9 +29,9 @@ no-rest [] n e = rw e
 no-rest (x ∷ xs) n e = ne-eqb n 0 (λ z. omega (arith, e))
 
 -- a sheet at the end
-left-padded : (code n : ℕ) (rows : List ℕ) → leftSheet code (padTo n rows) ≡ textSheet code n rows
+left-padded : (number n : ℕ) (rows : List ℕ) → leftSheet number (padTo n rows) ≡ textSheet number n rows
 unfolding textSheet
-left-padded code n rows = rw (length-padTo n rows)
+left-padded number n rows = rw (length-padTo n rows)
 
 module _ (n : Lent) (bs : List ℕ) (s : Stream) (is : s ≡ feedAll (freshStream (padded n startState)) bs) where
   ran : Follows n s (reached 1 startState (pieces 10 bs))
@@ -68,20 +68,20 @@ module _ (n : Lent) (bs : List ℕ) (s : Stream) (is : s ≡ feedAll (freshStrea
         sized-steps st z,
       )
 
-  code-is : streamCode s ≡ textCode n bs
-  unfolding streamCode textCode
-  code-is = rw (fault-is, room-is)
+  number-is : streamNumber s ≡ textNumber n bs
+  unfolding streamNumber textNumber
+  number-is = rw (fault-is, room-is)
 
   pub read-is : (r : ReadOutcome) (line′ names′ a′ b′ c′ d′ : List ℕ) → Finished s r line′ names′ a′ b′ c′ d′ → TextRead bs n r a′ b′ c′ d′
   unfolding textOutcome
   read-is r line′ names′ a′ b′ c′ d′ h =
       let st = textState bs in
       record {
-        outcome-is = h .outcome-is ∙ rw (code-is, fault-is, control-is);
-        sorts-is = h .sorts-is ∙ rw (code-is, sheets-are) (left-padded (textCode n bs) (n .sorts) (st .sorts));
-        terms-is = h .terms-is ∙ rw (code-is, sheets-are) (left-padded (textCode n bs) (n .terms) (st .terms));
-        inputs-is = h .inputs-is ∙ rw (code-is, sheets-are) (left-padded (textCode n bs) (n .inputs) (st .inputs));
-        steps-is = h .steps-is ∙ rw (code-is, sheets-are) (left-padded (textCode n bs) (n .steps) (st .steps));
+        outcome-is = h .outcome-is ∙ rw (number-is, fault-is, control-is);
+        sorts-is = h .sorts-is ∙ rw (number-is, sheets-are) (left-padded (textNumber n bs) (n .sorts) (st .sorts));
+        terms-is = h .terms-is ∙ rw (number-is, sheets-are) (left-padded (textNumber n bs) (n .terms) (st .terms));
+        inputs-is = h .inputs-is ∙ rw (number-is, sheets-are) (left-padded (textNumber n bs) (n .inputs) (st .inputs));
+        steps-is = h .steps-is ∙ rw (number-is, sheets-are) (left-padded (textNumber n bs) (n .steps) (st .steps));
       }
 
 -- a whole text, begun, fed and finished

@@ -46,9 +46,9 @@ grown-none Steps s = rw (add-none (s .steps))
 Adds : Sheet → Kept → Taken → Type 0
 Adds sheet k t = sizesOf (t .kept) ≡ grown sheet (sizesOf k) (length (t .cells))
 
-adds-refused : (sheet : Sheet) (k : Kept) (code place : ℕ) → Adds sheet k (refused k code place)
+adds-refused : (sheet : Sheet) (k : Kept) (number place : ℕ) → Adds sheet k (refused k number place)
 unfolding Adds
-adds-refused sheet k code place = grown-none sheet (sizesOf k)
+adds-refused sheet k number place = grown-none sheet (sizesOf k)
 
 adds-shaped : (sheet : Sheet) (k : Kept) (s : Shape) (t : Taken) → Adds sheet k t → Adds sheet k (shaped k s t)
 adds-shaped sheet k Good t h = h
@@ -145,7 +145,7 @@ grows-numbered c n e h = h
 
 grows-line : (c : Control) (n : ℕ) (l : List ℕ) → Grows c (lineEffect c n l)
 unfolding lineEffect
-grows-line c n l = one (eqb (c .code) 0) where
+grows-line c n l = one (eqb (c .number) 0) where
   two : (b : Bool) → Grows c (pick b (readLine (numbered c n) l) (bad (numbered c n) 31 0))
   two true = grows-numbered c n (readLine (numbered c n) l) (grows-read (numbered c n) l)
   two false = grows-quiet c _ refl

@@ -8,7 +8,7 @@ use Rattle.text_fields.specs.Words.{refOf}
 use Rattle.text_fields.specs.Shape.{shapeOf}
 use Rattle.text_rows.specs.Rows.{isTaken, headOf, sortRow, termRow, inputRow, stepRow}
 use Rattle.text_lines.specs.Lines.{readLine, lineEffect}
-use Rattle.reader.specs.Text.{Lent, lineStep, textState, textFault, textCode, textOutcome, textSheet}
+use Rattle.reader.specs.Text.{Lent, lineStep, textState, textFault, textNumber, textOutcome, textSheet}
 use Rattle.reader.specs.declared.ReadOutcome.{ReadOutcome}
 
 -- what a text that is read leaves in the four sheets
@@ -28,10 +28,10 @@ abbrev pub reading : Example → Left
 reading e =
     record {
       outcome = textOutcome (e .lent) (e .text);
-      sorts = textSheet (textCode (e .lent) (e .text)) (e .lent .sorts) (textState (e .text) .sorts);
-      terms = textSheet (textCode (e .lent) (e .text)) (e .lent .terms) (textState (e .text) .terms);
-      inputs = textSheet (textCode (e .lent) (e .text)) (e .lent .inputs) (textState (e .text) .inputs);
-      steps = textSheet (textCode (e .lent) (e .text)) (e .lent .steps) (textState (e .text) .steps);
+      sorts = textSheet (textNumber (e .lent) (e .text)) (e .lent .sorts) (textState (e .text) .sorts);
+      terms = textSheet (textNumber (e .lent) (e .text)) (e .lent .terms) (textState (e .text) .terms);
+      inputs = textSheet (textNumber (e .lent) (e .text)) (e .lent .inputs) (textState (e .text) .inputs);
+      steps = textSheet (textNumber (e .lent) (e .text)) (e .lent .steps) (textState (e .text) .steps);
     }
 
 -- four sheets of so many numbers
@@ -40,13 +40,13 @@ lend a b c d = record { sorts = a; terms = b; inputs = c; steps = d }
 
 -- a text that leaves no rows in sheets of 4, 12, 4 and 9 numbers: the number, the line and the place
 noRows : List ℕ → ℕ → ℕ → ℕ → Example
-noRows text code line place =
+noRows text number line place =
     record {
       text = text;
       lent = lend 4 12 4 9;
       left =
           record {
-            outcome = record { code = code; sorts = 0; terms = 0; inputs = 0; steps = 0; line = line; place = place };
+            outcome = record { number = number; sorts = 0; terms = 0; inputs = 0; steps = 0; line = line; place = place };
             sorts = replicate 4 0;
             terms = replicate 12 0;
             inputs = replicate 4 0;
@@ -74,7 +74,7 @@ table =
       lent = lend 4 38 4 9;
       left =
           record {
-            outcome = record { code = 0; sorts = 1; terms = 6; inputs = 2; steps = 1; line = 0; place = 0 };
+            outcome = record { number = 0; sorts = 1; terms = 6; inputs = 2; steps = 1; line = 0; place = 0 };
             sorts = 65535 ∷ 65535 ∷ 0 ∷ 0 ∷ [];
             terms =
                 16 ∷ 1 ∷ 65535 ∷ 65535 ∷ 65535 ∷ 65535 ∷ 17 ∷ 1 ∷ 65535 ∷ 65535 ∷ 65535 ∷ 65535 ∷ 0 ∷ 0 ∷ 0 ∷ 1 ∷ 65535 ∷ 65535
@@ -130,7 +130,7 @@ table =
       lent = lend 2 18 2 9;
       left =
           record {
-            outcome = record { code = 0; sorts = 1; terms = 3; inputs = 1; steps = 1; line = 0; place = 0 };
+            outcome = record { number = 0; sorts = 1; terms = 3; inputs = 1; steps = 1; line = 0; place = 0 };
             sorts = 0 ∷ 65534 ∷ [];
             terms = 16 ∷ 65534 ∷ 65534 ∷ 65535 ∷ 65535 ∷ 65535 ∷ 0 ∷ 0 ∷ 65534 ∷ 0 ∷ 65535 ∷ 65535 ∷ 65535 ∷ 1 ∷ 65535 ∷ 65535 ∷ 65535 ∷ 65535 ∷ [];
             inputs = 1 ∷ 65534 ∷ [];
@@ -140,5 +140,5 @@ table =
     ∷ []
 
 pub readings : map reading table ≡ map (λ (e : Example). e .left) table
-unfolding table listing sorts32 lend noRows refOf shapeOf isTaken headOf sortRow termRow inputRow stepRow readLine lineEffect lineStep textState textFault textCode textOutcome textSheet
+unfolding table listing sorts32 lend noRows refOf shapeOf isTaken headOf sortRow termRow inputRow stepRow readLine lineEffect lineStep textState textFault textNumber textOutcome textSheet
 readings = refl

@@ -21,7 +21,7 @@ startProgress =
       pos = record { line = 1; at = 0 };
       core =
           record {
-            code = 0;
+            number = 0;
             place = 0;
             line = 0;
             sheet = Sorts;
@@ -48,28 +48,28 @@ abbrev pub holdRows : ℕ → ℕ → ℕ → ℕ → ℕ → ℕ → ℕ → �
 holdRows sorts terms inputs steps a b c d =
     pick (leb (sorts * 2) a) (pick (leb (terms * 6) b) (pick (leb (inputs * 2) c) (leb (steps * 9) d) false) false) false
 
-abbrev pub codeOf : ℕ → Bool → ℕ
-codeOf code room = pick (eqb code 0) (pick room 0 32) code
+abbrev pub numberOf : ℕ → Bool → ℕ
+numberOf number room = pick (eqb number 0) (pick room 0 32) number
 
-unfoldable pub streamCode : Stream → ℕ
-streamCode s =
-    codeOf (streamFault s .code)
+unfoldable pub streamNumber : Stream → ℕ
+streamNumber s =
+    numberOf (streamFault s .number)
     (holdRows (length (s .control .kept .sorts)) (length (s .control .kept .terms)) (s .control .kept .inputs) (s .control .kept .steps)
     (length (s .sheets .sorts)) (length (s .sheets .terms)) (length (s .sheets .inputs)) (length (s .sheets .steps)))
 
 -- a sheet after a refusal is all zero
 abbrev pub leftSheet : ℕ → List ℕ → List ℕ
-leftSheet code sheet = pick (eqb code 0) sheet (replicate (length sheet) 0)
+leftSheet number sheet = pick (eqb number 0) sheet (replicate (length sheet) 0)
 
 -- a text that has been finished: what is returned, the four sheets, and the other buffers, which are all zero
 pub record Finished (s : Stream) (r : ReadOutcome) (line′ names′ sorts′ terms′ inputs′ steps′ : List ℕ) : Type 0 where
-  pub outcome-is : r ≡ outcomeOf (streamCode s) (streamFault s) (s .control .kept)
+  pub outcome-is : r ≡ outcomeOf (streamNumber s) (streamFault s) (s .control .kept)
   pub line-is : line′ ≡ replicate 526 0
   pub names-is : names′ ≡ replicate 55392 0
-  pub sorts-is : sorts′ ≡ leftSheet (streamCode s) (s .sheets .sorts)
-  pub terms-is : terms′ ≡ leftSheet (streamCode s) (s .sheets .terms)
-  pub inputs-is : inputs′ ≡ leftSheet (streamCode s) (s .sheets .inputs)
-  pub steps-is : steps′ ≡ leftSheet (streamCode s) (s .sheets .steps)
+  pub sorts-is : sorts′ ≡ leftSheet (streamNumber s) (s .sheets .sorts)
+  pub terms-is : terms′ ≡ leftSheet (streamNumber s) (s .sheets .terms)
+  pub inputs-is : inputs′ ≡ leftSheet (streamNumber s) (s .sheets .inputs)
+  pub steps-is : steps′ ≡ leftSheet (streamNumber s) (s .sheets .steps)
 
 -- ---- a text in pieces
 

@@ -69,10 +69,10 @@ isSteps Steps = true
 -- the first bad line's; a file that ends before the step sheet's header, or inside a line (`whole` is false), is 31 at the line where it ends
 abbrev pub faultOf : Control → Bool → ℕ → Fault
 faultOf c whole n =
-    pick (eqb (c .code) 0)
-    (pick (isSteps (c .sheet)) (pick (c .headed) (pick whole (record { code = 0; line = 0; place = 0 }) (record { code = 31; line = n; place = 0 }))
-    (record { code = 31; line = n; place = 0 })) (record { code = 31; line = n; place = 0 }))
-    (record { code = c .code; line = c .line; place = c .place })
+    pick (eqb (c .number) 0)
+    (pick (isSteps (c .sheet)) (pick (c .headed) (pick whole (record { number = 0; line = 0; place = 0 }) (record { number = 31; line = n; place = 0 }))
+    (record { number = 31; line = n; place = 0 })) (record { number = 31; line = n; place = 0 }))
+    (record { number = c .number; line = c .line; place = c .place })
 
 unfoldable pub textFault : List ℕ → Fault
 textFault bs = faultOf (textState bs .control) (same (last (pieces 10 bs)) []) (lastLine 1 (pieces 10 bs))
@@ -95,37 +95,37 @@ fits n s =
     false
 
 -- the number that a text gives: that of its fault; 32 where a sheet is short; else 0
-unfoldable pub textCode : Lent → List ℕ → ℕ
-textCode n bs = pick (eqb (textFault bs .code) 0) (pick (fits n (textState bs)) 0 32) (textFault bs .code)
+unfoldable pub textNumber : Lent → List ℕ → ℕ
+textNumber n bs = pick (eqb (textFault bs .number) 0) (pick (fits n (textState bs)) 0 32) (textFault bs .number)
 
 -- counts are 0 after a refusal
 abbrev pub counted : ℕ → ℕ → ℕ
-counted code n = pick (eqb code 0) n 0
+counted number n = pick (eqb number 0) n 0
 
 abbrev pub outcomeOf : ℕ → Fault → Kept → ReadOutcome
-outcomeOf code f k =
+outcomeOf number f k =
     record {
-      code = code;
-      sorts = counted code (length (k .sorts));
-      terms = counted code (length (k .terms));
-      inputs = counted code (k .inputs);
-      steps = counted code (k .steps);
+      number = number;
+      sorts = counted number (length (k .sorts));
+      terms = counted number (length (k .terms));
+      inputs = counted number (k .inputs);
+      steps = counted number (k .steps);
       line = f .line;
       place = f .place;
     }
 
 -- what the reading of a text returns
 unfoldable pub textOutcome : Lent → List ℕ → ReadOutcome
-textOutcome n bs = outcomeOf (textCode n bs) (textFault bs) (textState bs .control .kept)
+textOutcome n bs = outcomeOf (textNumber n bs) (textFault bs) (textState bs .control .kept)
 
 -- what a sheet of n numbers holds: the rows and then zeros, or zeros after a refusal
 unfoldable pub textSheet : ℕ → ℕ → List ℕ → List ℕ
-textSheet code n rows = pick (eqb code 0) (padTo n rows) (replicate n 0)
+textSheet number n rows = pick (eqb number 0) (padTo n rows) (replicate n 0)
 
 -- a text that has been read
 pub record TextRead (bs : List ℕ) (n : Lent) (r : ReadOutcome) (sorts′ terms′ inputs′ steps′ : List ℕ) : Type 0 where
   pub outcome-is : r ≡ textOutcome n bs
-  pub sorts-is : sorts′ ≡ textSheet (textCode n bs) (n .sorts) (textState bs .sorts)
-  pub terms-is : terms′ ≡ textSheet (textCode n bs) (n .terms) (textState bs .terms)
-  pub inputs-is : inputs′ ≡ textSheet (textCode n bs) (n .inputs) (textState bs .inputs)
-  pub steps-is : steps′ ≡ textSheet (textCode n bs) (n .steps) (textState bs .steps)
+  pub sorts-is : sorts′ ≡ textSheet (textNumber n bs) (n .sorts) (textState bs .sorts)
+  pub terms-is : terms′ ≡ textSheet (textNumber n bs) (n .terms) (textState bs .terms)
+  pub inputs-is : inputs′ ≡ textSheet (textNumber n bs) (n .inputs) (textState bs .inputs)
+  pub steps-is : steps′ ≡ textSheet (textNumber n bs) (n .steps) (textState bs .steps)

@@ -8,7 +8,7 @@ ghost use Rattle.text_rows.specs.View.{keptOf, Bounded};
 ghost use Rattle.text_lines.specs.View.{controlOf};
 ghost use Rattle.text_stream.specs.Stream.{streamOf};
 ghost use Rattle.reader.specs.Text.{isSteps, faultOf, counted, lentOf, outcomeOf, TextRead};
-ghost use Rattle.reader.specs.Stream.{holdRows, codeOf, leftSheet, Begun, Finished};
+ghost use Rattle.reader.specs.Stream.{holdRows, numberOf, leftSheet, Begun, Finished};
 use text_lines::Core;
 use text_lines::Sheet;
 use text_position::Position;
@@ -17,7 +17,7 @@ use text_stream::Progress;
 
 // A fault: its number, its line and its place; all 0 where there is none.
 struct Fault {
-    code: u16,
+    number: u16,
     line: u64,
     place: u64,
 }
@@ -25,7 +25,7 @@ struct Fault {
 // What the reading of a text returns: its number, the rows of the four sheets, and line and place of the first bad line.
 #[repr(C)]
 pub struct ReadOutcome {
-    pub code: u16,
+    pub number: u16,
     pub sorts: u16,
     pub terms: u16,
     pub inputs: u16,
@@ -74,7 +74,7 @@ pub fn begin(
     Progress {
         pos: Position { line: 1, at: 0 },
         core: Core {
-            code: 0,
+            number: 0,
             place: 0,
             line: 0,
             sheet: Sheet::Sorts,
@@ -104,10 +104,10 @@ fn is_last(sheet: Sheet) -> bool
 
 // A file that ends too early, in line n.
 fn early_end(n: usize) -> Fault
-    ensures { λ r. ⌜ r ≡ record { code = 31; line = n; place = 0 } ⌝ }
+    ensures { λ r. ⌜ r ≡ record { number = 31; line = n; place = 0 } ⌝ }
 {
     Fault {
-        code: 31,
+        number: 31,
         line: n as u64,
         place: 0,
     }
@@ -117,10 +117,10 @@ fn early_end(n: usize) -> Fault
 fn fault_of(core: Core, at: usize, n: usize) -> Fault
     ensures { λ r. ⌜ ((t : List ℕ) → r ≡ faultOf (controlOf core t) (eqb at 0) n) ⌝ }
 {
-    let code = core.code;
-    if code != 0 {
+    let number = core.number;
+    if number != 0 {
         return Fault {
-            code,
+            number,
             line: core.line as u64,
             place: core.place as u64,
         };
@@ -136,7 +136,7 @@ fn fault_of(core: Core, at: usize, n: usize) -> Fault
         return early_end(n);
     }
     Fault {
-        code: 0,
+        number: 0,
         line: 0,
         place: 0,
     }
@@ -160,11 +160,11 @@ fn holds_rows(counts: Counts, a: usize, b: usize, c: usize, d: usize) -> bool
 }
 
 // The number that the text gives.
-fn final_code(code: u16, room: bool) -> u16
-    ensures { λ r. ⌜ r ≡ codeOf code room ⌝ }
+fn final_number(number: u16, room: bool) -> u16
+    ensures { λ r. ⌜ r ≡ numberOf number room ⌝ }
 {
-    if code != 0 {
-        return code;
+    if number != 0 {
+        return number;
     }
     if room {
         return 0;
@@ -173,37 +173,37 @@ fn final_code(code: u16, room: bool) -> u16
 }
 
 // A count that is returned: 0 after a refusal.
-fn count_rows(code: u16, n: usize) -> u16
+fn count_rows(number: u16, n: usize) -> u16
     requires { ⌜ n ≤ 1024 ⌝ }
-    ensures { λ r. ⌜ r ≡ counted code n ⌝ }
+    ensures { λ r. ⌜ r ≡ counted number n ⌝ }
 {
-    if code != 0 {
+    if number != 0 {
         return 0;
     }
     n as u16
 }
 
 // What is returned.
-fn outcome_of(code: u16, fault: Fault, counts: Counts) -> ReadOutcome
+fn outcome_of(number: u16, fault: Fault, counts: Counts) -> ReadOutcome
     requires { ⌜ Bounded counts ⌝ }
-    ensures { λ r. ⌜ ((t : List ℕ) → r ≡ outcomeOf code fault (keptOf counts t)) ⌝ }
+    ensures { λ r. ⌜ ((t : List ℕ) → r ≡ outcomeOf number fault (keptOf counts t)) ⌝ }
 {
     ReadOutcome {
-        code,
-        sorts: count_rows(code, counts.sorts),
-        terms: count_rows(code, counts.terms),
-        inputs: count_rows(code, counts.inputs),
-        steps: count_rows(code, counts.steps),
+        number,
+        sorts: count_rows(number, counts.sorts),
+        terms: count_rows(number, counts.terms),
+        inputs: count_rows(number, counts.inputs),
+        steps: count_rows(number, counts.steps),
         line: fault.line,
         place: fault.place,
     }
 }
 
 // A sheet at the end: zeros after a refusal.
-fn leave_sheet(code: u16, sheet: &mut [u16])
-    ensures { λ _. ⌜ now (sheet .exit) ≡ leftSheet code (now (sheet .entry)) ⌝ }
+fn leave_sheet(number: u16, sheet: &mut [u16])
+    ensures { λ _. ⌜ now (sheet .exit) ≡ leftSheet number (now (sheet .entry)) ⌝ }
 {
-    if code != 0 {
+    if number != 0 {
         clear_numbers(sheet);
     }
 }
@@ -229,14 +229,14 @@ pub fn finish(
     let counts = core.counts;
     let fault = fault_of(core, pos.at, pos.line);
     let room = holds_rows(counts, sorts.len(), terms.len(), inputs.len(), steps.len());
-    let code = final_code(fault.code, room);
+    let number = final_number(fault.number, room);
     clear_bytes(line);
     clear_bytes(names);
-    leave_sheet(code, sorts);
-    leave_sheet(code, terms);
-    leave_sheet(code, inputs);
-    leave_sheet(code, steps);
-    outcome_of(code, fault, counts)
+    leave_sheet(number, sorts);
+    leave_sheet(number, terms);
+    leave_sheet(number, inputs);
+    leave_sheet(number, steps);
+    outcome_of(number, fault, counts)
 }
 
 // A whole text: exported, for other programs that read sheets.

@@ -38,26 +38,26 @@ module _ (c : Control) (l : List ℕ) where
     read-row h = rw (e, filled-same l h)
 
 module _ (c : Control) (n : ℕ) (l : List ℕ) where
-  pub effect-late : (c .code ≡ 0 → ⊥) → quiet c ≡ lineEffect c n l
+  pub effect-late : (c .number ≡ 0 → ⊥) → quiet c ≡ lineEffect c n l
   unfolding lineEffect
-  effect-late h = rw (ne-eqb (c .code) 0 h)
+  effect-late h = rw (ne-eqb (c .number) 0 h)
 
-  module _ (e : c .code ≡ 0) where
+  module _ (e : c .number ≡ 0) where
     pub effect-long : 525 < length l → bad (numbered c n) 31 0 ≡ lineEffect c n l
     unfolding lineEffect
-    effect-long h = rw (eq-eqb (c .code) 0 e, lt-leb (length l) 525 h)
+    effect-long h = rw (eq-eqb (c .number) 0 e, lt-leb (length l) 525 h)
 
     pub effect-read : length l ≤ 525 → readLine (numbered c n) l ≡ lineEffect c n l
     unfolding lineEffect
-    effect-read h = rw (eq-eqb (c .code) 0 e, le-leb (length l) 525 h)
+    effect-read h = rw (eq-eqb (c .number) 0 e, le-leb (length l) 525 h)
 
 -- of a line that is too long the first 526 bytes say so
 pub effect-cut : (c : Control) (n : ℕ) (p : List ℕ) → lineEffect c n (take 526 p) ≡ lineEffect c n p
 unfolding lineEffect
 effect-cut c n p = go (leb (length p) 525) refl where
   go : (t : Bool) → leb (length p) 525 ≡ t
-      → pick (eqb (c .code) 0) (pick (leb (length (take 526 p)) 525) (readLine (numbered c n) (take 526 p)) (bad (numbered c n) 31 0)) (quiet c)
-      ≡ pick (eqb (c .code) 0) (pick (leb (length p) 525) (readLine (numbered c n) p) (bad (numbered c n) 31 0)) (quiet c)
+      → pick (eqb (c .number) 0) (pick (leb (length (take 526 p)) 525) (readLine (numbered c n) (take 526 p)) (bad (numbered c n) 31 0)) (quiet c)
+      ≡ pick (eqb (c .number) 0) (pick (leb (length p) 525) (readLine (numbered c n) p) (bad (numbered c n) 31 0)) (quiet c)
   go true e = let h = leb-true (length p) 525 e in rw (take-all 526 p (omega arith))
   go false e =
       let h = leb-false (length p) 525 e in

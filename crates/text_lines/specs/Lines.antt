@@ -13,7 +13,7 @@ use Rattle.text_lines.specs.declared.Sheet.the-variants.{Sorts, Terms, I
 -- where the reading of lines stands: the number and the place of the first bad line's fault, 0 where no line is bad; the number of that line, or of
 -- the last one read; the sheet that lines go to, and whether its header was read; what later rows need of earlier ones
 pub record Control : Type 0 where
-  pub code : ℕ
+  pub number : ℕ
   pub place : ℕ
   pub line : ℕ
   pub sheet : Sheet
@@ -30,15 +30,15 @@ quiet c = record { control = c; cells = [] }
 
 -- a bad line
 abbrev pub bad : Control → ℕ → ℕ → Effect
-bad c code place =
+bad c number place =
     quiet
-    (record { code = code; place = place; line = c .line; sheet = c .sheet; headed = c .headed; kept = c .kept })
+    (record { number = number; place = place; line = c .line; sheet = c .sheet; headed = c .headed; kept = c .kept })
 
 -- the lines of a sheet begin, or have begun
 abbrev pub enter : Control → Sheet → Bool → Effect
 enter c sheet headed =
     quiet
-    (record { code = c .code; place = c .place; line = c .line; sheet = sheet; headed = headed; kept = c .kept })
+    (record { number = c .number; place = c .place; line = c .line; sheet = sheet; headed = headed; kept = c .kept })
 
 abbrev pub headerOf : Sheet → List ℕ
 headerOf Sorts = sortHeader
@@ -67,7 +67,7 @@ rowOf Steps k fs = stepRow k fs
 abbrev pub row : Control → Taken → Effect
 row c t =
     record {
-      control = record { code = t .code; place = t .place; line = c .line; sheet = c .sheet; headed = c .headed; kept = t .kept };
+      control = record { number = t .number; place = t .place; line = c .line; sheet = c .sheet; headed = c .headed; kept = t .kept };
       cells = t .cells;
     }
 
@@ -77,16 +77,16 @@ readLine c l =
 
 abbrev pub numbered : Control → ℕ → Control
 numbered c n =
-    record { code = c .code; place = c .place; line = n; sheet = c .sheet; headed = c .headed; kept = c .kept }
+    record { number = c .number; place = c .place; line = n; sheet = c .sheet; headed = c .headed; kept = c .kept }
 
 -- line n: after a bad line nothing is done; a line of more than 525 bytes, the most that nine good fields and eight spaces have, is bad
 unfoldable pub lineEffect : Control → ℕ → List ℕ → Effect
 lineEffect c n l =
-    pick (eqb (c .code) 0) (pick (leb (length l) 525) (readLine (numbered c n) l) (bad (numbered c n) 31 0)) (quiet c)
+    pick (eqb (c .number) 0) (pick (leb (length l) 525) (readLine (numbered c n) l) (bad (numbered c n) 31 0)) (quiet c)
 
 -- before the first line
 abbrev pub nothingKept : Kept
 nothingKept = record { sorts = []; terms = []; heads = []; inputs = 0; steps = 0 }
 
 abbrev pub started : Control
-started = record { code = 0; place = 0; line = 0; sheet = Sorts; headed = false; kept = nothingKept }
+started = record { number = 0; place = 0; line = 0; sheet = Sorts; headed = false; kept = nothingKept }

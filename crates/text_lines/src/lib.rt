@@ -21,7 +21,7 @@ pub enum Sheet {
 
 // Where the reading of lines stands.
 pub struct Core {
-    pub code: u16,
+    pub number: u16,
     pub place: usize,
     pub line: usize,
     pub sheet: Sheet,
@@ -50,15 +50,15 @@ fn quiet_line(core: Core) -> Step
 }
 
 // A bad line.
-fn bad_line(core: Core, code: u16, place: usize) -> Step
+fn bad_line(core: Core, number: u16, place: usize) -> Step
     requires { ⌜ Bounded (core .counts) ⌝ }
-    ensures { λ r. ⌜ ((t : List ℕ) → effectOf r t ≡ bad (controlOf core t) code place) ⌝ }
+    ensures { λ r. ⌜ ((t : List ℕ) → effectOf r t ≡ bad (controlOf core t) number place) ⌝ }
     ensures { λ r. ⌜ StepBounded r ⌝ }
 {
     let sheet = core.sheet;
     let counts = core.counts;
     quiet_line(Core {
-        code,
+        number,
         place,
         line: core.line,
         sheet,
@@ -75,7 +75,7 @@ fn enter_sheet(core: Core, sheet: Sheet, headed: bool) -> Step
 {
     let counts = core.counts;
     quiet_line(Core {
-        code: core.code,
+        number: core.number,
         place: core.place,
         line: core.line,
         sheet,
@@ -149,7 +149,7 @@ fn row_line(core: Core, taken: Row) -> Step
     let cells = taken.cells;
     Step {
         core: Core {
-            code: taken.code,
+            number: taken.number,
             place: taken.place,
             line: core.line,
             sheet,
@@ -187,7 +187,7 @@ fn number_line(core: Core, n: usize) -> Core
     let sheet = core.sheet;
     let counts = core.counts;
     Core {
-        code: core.code,
+        number: core.number,
         place: core.place,
         line: n,
         sheet,
@@ -199,7 +199,7 @@ fn number_line(core: Core, n: usize) -> Core
 // What line n does, after good lines.
 fn line_step(core: Core, n: usize, l: &[u8], names: &mut [u8; 55392]) -> Step
     requires { ⌜ Bounded (core .counts) ⌝ }
-    requires { ⌜ core .code ≡ 0 ⌝ }
+    requires { ⌜ core .number ≡ 0 ⌝ }
     ensures { λ r. ⌜ effectOf r (now (names .exit)) ≡ lineEffect (controlOf core (now (names .entry))) n (now (l .entry)) ⌝ }
     ensures { λ r. ⌜ StepBounded r ⌝ }
 {
@@ -290,7 +290,7 @@ pub fn end_line(
     steps: &mut [u16],
 ) -> Core
     requires { ⌜ Bounded (core .counts) ⌝ }
-    requires { ⌜ core .code ≡ 0 ⌝ }
+    requires { ⌜ core .number ≡ 0 ⌝ }
     ensures { λ r. ⌜ LineEnded (controlOf core (now (names .entry))) n (now (l .entry))
         (sheetsOf (now (sorts .entry)) (now (terms .entry)) (now (inputs .entry)) (now (steps .entry)))
         (controlOf r (now (names .exit)))

@@ -23,14 +23,14 @@ pub record Kept : Type 0 where
 
 -- what a line does: the number and the place of its fault, both 0 where it has none; what is kept; the numbers of its row
 pub record Taken : Type 0 where
-  pub code : ℕ
+  pub number : ℕ
   pub place : ℕ
   pub kept : Kept
   pub cells : List ℕ
 
 -- a bad line changes nothing
 abbrev pub refused : Kept → ℕ → ℕ → Taken
-refused k code place = record { code = code; place = place; kept = k; cells = [] }
+refused k number place = record { number = number; place = place; kept = k; cells = [] }
 
 -- a malformed line is 31; the other tests come after that
 abbrev pub shaped : Kept → Shape → Taken → Taken
@@ -80,7 +80,7 @@ headOf heads f =
 abbrev pub sortAdded : Kept → List (List ℕ) → Taken
 sortAdded k fs =
     record {
-      code = 0;
+      number = 0;
       place = 0;
       kept = record { sorts = k .sorts ++ (getD fs 0 [] ∷ []); terms = k .terms; heads = k .heads; inputs = k .inputs; steps = k .steps };
       cells = sortRef (k .sorts) (getD fs 1 []) ∷ sortRef (k .sorts) (getD fs 2 []) ∷ [];
@@ -100,7 +100,7 @@ termCells k fs =
 abbrev pub termAdded : Kept → List (List ℕ) → Taken
 termAdded k fs =
     record {
-      code = 0;
+      number = 0;
       place = 0;
       kept =
           record {
@@ -121,7 +121,7 @@ termRow k fs =
 abbrev pub inputAdded : Kept → List (List ℕ) → Taken
 inputAdded k fs =
     record {
-      code = 0;
+      number = 0;
       place = 0;
       kept = record { sorts = k .sorts; terms = k .terms; heads = k .heads; inputs = k .inputs + 1; steps = k .steps };
       cells = refOf (k .terms) (getD fs 0 []) ∷ numberOr (value (getD fs 1 [])) ∷ [];
@@ -141,7 +141,7 @@ stepCells k fs =
 abbrev pub stepAdded : Kept → List (List ℕ) → Taken
 stepAdded k fs =
     record {
-      code = 0;
+      number = 0;
       place = 0;
       kept = record { sorts = k .sorts; terms = k .terms; heads = k .heads; inputs = k .inputs; steps = k .steps + 1 };
       cells = stepCells k fs;

@@ -21,7 +21,7 @@ keptOf n table =
 
 abbrev pub takenOf : Row → List ℕ → Taken
 takenOf r table =
-    record { code = r .code; place = r .place; kept = keptOf (r .counts) table; cells = take (r .width) (r .cells) }
+    record { number = r .number; place = r .place; kept = keptOf (r .counts) table; cells = take (r .width) (r .cells) }
 
 -- counts within the ceilings; there is at most one free head for each term
 abbrev pub Bounded : Counts → Type 0

@@ -22,7 +22,7 @@ pub struct Counts {
 
 // What a line of values does: the number and place of its fault, the counts after it, and the first `width` numbers of its row.
 pub struct Row {
-    pub code: u16,
+    pub number: u16,
     pub place: usize,
     pub counts: Counts,
     pub cells: [u16; 9],
@@ -30,13 +30,13 @@ pub struct Row {
 }
 
 // A bad line.
-pub fn refuse(counts: Counts, code: u16, place: usize) -> Row
+pub fn refuse(counts: Counts, number: u16, place: usize) -> Row
     requires { ⌜ Bounded counts ⌝ }
-    ensures { λ r. ⌜ ((t : List ℕ) → takenOf r t ≡ refused (keptOf counts t) code place) ⌝ }
+    ensures { λ r. ⌜ ((t : List ℕ) → takenOf r t ≡ refused (keptOf counts t) number place) ⌝ }
     ensures { λ r. ⌜ Within r ⌝ }
 {
     Row {
-        code,
+        number,
         place,
         counts,
         cells: [0u16; 9],

@@ -63,7 +63,7 @@ module _ (n : Counts) (t name : List ℕ) (size : length t ≡ 55392) (b : Bound
       → index ≡ sortRef (namesFrom t 0 (n .sorts)) (getD fs 1 []) → value ≡ sortRef (namesFrom t 0 (n .sorts)) (getD fs 2 [])
       → name ≡ getD fs 0 [] → isTaken (namesFrom t 0 (n .sorts)) (getD fs 0 []) ≡ false → (t′ : List ℕ) → t′ ≡ withName t 0 (n .sorts) name
       → takenOf (record {
-        code = 0;
+        number = 0;
         place = 0;
         counts = one-sort-more n;
         cells = index ∷ value ∷ 0 ∷ 0 ∷ 0 ∷ 0 ∷ 0 ∷ 0 ∷ 0 ∷ [];

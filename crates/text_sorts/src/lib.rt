@@ -29,7 +29,7 @@ fn put_sort(counts: Counts, line: &[u8], marks: &[usize; 18], names: &mut [u8; 5
     let value = text_rows::sort_column(names, n, line, marks, 2);
     text_names::put_name(names, 0, n, text_columns::field(line, marks, 0));
     Row {
-        code: 0,
+        number: 0,
         place: 0,
         counts: Counts {
             sorts: n + 1,

@@ -40,7 +40,7 @@ module _ (k : Kept) (fs : List (List ℕ)) where
   pub input-added : (a b : ℕ)
       → a ≡ refOf (k .terms) (getD fs 0 []) → b ≡ numberOr (value (getD fs 1 []))
       → record {
-        code = 0;
+        number = 0;
         place = 0;
         kept = record { sorts = k .sorts; terms = k .terms; heads = k .heads; inputs = k .inputs + 1; steps = k .steps };
         cells = a ∷ b ∷ [];
@@ -49,7 +49,7 @@ module _ (k : Kept) (fs : List (List ℕ)) where
 
   pub step-added : (cells : List ℕ) → cells ≡ stepCells k fs
       → record {
-        code = 0;
+        number = 0;
         place = 0;
         kept = record { sorts = k .sorts; terms = k .terms; heads = k .heads; inputs = k .inputs; steps = k .steps + 1 };
         cells = take 9 cells;

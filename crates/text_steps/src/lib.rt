@@ -40,7 +40,7 @@ fn good_input(counts: Counts, line: &[u8], marks: &[usize; 18], names: &[u8; 553
     let term = text_rows::term_column(names, counts.terms, line, marks, 0);
     let given = value_column(line, marks, 1);
     Row {
-        code: 0,
+        number: 0,
         place: 0,
         counts: Counts {
             sorts: counts.sorts,
@@ -103,7 +103,7 @@ fn good_step(counts: Counts, line: &[u8], marks: &[usize; 18], names: &[u8; 5539
     }
     let cells = step_cells(counts, line, marks, names);
     Row {
-        code: 0,
+        number: 0,
         place: 0,
         counts: Counts {
             sorts: counts.sorts,

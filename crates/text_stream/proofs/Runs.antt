@@ -100,7 +100,7 @@ run-fed (b ∷ bs) s h e k = one (run-fed bs) (eqb b 10) refl h where
   one ih false p q = ap (λ (x : Stream). feedAll x bs) (plain s b p) ∙ two ih (omega arith) (ltb (s .pos .at) 526) refl
 
 -- after a bad line nothing is done
-late-line : (c : Control) (n : ℕ) (l : List ℕ) (s : Sheets) → (c .code ≡ 0 → ⊥) → LineEnded c n l s c s
+late-line : (c : Control) (n : ℕ) (l : List ℕ) (s : Sheets) → (c .number ≡ 0 → ⊥) → LineEnded c n l s c s
 late-line c n l s late =
     let e : quiet c ≡ lineEffect c n l = effect-late c n l late in
     record {
@@ -178,7 +178,7 @@ module _ (pos : Position) (line rest : List ℕ) (n : ℕ) (is : n ≡ before 10
               ap (λ (x : Stream). stepByte x 10) (sym (held-is c s ∙ ap (feedAll start) all)) ∙ end-step held (take (held .at) line′) c s
               ∙ ap (λ (q : List ℕ). endedBy c s (held .line) (lineEffect c (held .line) q)) (sym this)
 
-    pub part-late : (next : Position) (c : Control) (s : Sheets) → n ≤ length rest → (n ≡ length rest → ⊥) → next ≡ advanced held 10 → (c .code ≡ 0 → ⊥)
+    pub part-late : (next : Position) (c : Control) (s : Sheets) → n ≤ length rest → (n ≡ length rest → ⊥) → next ≡ advanced held 10 → (c .number ≡ 0 → ⊥)
         → holding next line′ c s ≡ feedAll (holding pos line c s) (take (n + 1) rest)
     part-late next c s le ne next-is late =
         part-ended next (pick whole (take n rest) (take (held .at) line′)) c c s s le ne next-is refl (late-line c (held .line) _ s late)

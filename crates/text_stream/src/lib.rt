@@ -104,7 +104,7 @@ fn feed_part(
         return Progress { pos: held, core };
     }
     let next = text_position::advanced_by(held.line, held.at, 10);
-    if core.code != 0 {
+    if core.number != 0 {
         return Progress { pos: next, core };
     }
     let l = line_of(whole, &rest[..n], line, held.at);

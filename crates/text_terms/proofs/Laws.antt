@@ -87,7 +87,7 @@ module _ (n : Counts) (t name : List ℕ) (b : Bounded n) (room : n .terms < 256
       → x ≡ refOf (namesFrom t 32 (n .terms)) (getD fs 3 []) → y ≡ refOf (namesFrom t 32 (n .terms)) (getD fs 4 [])
       → z ≡ refOf (namesFrom t 32 (n .terms)) (getD fs 5 []) → w ≡ refOf (namesFrom t 32 (n .terms)) (getD fs 6 [])
       → takenOf (record {
-        code = 0;
+        number = 0;
         place = 0;
         counts = record { sorts = n .sorts; terms = n .terms + 1; heads = r .heads; inputs = n .inputs; steps = n .steps };
         cells = r .number ∷ sort ∷ x ∷ y ∷ z ∷ w ∷ 0 ∷ 0 ∷ 0 ∷ [];

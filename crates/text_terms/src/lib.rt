@@ -90,7 +90,7 @@ fn put_term(counts: Counts, line: &[u8], marks: &[usize; 18], names: &mut [u8; 5
     let head = head_of(names, counts.heads, text_columns::field(line, marks, 1));
     text_names::put_name(names, 32, n, text_columns::field(line, marks, 0));
     Row {
-        code: 0,
+        number: 0,
         place: 0,
         counts: Counts {
             sorts: counts.sorts,

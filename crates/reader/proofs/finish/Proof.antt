@@ -14,8 +14,8 @@ fault-of-requires c κs = search needs
 holds-rows-requires : tie.Need-holds-rows-requires
 holds-rows-requires c κs = search needs
 
-final-code-requires : tie.Need-final-code-requires
-final-code-requires c κs = search needs
+final-number-requires : tie.Need-final-number-requires
+final-number-requires c κs = search needs
 
 clear-bytes-requires : tie.Need-clear-bytes-requires
 clear-bytes-requires c κs = search needs
@@ -58,14 +58,14 @@ returns c =
     let sorts = terms .before .before .before .before in
     let names = sorts .before .before in
     let line = names .before .before in
-    let code = line .before .before in
-    let room = code .before in
+    let number = line .before .before in
+    let room = number .before in
     let start = room .before .before .before .before .before .before .before .before .before in
     let a = start .args in
     let l : length (a .line .now) ≡ 526 = omega (arith, line .before .clear-bytes-arg) in
     let m : length (a .names .now) ≡ 55392 = omega (arith, names .before .clear-bytes-arg2) in
     finished (a .f) (a .line .now) (a .names .now) _ _ _ _ _ (room .before .fault-of .ensures (a .names .now)) _ (room .holds-rows .ensures) _
-    (code .final-code .ensures) _ _ _ _ _ _ _ (c .outcome-of .ensures (a .names .now))
+    (number .final-number .ensures) _ _ _ _ _ _ _ (c .outcome-of .ensures (a .names .now))
     (line .clear-bytes .ensures ∙ ap (λ (k : ℕ). replicate k 0) l) (names .clear-bytes2 .ensures ∙ ap (λ (k : ℕ). replicate k 0) m)
     (sorts .leave-sheet .ensures) (terms .leave-sheet2 .ensures) (inputs .leave-sheet3 .ensures) (steps .leave-sheet4 .ensures)
 
@@ -75,7 +75,7 @@ finish-spec =
     (tie.spec
     fault-of-requires
     holds-rows-requires
-    final-code-requires
+    final-number-requires
     clear-bytes-requires
     clear-bytes-requires-2
     leave-sheet-requires

@@ -1,7 +1,7 @@
 -- The number that the text gives.
 use borrow.Author.Tests.{eq-eqb, ne-eqb}
-use Rattle.reader.proofs.final_code.Statement.{statement}
-use Rattle.reader.proofs.final_code.Tie as tie
+use Rattle.reader.proofs.final_number.Statement.{statement}
+use Rattle.reader.proofs.final_number.Tie as tie
 
 returns : tie.Need-returns
 returns c = rw (ne-eqb _ _ (c .if1 .taken))
@@ -12,5 +12,5 @@ returns-2 c = rw (eq-eqb _ _ (c .before .if1 .left), c .if2 .taken)
 returns-3 : tie.Need-returns-3
 returns-3 c = rw (eq-eqb _ _ (c .before .if1 .left), c .if2 .left)
 
-pub final-code-spec : {M : Type 1} → statement M
-final-code-spec = tie.close (tie.spec returns returns-2 returns-3)
+pub final-number-spec : {M : Type 1} → statement M
+final-number-spec = tie.close (tie.spec returns returns-2 returns-3)
