@@ -7,14 +7,13 @@ use borrow.Author.Tests.{ne-eqb}
 use lib.Dec.{eqb}
 use lib.ListN.{length, replicate}
 use Rattle.text_fields.specs.Split.{pieces, same}
-use Rattle.text_names.specs.Table.{padTo}
-use Rattle.text_names.proofs.Laws.{length-padTo}
+use Rattle.buffers.specs.Room.{padTo}
+use Rattle.buffers.proofs.Room.{length-padTo, pad-none}
 use Rattle.text_stream.specs.declared.Progress.{Progress}
 use Rattle.reader.specs.declared.ReadOutcome.{ReadOutcome}
 use Rattle.reader.specs.Text.{Lent, lentOf, last, linesFold, startState, fits, textState, textFault, textNumber, textOutcome, textSheet, TextRead}
 use Rattle.text_stream.specs.Stream.{Stream, feedAll, freshStream, streamOf}
 use Rattle.reader.specs.Stream.{startProgress, streamFault, streamNumber, holdRows, leftSheet, Begun, Finished}
-use Rattle.text_lines.proofs.Sheets.{pad-none}
 use Rattle.reader.proofs.Sizes.{sized-sorts, sized-terms, sized-inputs, sized-steps}
 use Rattle.reader.proofs.Whole.{Follows, reached, padded, whole-text}
 

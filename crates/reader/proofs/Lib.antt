@@ -1,4 +1,3 @@
-pub mod Clear
 pub mod Ends
 pub mod Sizes
 pub mod Whole

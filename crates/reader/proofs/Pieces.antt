@@ -7,7 +7,7 @@ use Rattle.text_lines.specs.View.{Sheets}
 use Rattle.text_stream.specs.Stream.{Stream, feedAll, freshStream}
 use Rattle.reader.specs.Stream.{fedPieces, joined, zeroSheets, ReadInPieces}
 use Rattle.text_stream.proofs.Bytes.{feed-append}
-use Rattle.text_lines.proofs.Sheets.{pad-none}
+use Rattle.buffers.proofs.Room.{pad-none}
 use Rattle.reader.proofs.Whole.{padded}
 use Rattle.reader.proofs.Final.{read-is}
 

@@ -6,7 +6,7 @@ use mathlib.Core.List.{List, [], _∷_, _++_}
 use lib.Dec.{eqb, leb}
 use lib.ListN.{length, replicate}
 use Rattle.text_fields.specs.Split.{pick, pieces, same}
-use Rattle.text_names.specs.Table.{padTo}
+use Rattle.buffers.specs.Room.{padTo}
 use Rattle.text_rows.specs.Rows.{Kept}
 use Rattle.text_position.specs.Place.{nextLine}
 use Rattle.text_lines.specs.Lines.{Control, Effect, lineEffect, started}

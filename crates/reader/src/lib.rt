@@ -3,7 +3,6 @@ ghost use mathlib.Core.Path.{_≡_};
 ghost use mathlib.Core.List.{List};
 ghost use Prim.Native.Nat.{ℕ, _≤_};
 ghost use lib.Dec.{eqb};
-ghost use lib.ListN.{length, replicate};
 ghost use Rattle.text_rows.specs.View.{keptOf, Bounded};
 ghost use Rattle.text_lines.specs.View.{controlOf};
 ghost use Rattle.text_stream.specs.Stream.{streamOf};
@@ -34,28 +33,6 @@ pub struct ReadOutcome {
     pub place: u64,
 }
 
-// Clears a buffer of bytes.
-fn clear_bytes(d: &mut [u8])
-    ensures { λ _. ⌜ now (d .exit) ≡ replicate (length (now (d .entry))) 0 ⌝ }
-{
-    let mut i = 0;
-    while i < d.len() {
-        d[i] = 0;
-        i += 1;
-    }
-}
-
-// Clears a sheet.
-fn clear_numbers(d: &mut [u16])
-    ensures { λ _. ⌜ now (d .exit) ≡ replicate (length (now (d .entry))) 0 ⌝ }
-{
-    let mut i = 0;
-    while i < d.len() {
-        d[i] = 0;
-        i += 1;
-    }
-}
-
 // Before the first byte. The sheets are cleared.
 pub fn begin(
     sorts: &mut [u16],
@@ -67,10 +44,10 @@ pub fn begin(
         (now (sorts .exit)) (now (terms .exit)) (now (inputs .exit)) (now (steps .exit)) ⌝ }
     ensures { λ r. ⌜ Bounded (r .core .counts) ⌝ }
 {
-    clear_numbers(sorts);
-    clear_numbers(terms);
-    clear_numbers(inputs);
-    clear_numbers(steps);
+    buffers::clear_numbers(sorts);
+    buffers::clear_numbers(terms);
+    buffers::clear_numbers(inputs);
+    buffers::clear_numbers(steps);
     Progress {
         pos: Position { line: 1, at: 0 },
         core: Core {
@@ -204,7 +181,7 @@ fn leave_sheet(number: u16, sheet: &mut [u16])
     ensures { λ _. ⌜ now (sheet .exit) ≡ leftSheet number (now (sheet .entry)) ⌝ }
 {
     if number != 0 {
-        clear_numbers(sheet);
+        buffers::clear_numbers(sheet);
     }
 }
 
@@ -230,8 +207,8 @@ pub fn finish(
     let fault = fault_of(core, pos.at, pos.line);
     let room = holds_rows(counts, sorts.len(), terms.len(), inputs.len(), steps.len());
     let number = final_number(fault.number, room);
-    clear_bytes(line);
-    clear_bytes(names);
+    buffers::clear_bytes(line);
+    buffers::clear_bytes(names);
     leave_sheet(number, sorts);
     leave_sheet(number, terms);
     leave_sheet(number, inputs);

@@ -11,12 +11,7 @@ use lib.ListN.{length, take, drop, getD, set, length-set}
 use lib.Seq.{drop-drop, paste, paste-zero, paste-suc, length-paste, take-paste, drop-paste}
 use Rattle.text_fields.specs.Split.{same}
 use Rattle.text_tags.specs.Tags.{tagOf}
-use Rattle.text_names.specs.Table.{lengthAt, nameFrom, held, padTo, slotOf, slotPut}
-
-pub length-padTo : (n : ℕ) (l : List ℕ) → length (padTo n l) ≡ n
-length-padTo zero l = refl
-length-padTo (suc n) [] = ap suc (length-padTo n [])
-length-padTo (suc n) (x ∷ xs) = ap suc (length-padTo n xs)
+use Rattle.text_names.specs.Table.{lengthAt, nameFrom, held, slotOf, slotPut}
 
 -- the bytes of a name's slot
 module _ (name : List ℕ) where

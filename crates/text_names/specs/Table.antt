@@ -117,11 +117,3 @@ putAt t base n name (Free place) = set (slotPut t (base + n) name) place n
 
 unfoldable pub withName : List ℕ → ℕ → ℕ → List ℕ → List ℕ
 withName t base n name = putAt t base n name (spotOf t base n name)
-
--- ---- rows of numbers
-
--- n numbers: those of l, and zeros
-abbrev pub padTo : ℕ → List ℕ → List ℕ
-padTo zero l = []
-padTo (suc n) [] = 0 ∷ padTo n []
-padTo (suc n) (x ∷ xs) = x ∷ padTo n xs

@@ -15,7 +15,8 @@ use Rattle.text_position.specs.Place.{nextLine, advanced}
 use Rattle.text_lines.specs.Lines.{Control, Effect, quiet, lineEffect}
 use Rattle.text_lines.specs.View.{Sheets, stored, LineEnded}
 use Rattle.text_lines.proofs.Lines.{effect-late, effect-cut}
-use Rattle.text_lines.proofs.Sheets.{append-nil, stored-none}
+use Rattle.buffers.proofs.Room.{append-nil}
+use Rattle.text_lines.proofs.Sheets.{stored-none}
 use Rattle.text_stream.specs.Stream.{Stream, stepByte, feedAll, holding}
 use Rattle.text_stream.proofs.Bytes.{newline-is, feed-append}
 

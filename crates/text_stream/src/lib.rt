@@ -4,7 +4,7 @@ ghost use mathlib.Core.Bool.{_&&_};
 ghost use mathlib.Core.List.{[]};
 ghost use Prim.Native.Nat.{_+_, _≤_};
 ghost use lib.Dec.{eqb, ltb};
-ghost use lib.ListN.{length, take, set};
+ghost use lib.ListN.{length, take};
 ghost use Rattle.text_fields.specs.Split.{pick, before};
 ghost use Rattle.text_rows.specs.View.{Bounded};
 ghost use Rattle.text_lines.specs.Lines.{Control};
@@ -19,15 +19,6 @@ pub struct Progress {
     pub core: Core,
 }
 
-// Stores a byte where there is room for it.
-fn put_byte(line: &mut [u8], at: usize, b: u8)
-    ensures { λ _. ⌜ now (line .exit) ≡ set (now (line .entry)) at b ⌝ }
-{
-    if at < line.len() {
-        line[at] = b;
-    }
-}
-
 // Holds the bytes of an unfinished line, as many as tell that it is too long.
 fn hold(start: Position, l: &[u8], line: &mut [u8]) -> Position
     requires { ⌜ before 10 (now l) ≡ length (now l) ⌝ }
@@ -39,7 +30,7 @@ fn hold(start: Position, l: &[u8], line: &mut [u8]) -> Position
     let mut i = 0;
     while i < l.len() {
         let b = l[i];
-        put_byte(line, pos.at, b);
+        buffers::put_byte(line, pos.at, b);
         pos = text_position::advanced_by(pos.line, pos.at, b);
         i += 1;
     }

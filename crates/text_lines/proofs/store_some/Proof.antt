@@ -6,7 +6,7 @@ use native.Mathlib.Nat.{add-zero}
 use Prim.Native.Nat.{ℕ, _-_, _+_, _≤_}
 use lib.ListN.{length, drop}
 use lib.Seq.{sets}
-use Rattle.text_lines.proofs.Sheets.{sets-more, sets-end}
+use Rattle.buffers.proofs.Room.{sets-more, sets-end}
 use Rattle.text_lines.proofs.store_some.Statement.{statement}
 use Rattle.text_lines.proofs.store_some.Tie as tie
 

@@ -5,7 +5,7 @@ use native.Mathlib.Nat.{add-zero}
 use Prim.Native.Nat.{_-_, _+_, _≤_}
 use lib.ListN.{length, drop, length-set}
 use lib.Seq.{sets}
-use Rattle.text_lines.proofs.Sheets.{sets-more, sets-end}
+use Rattle.buffers.proofs.Room.{sets-more, sets-end}
 use Rattle.text_lines.proofs.store_whole.Statement.{statement}
 use Rattle.text_lines.proofs.store_whole.Tie as tie
 

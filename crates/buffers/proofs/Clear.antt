@@ -5,7 +5,7 @@ use mathlib.Core.List.{List, _++_}
 use native.Mathlib.Omega.{arith}
 use borrow.Author.Fill.{fill-more}
 use lib.ListN.{length, drop, set, replicate, length-append, length-replicate, length-drop, drop-of-length-le}
-use Rattle.text_lines.proofs.Sheets.{append-nil}
+use Rattle.buffers.proofs.Room.{append-nil}
 
 module _ (d₀ d : List ℕ) (i : ℕ) (le : i ≤ length d₀) (is : d ≡ replicate i 0 ++ drop i d₀) where
   pub clear-length : length d ≡ length d₀

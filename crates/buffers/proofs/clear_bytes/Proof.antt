@@ -1,12 +1,12 @@
--- `reader::clear_bytes` meets its contract.
+-- `buffers::clear_bytes` meets its contract.
 use mathlib.Core.Path.{_≡_, refl}
 use mathlib.Core.List.{_++_}
 use native.Mathlib.Omega.{arith}
 use Prim.Native.Nat.{_-_, _≤_}
 use lib.ListN.{length, drop, replicate}
-use Rattle.reader.proofs.Clear.{clear-length, clear-more, clear-end}
-use Rattle.reader.proofs.clear_bytes.Statement.{statement}
-use Rattle.reader.proofs.clear_bytes.Tie as tie
+use Rattle.buffers.proofs.Clear.{clear-length, clear-more, clear-end}
+use Rattle.buffers.proofs.clear_bytes.Statement.{statement}
+use Rattle.buffers.proofs.clear_bytes.Tie as tie
 
 abbrev Inv-loop : tie.InvT-loop
 Inv-loop d₀ i₀ d i = (i ≤ length d₀) × (d ≡ replicate i 0 ++ drop i d₀)
