@@ -13,41 +13,43 @@ use Rattle.text_lines.specs.declared.Core.{Core}
 use Rattle.text_stream.specs.declared.Progress.{Progress}
 use Rattle.reader.specs.declared.Fault.{Fault}
 use Rattle.reader.specs.declared.ReadOutcome.{ReadOutcome}
-use Rattle.reader.specs.Text.{isSteps, faultOf, counted, outcomeOf}
+use Rattle.reader.specs.Text.{isSteps, endFault, noFault, faultOf, counted, outcomeOf}
+use Rattle.text_faults.specs.Why.{whyNumber}
 use Rattle.text_lines.specs.View.{controlOf}
 use Rattle.text_stream.specs.Stream.{streamOf}
 use Rattle.reader.specs.Stream.{streamFault, streamNumber, holdRows, numberOf, leftSheet, Finished}
 
 -- the fault, test after test
-module _ (core : Core) (t : List ℕ) (at n : ℕ) where
+module _ (core : Core) (t : List ℕ) (whole : Bool) (n : ℕ) where
   pub fault-line : (core .number ≡ 0 → ⊥)
-      → record { number = core .number; line = core .line; place = core .place } ≡ faultOf (controlOf core t) (eqb at 0) n
+      → record { number = core .number; line = core .line; place = core .place; why = core .why } ≡ faultOf (controlOf core t) whole n
   fault-line h = rw (ne-eqb (core .number) 0 h)
 
   module _ (good : core .number ≡ 0) {steps : Bool} (steps-is : steps ≡ isSteps (core .sheet)) where
-    pub fault-sheet : {r : Fault} → not steps ≡ true → r ≡ record { number = 31; line = n; place = 0 } → r ≡ faultOf (controlOf core t) (eqb at 0) n
+    pub fault-sheet : {r : Fault} → not steps ≡ true → r ≡ endFault whole n → r ≡ faultOf (controlOf core t) whole n
     fault-sheet h is = is ∙ rw (eq-eqb (core .number) 0 good, sym steps-is ∙ not-true steps h)
 
     module _ (in-steps : not steps ≡ false) where
-      pub fault-header : {r : Fault} → not (core .headed) ≡ true → r ≡ record { number = 31; line = n; place = 0 }
-          → r ≡ faultOf (controlOf core t) (eqb at 0) n
+      pub fault-header : {r : Fault} → not (core .headed) ≡ true → r ≡ endFault whole n → r ≡ faultOf (controlOf core t) whole n
       fault-header h is = is ∙ rw (eq-eqb (core .number) 0 good, sym steps-is ∙ not-false steps in-steps, not-true (core .headed) h)
 
       module _ (has-header : not (core .headed) ≡ false) where
-        pub fault-rest : {r : Fault} → (at ≡ 0 → ⊥) → r ≡ record { number = 31; line = n; place = 0 } → r ≡ faultOf (controlOf core t) (eqb at 0) n
+        pub fault-rest : {r : Fault} → not whole ≡ true → r ≡ endFault whole n → r ≡ faultOf (controlOf core t) whole n
         fault-rest h is =
-            is ∙ rw (eq-eqb (core .number) 0 good, sym steps-is ∙ not-false steps in-steps, not-false (core .headed) has-header, ne-eqb at 0 h)
+            let e = not-true whole h in
+            is ∙ rw (eq-eqb (core .number) 0 good, sym steps-is ∙ not-false steps in-steps, not-false (core .headed) has-header, e)
 
-        pub fault-none : at ≡ 0 → record { number = 0; line = 0; place = 0 } ≡ faultOf (controlOf core t) (eqb at 0) n
+        pub fault-none : not whole ≡ false → noFault ≡ faultOf (controlOf core t) whole n
         fault-none h =
-            rw (eq-eqb (core .number) 0 good, sym steps-is ∙ not-false steps in-steps, not-false (core .headed) has-header, eq-eqb at 0 h)
+            let e = not-false whole h in
+            rw (eq-eqb (core .number) 0 good, sym steps-is ∙ not-false steps in-steps, not-false (core .headed) has-header, e)
 
 -- what is returned
-pub outcome-counts : (number : ℕ) (f : Fault) (n : Counts) (t : List ℕ) (a b c d : ℕ)
+pub outcome-counts : (number : ℕ) (f : Fault) (n : Counts) (t : List ℕ) (a b c d w : ℕ)
     → a ≡ counted number (n .sorts) → b ≡ counted number (n .terms) → c ≡ counted number (n .inputs) → d ≡ counted number (n .steps)
-    → _≡_ {A = ReadOutcome} (record { number = number; sorts = a; terms = b; inputs = c; steps = d; line = f .line; place = f .place })
+    → w ≡ whyNumber (f .why) → _≡_ {A = ReadOutcome} (record { number = number; sorts = a; terms = b; inputs = c; steps = d; why = w; line = f .line; place = f .place })
     (outcomeOf number f (keptOf n t))
-outcome-counts number f n t a b c d p q r s = rw (p, q, r, s, length-names t 0 (n .sorts), length-names t 32 (n .terms))
+outcome-counts number f n t a b c d w p q r s v = rw (p, q, r, s, v, length-names t 0 (n .sorts), length-names t 32 (n .terms))
 
 -- the end
 module _ (f : Progress) (line t a b c d : List ℕ)

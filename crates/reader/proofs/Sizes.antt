@@ -11,6 +11,8 @@ use Rattle.text_fields.specs.Shape.{shapeOf}
 use Rattle.text_fields.specs.declared.Shape.{Shape}
 use Rattle.text_fields.specs.declared.Shape.the-variants.{Good, Faulty}
 use Rattle.text_rows.specs.Rows.{Kept, Taken, refused, shaped, below, fresh, isTaken, sortAdded, sortRow, termAdded, termRow, inputAdded, inputRow, stepAdded, stepRow}
+use Rattle.text_faults.specs.Why.{headerWhy}
+use Rattle.text_faults.specs.declared.Why.the-variants.{Long}
 use Rattle.text_lines.specs.declared.Sheet.{Sheet}
 use Rattle.text_lines.specs.declared.Sheet.the-variants.{Sorts, Terms, Inputs, Steps}
 use Rattle.text_lines.specs.Lines.{Control, Effect, quiet, bad, enter, headerOf, header, nextSheet, rowOf, row, readLine, numbered, lineEffect}
@@ -120,22 +122,22 @@ grows-next c Steps = grows-quiet c _ refl
 
 grows-header : (c : Control) (l : List ℕ) → Grows c (header c l)
 grows-header c l = go (same l (headerOf (c .sheet))) where
-  go : (b : Bool) → Grows c (pick b (enter c (c .sheet) true) (bad c 31 0))
+  go : (b : Bool) → Grows c (pick b (enter c (c .sheet) true) (bad c (headerWhy l)))
   go true = grows-quiet c _ refl
   go false = grows-quiet c _ refl
 
-grows-row : (c : Control) (l : List ℕ) → Grows c (row c (rowOf (c .sheet) (c .kept) (pieces 32 l)))
+grows-row : (c : Control) (l : List ℕ) → Grows c (row c (rowOf (c .sheet) (c .kept) (pieces 32 l)) l)
 unfolding Grows Adds
 grows-row c l = adds-row (c .kept) (pieces 32 l) (c .sheet)
 
 grows-read : (c : Control) (l : List ℕ) → Grows c (readLine c l)
 unfolding readLine
 grows-read c l = one (c .headed) where
-  two : (b : Bool) → Grows c (pick b (nextSheet c (c .sheet)) (row c (rowOf (c .sheet) (c .kept) (pieces 32 l))))
+  two : (b : Bool) → Grows c (pick b (nextSheet c (c .sheet)) (row c (rowOf (c .sheet) (c .kept) (pieces 32 l)) l))
   two true = grows-next c (c .sheet)
   two false = grows-row c l
 
-  one : (b : Bool) → Grows c (pick b (pick (same l []) (nextSheet c (c .sheet)) (row c (rowOf (c .sheet) (c .kept) (pieces 32 l)))) (header c l))
+  one : (b : Bool) → Grows c (pick b (pick (same l []) (nextSheet c (c .sheet)) (row c (rowOf (c .sheet) (c .kept) (pieces 32 l)) l)) (header c l))
   one true = two (same l [])
   one false = grows-header c l
 
@@ -146,11 +148,11 @@ grows-numbered c n e h = h
 grows-line : (c : Control) (n : ℕ) (l : List ℕ) → Grows c (lineEffect c n l)
 unfolding lineEffect
 grows-line c n l = one (eqb (c .number) 0) where
-  two : (b : Bool) → Grows c (pick b (readLine (numbered c n) l) (bad (numbered c n) 31 0))
+  two : (b : Bool) → Grows c (pick b (readLine (numbered c n) l) (bad (numbered c n) Long))
   two true = grows-numbered c n (readLine (numbered c n) l) (grows-read (numbered c n) l)
   two false = grows-quiet c _ refl
 
-  one : (b : Bool) → Grows c (pick b (pick (leb (length l) 525) (readLine (numbered c n) l) (bad (numbered c n) 31 0)) (quiet c))
+  one : (b : Bool) → Grows c (pick b (pick (leb (length l) 525) (readLine (numbered c n) l) (bad (numbered c n) Long)) (quiet c))
   one true = two (leb (length l) 525)
   one false = grows-quiet c c refl
 

@@ -6,6 +6,7 @@ use mathlib.Core.List.{List, [], _∷_, _++_}
 use lib.Dec.{eqb, leb}
 use lib.ListN.{length, replicate}
 use Rattle.text_fields.specs.Split.{pick}
+use Rattle.text_faults.specs.declared.Why.the-variants.{Fine}
 use Rattle.text_lines.specs.View.{Sheets}
 use Rattle.text_lines.specs.declared.Sheet.the-variants.{Sorts}
 use Rattle.text_stream.specs.Stream.{Stream, feedAll, freshStream}
@@ -24,6 +25,7 @@ startProgress =
             number = 0;
             place = 0;
             line = 0;
+            why = Fine;
             sheet = Sorts;
             headed = false;
             counts = record { sorts = 0; terms = 0; heads = 0; inputs = 0; steps = 0 };

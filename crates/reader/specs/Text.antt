@@ -9,6 +9,8 @@ use Rattle.text_fields.specs.Split.{pick, pieces, same}
 use Rattle.buffers.specs.Room.{padTo}
 use Rattle.text_rows.specs.Rows.{Kept}
 use Rattle.text_position.specs.Place.{nextLine}
+use Rattle.text_faults.specs.Why.{whyNumber}
+use Rattle.text_faults.specs.declared.Why.the-variants.{Fine, Early, Cut}
 use Rattle.text_lines.specs.Lines.{Control, Effect, lineEffect, started}
 use Rattle.text_lines.specs.declared.Sheet.{Sheet}
 use Rattle.text_lines.specs.declared.Sheet.the-variants.{Sorts, Terms, Inputs, Steps}
@@ -66,13 +68,19 @@ isSteps Terms = false
 isSteps Inputs = false
 isSteps Steps = true
 
--- the first bad line's; a file that ends before the step sheet's header, or inside a line (`whole` is false), is 31 at the line where it ends
+-- an early end in line n: inside a line, or (where `whole` is true) after one
+abbrev pub endFault : Bool → ℕ → Fault
+endFault whole n = record { number = 31; line = n; place = 0; why = pick whole Early Cut }
+
+abbrev pub noFault : Fault
+noFault = record { number = 0; line = 0; place = 0; why = Fine }
+
+-- the first bad line's; a file that ends before the step sheet's header, or inside a line, is 31 at the line where it ends
 abbrev pub faultOf : Control → Bool → ℕ → Fault
 faultOf c whole n =
     pick (eqb (c .number) 0)
-    (pick (isSteps (c .sheet)) (pick (c .headed) (pick whole (record { number = 0; line = 0; place = 0 }) (record { number = 31; line = n; place = 0 }))
-    (record { number = 31; line = n; place = 0 })) (record { number = 31; line = n; place = 0 }))
-    (record { number = c .number; line = c .line; place = c .place })
+    (pick (isSteps (c .sheet)) (pick (c .headed) (pick whole noFault (endFault whole n)) (endFault whole n)) (endFault whole n))
+    (record { number = c .number; line = c .line; place = c .place; why = c .why })
 
 unfoldable pub textFault : List ℕ → Fault
 textFault bs = faultOf (textState bs .control) (same (last (pieces 10 bs)) []) (lastLine 1 (pieces 10 bs))
@@ -110,6 +118,7 @@ outcomeOf number f k =
       terms = counted number (length (k .terms));
       inputs = counted number (k .inputs);
       steps = counted number (k .steps);
+      why = whyNumber (f .why);
       line = f .line;
       place = f .place;
     }

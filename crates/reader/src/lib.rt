@@ -2,26 +2,29 @@
 ghost use mathlib.Core.Path.{_≡_};
 ghost use mathlib.Core.List.{List};
 ghost use Prim.Native.Nat.{ℕ, _≤_};
-ghost use lib.Dec.{eqb};
+ghost use Rattle.text_fields.specs.Split.{pick};
 ghost use Rattle.text_rows.specs.View.{keptOf, Bounded};
 ghost use Rattle.text_lines.specs.View.{controlOf};
 ghost use Rattle.text_stream.specs.Stream.{streamOf};
-ghost use Rattle.reader.specs.Text.{isSteps, faultOf, counted, lentOf, outcomeOf, TextRead};
+ghost use Rattle.reader.specs.Text.{isSteps, endFault, faultOf, counted, lentOf, outcomeOf, TextRead};
 ghost use Rattle.reader.specs.Stream.{holdRows, numberOf, leftSheet, Begun, Finished};
+use text_faults::Why;
 use text_lines::Core;
 use text_lines::Sheet;
 use text_position::Position;
 use text_rows::Counts;
 use text_stream::Progress;
 
-// A fault: its number, its line and its place; all 0 where there is none.
+// A fault: its number, its line, its place, and why the line is malformed; all 0 where there is none.
 struct Fault {
     number: u16,
     line: u64,
     place: u64,
+    why: Why,
 }
 
-// What the reading of a text returns: its number, the rows of the four sheets, and line and place of the first bad line.
+// What the reading of a text returns: its number, the rows of the four sheets, the number of the cause where a line is malformed, and line
+// and place of the first bad line.
 #[repr(C)]
 pub struct ReadOutcome {
     pub number: u16,
@@ -29,6 +32,7 @@ pub struct ReadOutcome {
     pub terms: u16,
     pub inputs: u16,
     pub steps: u16,
+    pub why: u16,
     pub line: u64,
     pub place: u64,
 }
@@ -54,6 +58,7 @@ pub fn begin(
             number: 0,
             place: 0,
             line: 0,
+            why: Why::Fine,
             sheet: Sheet::Sorts,
             headed: false,
             counts: Counts {
@@ -79,43 +84,57 @@ fn is_last(sheet: Sheet) -> bool
     }
 }
 
-// A file that ends too early, in line n.
-fn early_end(n: usize) -> Fault
-    ensures { λ r. ⌜ r ≡ record { number = 31; line = n; place = 0 } ⌝ }
+// Why a text ends too early: inside a line, or after one.
+fn end_why(whole: bool) -> Why
+    ensures { λ r. ⌜ r ≡ pick whole Why.Early Why.Cut ⌝ }
+{
+    if whole {
+        return Why::Early;
+    }
+    Why::Cut
+}
+
+// A text that ends too early, in line n.
+fn early_end(whole: bool, n: usize) -> Fault
+    ensures { λ r. ⌜ r ≡ endFault whole n ⌝ }
 {
     Fault {
         number: 31,
         line: n as u64,
         place: 0,
+        why: end_why(whole),
     }
 }
 
-// The fault of a text that ends at place `at` of line n.
-fn fault_of(core: Core, at: usize, n: usize) -> Fault
-    ensures { λ r. ⌜ ((t : List ℕ) → r ≡ faultOf (controlOf core t) (eqb at 0) n) ⌝ }
+// The fault of a text that ends in line n, inside it or after a whole line.
+fn fault_of(core: Core, whole: bool, n: usize) -> Fault
+    ensures { λ r. ⌜ ((t : List ℕ) → r ≡ faultOf (controlOf core t) whole n) ⌝ }
 {
     let number = core.number;
     if number != 0 {
+        let why = core.why;
         return Fault {
             number,
             line: core.line as u64,
             place: core.place as u64,
+            why,
         };
     }
     let sheet = core.sheet;
     if !is_last(sheet) {
-        return early_end(n);
+        return early_end(whole, n);
     }
     if !core.headed {
-        return early_end(n);
+        return early_end(whole, n);
     }
-    if at != 0 {
-        return early_end(n);
+    if !whole {
+        return early_end(whole, n);
     }
     Fault {
         number: 0,
         line: 0,
         place: 0,
+        why: Why::Fine,
     }
 }
 
@@ -165,12 +184,14 @@ fn outcome_of(number: u16, fault: Fault, counts: Counts) -> ReadOutcome
     requires { ⌜ Bounded counts ⌝ }
     ensures { λ r. ⌜ ((t : List ℕ) → r ≡ outcomeOf number fault (keptOf counts t)) ⌝ }
 {
+    let why = fault.why;
     ReadOutcome {
         number,
         sorts: count_rows(number, counts.sorts),
         terms: count_rows(number, counts.terms),
         inputs: count_rows(number, counts.inputs),
         steps: count_rows(number, counts.steps),
+        why: text_faults::why_number(why),
         line: fault.line,
         place: fault.place,
     }
@@ -204,7 +225,7 @@ pub fn finish(
     let pos = f.pos;
     let core = f.core;
     let counts = core.counts;
-    let fault = fault_of(core, pos.at, pos.line);
+    let fault = fault_of(core, pos.at == 0, pos.line);
     let room = holds_rows(counts, sorts.len(), terms.len(), inputs.len(), steps.len());
     let number = final_number(fault.number, room);
     buffers::clear_bytes(line);
@@ -216,9 +237,8 @@ pub fn finish(
     outcome_of(number, fault, counts)
 }
 
-// A whole text: exported, for other programs that read sheets.
-#[no_mangle]
-pub extern "C" fn cdsat_read(
+// A whole text.
+pub fn read_text(
     text: &[u8],
     sorts: &mut [u16],
     terms: &mut [u16],

@@ -14,7 +14,7 @@ use Rattle.text_lines.specs.declared.Step.{Step}
 
 abbrev pub controlOf : Core → List ℕ → Control
 controlOf c table =
-    record { number = c .number; place = c .place; line = c .line; sheet = c .sheet; headed = c .headed; kept = keptOf (c .counts) table }
+    record { number = c .number; place = c .place; line = c .line; why = c .why; sheet = c .sheet; headed = c .headed; kept = keptOf (c .counts) table }
 
 abbrev pub effectOf : Step → List ℕ → Effect
 effectOf s table = record { control = controlOf (s .core) table; cells = take (s .width) (s .cells) }

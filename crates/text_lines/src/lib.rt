@@ -6,8 +6,9 @@ ghost use lib.ListN.{length, set};
 ghost use lib.Seq.{sets};
 ghost use Rattle.text_fields.specs.Split.{pieces, same};
 ghost use Rattle.text_rows.specs.View.{keptOf, takenOf, Bounded, Within};
-ghost use Rattle.text_lines.specs.Lines.{quiet, bad, enter, headerOf, header, nextSheet, rowOf, row, readLine, numbered, lineEffect};
+ghost use Rattle.text_lines.specs.Lines.{quiet, bad, enter, headerOf, header, nextSheet, rowOf, valueColumn, whyRow, row, readLine, numbered, lineEffect};
 ghost use Rattle.text_lines.specs.View.{controlOf, effectOf, StepBounded, sheetsOf, stored, LineEnded};
+use text_faults::Why;
 use text_rows::Counts;
 use text_rows::Row;
 
@@ -24,6 +25,7 @@ pub struct Core {
     pub number: u16,
     pub place: usize,
     pub line: usize,
+    pub why: Why,
     pub sheet: Sheet,
     pub headed: bool,
     pub counts: Counts,
@@ -49,18 +51,19 @@ fn quiet_line(core: Core) -> Step
     }
 }
 
-// A bad line.
-fn bad_line(core: Core, number: u16, place: usize) -> Step
+// A line that is malformed as a whole.
+fn bad_line(core: Core, why: Why) -> Step
     requires { ⌜ Bounded (core .counts) ⌝ }
-    ensures { λ r. ⌜ ((t : List ℕ) → effectOf r t ≡ bad (controlOf core t) number place) ⌝ }
+    ensures { λ r. ⌜ ((t : List ℕ) → effectOf r t ≡ bad (controlOf core t) why) ⌝ }
     ensures { λ r. ⌜ StepBounded r ⌝ }
 {
     let sheet = core.sheet;
     let counts = core.counts;
     quiet_line(Core {
-        number,
-        place,
+        number: 31,
+        place: 0,
         line: core.line,
+        why,
         sheet,
         headed: core.headed,
         counts,
@@ -74,10 +77,12 @@ fn enter_sheet(core: Core, sheet: Sheet, headed: bool) -> Step
     ensures { λ r. ⌜ StepBounded r ⌝ }
 {
     let counts = core.counts;
+    let why = core.why;
     quiet_line(Core {
         number: core.number,
         place: core.place,
         line: core.line,
+        why,
         sheet,
         headed,
         counts,
@@ -106,7 +111,7 @@ fn header_line(core: Core, line: &[u8]) -> Step
     if is_header(sheet, line) {
         return enter_sheet(core, sheet, true);
     }
-    bad_line(core, 31, 0)
+    bad_line(core, text_faults::header_why(line))
 }
 
 // An empty line.
@@ -120,7 +125,7 @@ fn empty_line(core: Core) -> Step
         Sheet::Sorts => enter_sheet(core, Sheet::Terms, false),
         Sheet::Terms => enter_sheet(core, Sheet::Inputs, false),
         Sheet::Inputs => enter_sheet(core, Sheet::Steps, false),
-        Sheet::Steps => bad_line(core, 31, 0),
+        Sheet::Steps => bad_line(core, Why::Empty),
     }
 }
 
@@ -138,20 +143,44 @@ fn sheet_row(sheet: Sheet, counts: Counts, line: &[u8], names: &mut [u8; 55392])
     }
 }
 
+// The column of a sheet that holds values, or 0.
+fn value_column(sheet: Sheet) -> usize
+    ensures { λ r. ⌜ r ≡ valueColumn sheet ⌝ }
+{
+    match sheet {
+        Sheet::Sorts => 0,
+        Sheet::Terms => 0,
+        Sheet::Inputs => 2,
+        Sheet::Steps => 4,
+    }
+}
+
+// Why a row is malformed, if its number says that it is.
+fn why_row(sheet: Sheet, number: u16, place: usize, line: &[u8]) -> Why
+    ensures { λ r. ⌜ r ≡ whyRow sheet number place (now (line .entry)) ⌝ }
+{
+    if number == 31 {
+        return text_faults::row_why(value_column(sheet), place, line);
+    }
+    Why::Fine
+}
+
 // What a row's line does.
-fn row_line(core: Core, taken: Row) -> Step
+fn row_line(core: Core, taken: Row, line: &[u8]) -> Step
     requires { ⌜ Within taken ⌝ }
-    ensures { λ r. ⌜ ((t t′ : List ℕ) → effectOf r t′ ≡ row (controlOf core t) (takenOf taken t′)) ⌝ }
+    ensures { λ r. ⌜ ((t t′ : List ℕ) → effectOf r t′ ≡ row (controlOf core t) (takenOf taken t′) (now (line .entry))) ⌝ }
     ensures { λ r. ⌜ StepBounded r ⌝ }
 {
     let sheet = core.sheet;
     let counts = taken.counts;
     let cells = taken.cells;
+    let why = why_row(sheet, taken.number, taken.place, line);
     Step {
         core: Core {
             number: taken.number,
             place: taken.place,
             line: core.line,
+            why,
             sheet,
             headed: core.headed,
             counts,
@@ -176,7 +205,7 @@ fn read_line(core: Core, line: &[u8], names: &mut [u8; 55392]) -> Step
     let sheet = core.sheet;
     let counts = core.counts;
     let taken = sheet_row(sheet, counts, line, names);
-    row_line(core, taken)
+    row_line(core, taken, line)
 }
 
 // The number of the line that is read.
@@ -186,10 +215,12 @@ fn number_line(core: Core, n: usize) -> Core
 {
     let sheet = core.sheet;
     let counts = core.counts;
+    let why = core.why;
     Core {
         number: core.number,
         place: core.place,
         line: n,
+        why,
         sheet,
         headed: core.headed,
         counts,
@@ -205,7 +236,7 @@ fn line_step(core: Core, n: usize, l: &[u8], names: &mut [u8; 55392]) -> Step
 {
     let here = number_line(core, n);
     if l.len() > 525 {
-        return bad_line(here, 31, 0);
+        return bad_line(here, Why::Long);
     }
     read_line(here, l, names)
 }

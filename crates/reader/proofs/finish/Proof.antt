@@ -35,8 +35,15 @@ leave-sheet-requires-3 c κs = search needs
 leave-sheet-requires-4 : tie.Need-leave-sheet-requires-4
 leave-sheet-requires-4 c κs = search needs
 
+-- the places that the answers look back to: the rows asked about, and the entry
+abbrev asked : tie.After-slice-known8 → tie.After-holds-rows
+asked c = c .before .before .before .before .before .before .before .before .before .before .before .before .before .before .before .before .before .before .before .before .before
+
+abbrev entry : tie.After-holds-rows → tie.Start
+entry c = c .before .before .before .before .before .before .before .before .before .before
+
 outcome-of-requires : tie.Need-outcome-of-requires
-outcome-of-requires c κs = search needs
+outcome-of-requires c κs = entry (asked c) .pre
 
 same-length : tie.Need-same-length
 same-length c = search needs
@@ -60,8 +67,7 @@ returns c =
     let line = names .before .before in
     let number = line .before .before in
     let room = number .before in
-    let start = room .before .before .before .before .before .before .before .before .before in
-    let a = start .args in
+    let a = entry room .args in
     let l : length (a .line .now) ≡ 526 = omega (arith, line .before .clear-bytes-arg) in
     let m : length (a .names .now) ≡ 55392 = omega (arith, names .before .clear-bytes-arg2) in
     finished (a .f) (a .line .now) (a .names .now) _ _ _ _ _ (room .before .fault-of .ensures (a .names .now)) _ (room .holds-rows .ensures) _

@@ -18,13 +18,18 @@ count-rows-requires-3 c κs = search needs
 count-rows-requires-4 : tie.Need-count-rows-requires-4
 count-rows-requires-4 c κs = search needs
 
+why-number-requires : tie.Need-why-number-requires
+why-number-requires c κs = search needs
+
 returns : tie.Need-returns
 returns c =
-    let third = c .before in
+    let fourth = c .before in
+    let third = fourth .before in
     let second = third .before in
     let first = second .before in
-    λ (t : List ℕ). outcome-counts _ (first .before .args .fault) (first .before .args .counts) t _ _ _ _
-    (first .count-rows .ensures) (second .count-rows2 .ensures) (third .count-rows3 .ensures) (c .count-rows4 .ensures)
+    let a = first .before .args in
+    λ (t : List ℕ). outcome-counts _ (a .fault) (a .counts) t _ _ _ _ _
+    (first .count-rows .ensures) (second .count-rows2 .ensures) (third .count-rows3 .ensures) (fourth .count-rows4 .ensures) (c .why-number .ensures)
 
 pub outcome-of-spec : {M : Type 1} → statement M
 outcome-of-spec =
@@ -34,4 +39,5 @@ outcome-of-spec =
     count-rows-requires-2
     count-rows-requires-3
     count-rows-requires-4
+    why-number-requires
     returns)

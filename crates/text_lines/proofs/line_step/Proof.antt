@@ -1,6 +1,7 @@
 -- What a line does, after good lines.
 use mathlib.Core.Path.{ap, _∙_}
 use native.Mathlib.Omega.{arith}
+use Rattle.text_faults.specs.declared.Why.the-variants.{Long}
 use Rattle.text_lines.specs.Lines.{Control, bad, readLine}
 use Rattle.text_lines.specs.View.{controlOf}
 use Rattle.text_lines.proofs.Lines.{effect-long, effect-read}
@@ -20,7 +21,7 @@ returns c =
     let start = numbered .before .before in
     let control = controlOf (start .args .core) (start .args .names .now) in
     let here = numbered .number-line .ensures .0 (start .args .names .now) in (
-      c .bad-line .ensures .0 (start .args .names .now) ∙ ap (λ (k : Control). bad k 31 0) here
+      c .bad-line .ensures .0 (start .args .names .now) ∙ ap (λ (k : Control). bad k Long) here
           ∙ effect-long control (start .args .n) (start .args .l .now) (start .pre .1) (c .before .if1 .taken),
       c .bad-line .ensures .1,
     )

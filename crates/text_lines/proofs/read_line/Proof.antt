@@ -1,6 +1,7 @@
 -- A line: a header, an empty line, or a row.
 use mathlib.Core.Path.{ap, _∙_}
 use borrow.Author.Tests.{not-true, not-false}
+use Rattle.text_rows.specs.Rows.{Taken}
 use Rattle.text_lines.specs.Lines.{row}
 use Rattle.text_lines.specs.View.{controlOf}
 use Rattle.text_lines.proofs.Lines.{read-header, read-empty, read-row}
@@ -42,7 +43,7 @@ returns-3 c =
     let second = c .before .before .before .before in
     let a = second .before .before .before .before .args in
     let control = controlOf (a .core) (a .names .now) in (
-      c .row-line .ensures .0 (a .names .now) _ ∙ ap (row control) (c .before .sheet-row .ensures .0)
+      c .row-line .ensures .0 (a .names .now) _ ∙ ap (λ (t : Taken). row control t (a .line .now)) (c .before .sheet-row .ensures .0)
           ∙ read-row control (a .line .now) (not-false _ (second .before .if1 .left)) (second .if2 .left),
       c .row-line .ensures .1,
     )

@@ -2,8 +2,8 @@
 use mathlib.Core.Path.{_∙_}
 use Rattle.reader.proofs.Final.{whole-read}
 use borrow.Author.Needs.{needs}
-use Rattle.reader.proofs.cdsat_read.Statement.{statement}
-use Rattle.reader.proofs.cdsat_read.Tie as tie
+use Rattle.reader.proofs.read_text.Statement.{statement}
+use Rattle.reader.proofs.read_text.Tie as tie
 
 begin-requires : tie.Need-begin-requires
 begin-requires c κs = search needs
@@ -58,8 +58,8 @@ returns c =
     let start = first .before .before .before .before .before .before .before .before .before .before in
     whole-read (start .args .text .now) _ _ _ _ (first .begin .ensures .0) _ _ _ (on .feed .ensures .0) (end .finish .ensures)
 
-pub cdsat-read-spec : {M : Type 1} → statement M
-cdsat-read-spec =
+pub read-text-spec : {M : Type 1} → statement M
+read-text-spec =
     tie.close
     (tie.spec
     begin-requires
