@@ -116,7 +116,7 @@ fn run_lent(name: &[u8], terms: &[u16], input: &[u16], log: &[u16], words: usize
     let sorts = [BLANK, BLANK];
     let mut work = [77u64; 2068];
     let mut trail = [0u16; 1028];
-    let o = checker::cdsat_run(
+    let o = checker::answer(
         &sorts,
         terms,
         input,

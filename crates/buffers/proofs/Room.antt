@@ -4,7 +4,7 @@ use mathlib.Core.Path.{_≡_, refl, ap, sym, _∙_}
 use mathlib.Core.List.{List, [], _∷_, _++_, append-assoc}
 use native.Mathlib.Omega.{arith}
 use native.Mathlib.Numerals.{add-one}
-use lib.ListN.{length, drop, getD, set, replicate, drop-of-length-le, length-append}
+use lib.ListN.{length, take, drop, getD, set, replicate, drop-of-length-le, length-append}
 use lib.Seq.{drop-cons, sets}
 use Rattle.buffers.specs.Room.{padTo}
 
@@ -42,3 +42,9 @@ store-row n l (v ∷ vs) =
     let e : length (l ++ (v ∷ [])) ≡ suc (length l) = length-append l (v ∷ []) ∙ add-one (length l) in
     ap (λ (s : List ℕ). sets s (suc (length l)) vs) (pad-snoc n l v) ∙ ap (λ (i : ℕ). sets (padTo n (l ++ (v ∷ []))) i vs) (sym e)
     ∙ store-row n (l ++ (v ∷ [])) vs ∙ ap (padTo n) (append-assoc l (v ∷ []) vs)
+
+-- what was put comes back, where there was room
+pub take-pad : (n : ℕ) (l : List ℕ) → length l ≤ n → take (length l) (padTo n l) ≡ l
+take-pad n [] h = refl
+take-pad zero (x ∷ xs) h = absurd (omega arith)
+take-pad (suc n) (x ∷ xs) h = ap (λ (r : List ℕ). x ∷ r) (take-pad n xs (omega arith))

@@ -1,4 +1,4 @@
--- What the exported call states: its result and both lent buffers, for every call.
+-- What the call states: its result and both lent buffers, for every call.
 use mathlib.Core.Path.{_≡_}
 use mathlib.Core.List.{List}
 use Prim.Native.Nat.{ℕ}

@@ -1,4 +1,4 @@
-// The exported call: sheets in, the log run, the result, the trail buffer and a cleared workspace out.
+// The call: sheets in, the log run, the result, the trail buffer and a cleared workspace out.
 ghost use mathlib.Core.Path.{_≡_};
 ghost use Prim.Native.Nat.{_*_, _≤_};
 ghost use lib.ListN.{length};
@@ -125,8 +125,7 @@ fn run_sheets(
 
 // Runs a log. With 30, 31, 32 nothing is written; otherwise the entries of the trail stand in `trail`, in order, with what follows
 // them as it was, and the workspace is all zero. Its old contents are immaterial.
-#[no_mangle]
-pub extern "C" fn cdsat_run(
+pub fn answer(
     sorts: &[u16],
     terms: &[u16],
     inputs: &[u16],

@@ -14,7 +14,7 @@ use Rattle.reader.specs.declared.ReadOutcome.{ReadOutcome}
 use Rattle.reader.specs.Text.{Lent, lentOf, last, linesFold, startState, fits, textState, textFault, textNumber, textOutcome, textSheet, TextRead}
 use Rattle.text_stream.specs.Stream.{Stream, feedAll, freshStream, streamOf}
 use Rattle.reader.specs.Stream.{startProgress, streamFault, streamNumber, holdRows, leftSheet, Begun, Finished}
-use Rattle.reader.proofs.Sizes.{sized-sorts, sized-terms, sized-inputs, sized-steps}
+use Rattle.reader.proofs.Sizes.{Sized, sized-sorts, sized-terms, sized-inputs, sized-steps}
 use Rattle.reader.proofs.Whole.{Follows, reached, padded, whole-text}
 
 -- before the first byte
@@ -36,7 +36,7 @@ module _ (n : Lent) (bs : List ℕ) (s : Stream) (is : s ≡ feedAll (freshStrea
   ran : Follows n s (reached 1 startState (pieces 10 bs))
   ran = rw is (whole-text n bs)
 
-  control-is : s .control ≡ textState bs .control
+  pub control-is : s .control ≡ textState bs .control
   unfolding textState
   control-is = ran .control-is
 
@@ -82,6 +82,11 @@ module _ (n : Lent) (bs : List ℕ) (s : Stream) (is : s ≡ feedAll (freshStrea
         inputs-is = h .inputs-is ∙ rw (number-is, sheets-are) (left-padded (textNumber n bs) (n .inputs) (st .inputs));
         steps-is = h .steps-is ∙ rw (number-is, sheets-are) (left-padded (textNumber n bs) (n .steps) (st .steps));
       }
+
+-- the numbers of each sheet's rows are as many as the counts say
+pub text-sized : (bs : List ℕ) → Sized (textState bs)
+unfolding textState
+text-sized bs = whole-text (record { sorts = 0; terms = 0; inputs = 0; steps = 0 }) bs .sized
 
 -- a whole text, begun, fed and finished
 pub whole-read : (text a b c d : List ℕ) {f : Progress} {a₁ b₁ c₁ d₁ : List ℕ} → Begun a b c d f a₁ b₁ c₁ d₁

@@ -2,14 +2,14 @@
 use Prim.Native.Nat.{ℕ}
 use mathlib.Core.Path.{_≡_, refl, ap, sym, _∙_}
 use mathlib.Core.List.{List, [], _∷_}
-use Rattle.reader.specs.Text.{Lent, startState}
+use Rattle.reader.specs.Text.{Lent, startState, textState}
 use Rattle.text_lines.specs.View.{Sheets}
 use Rattle.text_stream.specs.Stream.{Stream, feedAll, freshStream}
 use Rattle.reader.specs.Stream.{fedPieces, joined, zeroSheets, ReadInPieces}
 use Rattle.text_stream.proofs.Bytes.{feed-append}
 use Rattle.buffers.proofs.Room.{pad-none}
 use Rattle.reader.proofs.Whole.{padded}
-use Rattle.reader.proofs.Final.{read-is}
+use Rattle.reader.proofs.Final.{read-is, control-is}
 
 pieces-whole : (s : Stream) (ps : List (List ℕ)) → fedPieces s ps ≡ feedAll s (joined ps)
 pieces-whole s [] = refl
@@ -18,8 +18,15 @@ pieces-whole s (p ∷ ps) = pieces-whole (feedAll s p) ps ∙ sym (feed-append s
 zeros-are : (n : Lent) → zeroSheets n ≡ padded n startState
 zeros-are n = rw (pad-none (n .sorts), pad-none (n .terms), pad-none (n .inputs), pad-none (n .steps))
 
+pub whole-is : (n : Lent) (ps : List (List ℕ))
+    → fedPieces (freshStream (zeroSheets n)) ps ≡ feedAll (freshStream (padded n startState)) (joined ps)
+whole-is n ps =
+    pieces-whole (freshStream (zeroSheets n)) ps ∙ ap (λ (x : Sheets). feedAll (freshStream x) (joined ps)) (zeros-are n)
+
 pub read-in-pieces : ReadInPieces
 read-in-pieces n ps r line′ names′ sorts′ terms′ inputs′ steps′ h =
-    let e : fedPieces (freshStream (zeroSheets n)) ps ≡ feedAll (freshStream (padded n startState)) (joined ps) =
-    pieces-whole (freshStream (zeroSheets n)) ps ∙ ap (λ (x : Sheets). feedAll (freshStream x) (joined ps)) (zeros-are n) in
-    read-is n (joined ps) (fedPieces (freshStream (zeroSheets n)) ps) e r line′ names′ sorts′ terms′ inputs′ steps′ h
+    read-is n (joined ps) (fedPieces (freshStream (zeroSheets n)) ps) (whole-is n ps) r line′ names′ sorts′ terms′ inputs′ steps′ h
+
+-- where the reading stands after all pieces
+pub pieces-control : (n : Lent) (ps : List (List ℕ)) → fedPieces (freshStream (zeroSheets n)) ps .control ≡ textState (joined ps) .control
+pieces-control n ps = control-is n (joined ps) (fedPieces (freshStream (zeroSheets n)) ps) (whole-is n ps)

@@ -1,8 +1,8 @@
--- `checker::cdsat_run` meets its contract.
+-- `checker::answer` meets its contract.
 use Rattle.checker.proofs.Answers.{lengths-passed, lengths-away, cleared}
 use borrow.Author.Needs.{needs}
-use Rattle.checker.proofs.cdsat_run.Statement.{statement}
-use Rattle.checker.proofs.cdsat_run.Tie as tie
+use Rattle.checker.proofs.answer.Statement.{statement}
+use Rattle.checker.proofs.answer.Tie as tie
 
 check-lengths-requires : tie.Need-check-lengths-requires
 check-lengths-requires c κs = search needs
@@ -40,8 +40,8 @@ same-length-4 c = search needs
 returns-2 : tie.Need-returns-2
 returns-2 c = search cleared
 
-pub cdsat-run-spec : {M : Type 1} → statement M
-cdsat-run-spec =
+pub answer-spec : {M : Type 1} → statement M
+answer-spec =
     tie.close
     (tie.spec
     check-lengths-requires

@@ -1,0 +1,139 @@
+-- Laws of the answer to a text.
+use Prim.Native.Nat.{ℕ, _*_, _≤_}
+use mathlib.Core.Path.{_≡_, refl, ap, sym, subst, _∙_}
+use mathlib.Core.Bool.{Bool, true, false}
+use mathlib.Core.List.{List}
+use native.Mathlib.Omega.{arith}
+use borrow.Author.Tests.{eq-eqb, ne-eqb, le-leb, eqb-true}
+use lib.Dec.{eqb, leb}
+use lib.ListN.{length, take}
+use Rattle.buffers.specs.Room.{padTo}
+use Rattle.buffers.proofs.Room.{take-pad}
+use Rattle.text_fields.specs.Split.{pick}
+use Rattle.text_rows.specs.View.{keptOf, Bounded}
+use Rattle.text_names.proofs.Table.{length-names}
+use Rattle.text_rows.specs.declared.Counts.{Counts}
+use Rattle.reader.specs.declared.ReadOutcome.{ReadOutcome}
+use Rattle.reader.specs.Text.{State, fits, textState, textFault, textNumber, outcomeOf, textOutcome, textSheet, TextRead}
+use Rattle.text_lines.specs.Lines.{Control}
+use Rattle.text_stream.specs.declared.Progress.{Progress}
+use Rattle.text_stream.specs.Stream.{Stream, streamOf, freshStream}
+use Rattle.reader.specs.Stream.{Finished, fedPieces, joined, zeroSheets}
+use Rattle.reader.proofs.Pieces.{read-in-pieces, pieces-control}
+use Rattle.reader.proofs.Sizes.{Sized, sized-sorts, sized-terms, sized-inputs, sized-steps}
+use Rattle.reader.proofs.Final.{text-sized}
+use Rattle.verdict.specs.declared.Answer.{Answer}
+use Rattle.verdict.specs.Verdict.{most, verdictOf}
+use Rattle.verdict.specs.Fault.{complaintOf}
+use Rattle.verdict.specs.Contract.{Held, unreadAnswer, runAnswer, answerOf, Concluded}
+
+-- the greatest sheets hold the rows of every text
+pub held-all : (s : State) → Sized s → (n : Counts) (t : List ℕ) → s .control .kept ≡ keptOf n t → Bounded n → Held s
+held-all s sized n t kept bounded =
+    let a : length (s .control .kept .sorts) ≡ n .sorts = rw kept (length-names t 0 (n .sorts)) in
+    let b : length (s .control .kept .terms) ≡ n .terms = rw kept (length-names t 32 (n .terms)) in
+    let c : s .control .kept .inputs ≡ n .inputs = rw kept in
+    let d : s .control .kept .steps ≡ n .steps = rw kept in
+    record {
+      sorts = omega (arith, sized-sorts s sized, bounded .0, a);
+      terms = omega (arith, sized-terms s sized, bounded .1, b);
+      inputs = omega (arith, sized-inputs s sized, bounded .3, c);
+      steps = omega (arith, sized-steps s sized, bounded .4, d);
+    }
+
+fits-most : (s : State) → Held s → fits most s ≡ true
+fits-most s h =
+    rw (
+      le-leb (length (s .sorts)) 64 (h .sorts),
+      le-leb (length (s .terms)) 1536 (h .terms),
+      le-leb (length (s .inputs)) 512 (h .inputs),
+      le-leb (length (s .steps)) 9216 (h .steps),
+    )
+
+-- the rows come back from a sheet that holds them
+rows-back : (n count w : ℕ) (rows sheet : List ℕ) → length rows ≤ n → length rows ≡ count * w → sheet ≡ textSheet 0 n rows
+    → take (count * w) sheet ≡ rows
+unfolding textSheet
+rows-back n count w rows sheet h e is = rw (is, ← e) (take-pad n rows h)
+
+module _ (bs : List ℕ) (held : Held (textState bs)) where
+  -- a text's number is its fault's
+  number-is : textNumber most bs ≡ textFault bs .number
+  unfolding textNumber
+  number-is = go (eqb (textFault bs .number) 0) refl where
+    go : (b : Bool) → eqb (textFault bs .number) 0 ≡ b
+        → pick (eqb (textFault bs .number) 0) (pick (fits most (textState bs)) 0 32) (textFault bs .number) ≡ textFault bs .number
+    go true e = rw (e, fits-most (textState bs) held) (sym (eqb-true (textFault bs .number) 0 e))
+    go false e = rw e
+
+  module _ (r : ReadOutcome) (sorts terms inputs steps : List ℕ) (read : TextRead bs most r sorts terms inputs steps) where
+    fault-is : r .number ≡ textFault bs .number
+    unfolding textOutcome
+    fault-is = ap (λ (x : ReadOutcome). x .number) (read .outcome-is) ∙ number-is
+
+    -- a text that is not read
+    pub judged-unread : (r .number ≡ 0 → ⊥) → {a : Answer} → a ≡ unreadAnswer r → a ≡ answerOf bs
+    unfolding answerOf verdictOf complaintOf textOutcome
+    judged-unread h is =
+        let e : eqb (textFault bs .number) 0 ≡ false = ne-eqb (textFault bs .number) 0 (λ z. h (fault-is ∙ z)) in
+        is ∙ rw (read .outcome-is, number-is, e)
+
+    -- a text that is read
+    module _ (good : r .number ≡ 0) where
+      zero-is : textNumber most bs ≡ 0
+      zero-is = number-is ∙ sym fault-is ∙ good
+
+      counts-are : r ≡ outcomeOf 0 (textFault bs) (textState bs .control .kept)
+      unfolding textOutcome
+      counts-are = read .outcome-is ∙ ap (λ (x : ℕ). outcomeOf x (textFault bs) (textState bs .control .kept)) zero-is
+
+      abbrev s : State
+      s = textState bs
+
+      sorts-back : take (r .sorts * 2) sorts ≡ s .sorts
+      sorts-back =
+          rows-back 64 (r .sorts) 2 (s .sorts) sorts (held .sorts) (rw counts-are (sized-sorts s (text-sized bs))) (rw zero-is at (read .sorts-is))
+
+      terms-back : take (r .terms * 6) terms ≡ s .terms
+      terms-back =
+          rows-back 1536 (r .terms) 6 (s .terms) terms (held .terms) (rw counts-are (sized-terms s (text-sized bs))) (rw zero-is at (read .terms-is))
+
+      inputs-back : take (r .inputs * 2) inputs ≡ s .inputs
+      inputs-back =
+          rows-back 512 (r .inputs) 2 (s .inputs) inputs (held .inputs) (rw counts-are (sized-inputs s (text-sized bs))) (rw zero-is at (read .inputs-is))
+
+      steps-back : take (r .steps * 9) steps ≡ s .steps
+      steps-back =
+          rows-back 9216 (r .steps) 9 (s .steps) steps (held .steps) (rw counts-are (sized-steps s (text-sized bs))) (rw zero-is at (read .steps-is))
+
+      pub judged-run : (a b c d : List ℕ)
+          → a ≡ take (r .sorts * 2) sorts → b ≡ take (r .terms * 6) terms → c ≡ take (r .inputs * 2) inputs → d ≡ take (r .steps * 9) steps
+          → {x : Answer} → x ≡ runAnswer (r .sorts) (r .terms) (r .inputs) a b c d → x ≡ answerOf bs
+      unfolding answerOf verdictOf complaintOf
+      judged-run a b c d p q u v is =
+          let e : eqb (textFault bs .number) 0 ≡ true = eq-eqb (textFault bs .number) 0 (sym fault-is ∙ good) in
+          is ∙ rw (p ∙ sorts-back, q ∙ terms-back, u ∙ inputs-back, v ∙ steps-back, counts-are, e)
+
+-- a text that came in pieces, finished and judged
+module _ (ps : List (List ℕ)) (f : Progress) (line t a b c d : List ℕ) (bounded : Bounded (f .core .counts))
+    (is : streamOf f line t a b c d ≡ fedPieces (freshStream (zeroSheets most)) ps) where
+  held-pieces : Held (textState (joined ps))
+  held-pieces =
+      let control = sym (pieces-control most ps) ∙ ap (λ (x : Stream). x .control) (sym is) in
+      held-all (textState (joined ps)) (text-sized (joined ps)) (f .core .counts) t (ap (λ (x : Control). x .kept) control) bounded
+
+  pub concluded : {r : ReadOutcome} {line′ names′ a′ b′ c′ d′ : List ℕ} → Finished (streamOf f line t a b c d) r line′ names′ a′ b′ c′ d′
+      → {x : Answer} → ((bs : List ℕ) → Held (textState bs) → TextRead bs most r a′ b′ c′ d′ → x ≡ answerOf bs)
+      → Concluded (joined ps) x line′ names′ a′ b′ c′ d′
+  concluded {r} {line′} {names′} {a′} {b′} {c′} {d′} end judged =
+      let whole = subst (λ (s : Stream). Finished s r line′ names′ a′ b′ c′ d′) is end in
+      let read = read-in-pieces most ps r line′ names′ a′ b′ c′ d′ whole in
+      record {
+        answer-is = judged (joined ps) held-pieces read;
+        line-is = end .line-is;
+        names-is = end .names-is;
+        sorts-is = read .sorts-is;
+        terms-is = read .terms-is;
+        inputs-is = read .inputs-is;
+        steps-is = read .steps-is;
+      }
