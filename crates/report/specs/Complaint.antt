@@ -25,7 +25,7 @@ whatPart n = decimal n ++ bytes " " ++ meaning n
 unfoldable pub whyPart : Why → List ℕ
 whyPart why = pick (eqb (whyNumber why) 0) [] (bytes ": " ++ cause (whyNumber why))
 
--- nothing where there is no fault
+-- the line; nothing where there is no fault
 unfoldable pub complained : Complaint → List ℕ
 complained c =
     pick (eqb (c .number) 0) [] (wherePart (c .line) (c .field) ++ whatPart (c .number) ++ whyPart (c .why) ++ bytes "\n")

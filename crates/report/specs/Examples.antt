@@ -25,6 +25,7 @@ complaint : ℕ → ℕ → ℕ → Why → String → Example
 complaint line field number why s =
     record { said = complained (record { number = number; line = line; field = field; why = why }); text = bytes s }
 
+-- each with its text
 pub table : List Example
 table =
     -- the three verdicts, and a number that is none of theirs
@@ -52,6 +53,7 @@ table =
     "line 18446744073709551615, field 18446744073709551615: 31 malformed: the last line has no newline\n"
     ∷ []
 
+-- each is printed as its text
 pub texts : map (λ (e : Example). e .said) table ≡ map (λ (e : Example). e .text) table
 unfolding table result complaint printed verdictWord numberField digitsOf decimal complained fieldPart wherePart whatPart whyPart meaning cause
 texts = refl

@@ -6,12 +6,12 @@ use lib.ListN.{getD}
 use Rattle.text_fields.specs.Split.{pick, bytes, pieces}
 use Rattle.calculus.specs.declared.Outcome.{Outcome}
 
--- the decimal digits of n, of which there are at most k
+-- the decimal digits of n in ASCII, without leading zeros, where k is as many as there are or more
 unfoldable pub digitsOf : ℕ → ℕ → List ℕ
 digitsOf zero n = []
 digitsOf (suc k) n = pick (ltb n 10) ((48 + n) ∷ []) (digitsOf k (n / 10) ++ ((48 + n % 10) ∷ []))
 
--- a number of 64 bits in decimal, without leading zeros
+-- a number of 64 bits in decimal: twenty digits are the most
 unfoldable pub decimal : ℕ → List ℕ
 decimal n = digitsOf 20 n
 
@@ -19,6 +19,7 @@ decimal n = digitsOf 20 n
 abbrev pub verdictWords : List (List ℕ)
 verdictWords = pieces 32 (bytes "open refuted refused")
 
+-- a number that no verdict has is printed as refused
 unfoldable pub verdictWord : ℕ → List ℕ
 verdictWord v = getD verdictWords v (bytes "refused")
 
@@ -26,7 +27,7 @@ verdictWord v = getD verdictWords v (bytes "refused")
 unfoldable pub numberField : ℕ → List ℕ
 numberField n = bytes " " ++ decimal n
 
--- a result: how many steps were allowed, the number of the refusal, and how many entries the trail has follow the verdict
+-- a result: the verdict, how many steps were allowed, the number of the refusal or 0, and how many entries the trail has
 unfoldable pub printed : Outcome → List ℕ
 printed o =
     bytes "verdict steps code trail\n"

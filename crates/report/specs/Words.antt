@@ -13,6 +13,7 @@ pub record Meaning : Type 0 where
   pub number : ℕ
   pub words : List ℕ
 
+-- a row of a list, by the number or by the cause
 abbrev pub means : ℕ → String → Meaning
 means n s = record { number = n; words = bytes s }
 
@@ -55,6 +56,7 @@ meanings =
     ∷ means 32 "a lent buffer is short"
     ∷ []
 
+-- what a number means
 unfoldable pub meaning : ℕ → List ℕ
 meaning n = wordsOf meanings n
 
@@ -74,5 +76,6 @@ causes =
     ∷ because Cut "the last line has no newline"
     ∷ []
 
+-- what the number of a cause means; nothing for that of `Fine`
 unfoldable pub cause : ℕ → List ℕ
 cause n = wordsOf causes n
