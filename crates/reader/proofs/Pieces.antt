@@ -2,10 +2,11 @@
 use Prim.Native.Nat.{ℕ}
 use mathlib.Core.Path.{_≡_, refl, ap, sym, _∙_}
 use mathlib.Core.List.{List, [], _∷_}
-use Rattle.reader.specs.Text.{Lent, startState, textState}
+use Rattle.reader.specs.Text.{Lent, lentOf, startState, textState}
 use Rattle.text_lines.specs.View.{Sheets}
-use Rattle.text_stream.specs.Stream.{Stream, feedAll, freshStream}
-use Rattle.reader.specs.Stream.{fedPieces, joined, zeroSheets, ReadInPieces}
+use Rattle.text_stream.specs.declared.Progress.{Progress}
+use Rattle.text_stream.specs.Stream.{Stream, feedAll, freshStream, streamOf}
+use Rattle.reader.specs.Stream.{Begun, fedPieces, joined, zeroSheets, ReadInPieces}
 use Rattle.text_stream.proofs.Bytes.{feed-append}
 use Rattle.buffers.proofs.Room.{pad-none}
 use Rattle.reader.proofs.Whole.{padded}
@@ -30,3 +31,8 @@ read-in-pieces n ps r line′ names′ sorts′ terms′ inputs′ steps′ h =
 -- where the reading stands after all pieces
 pub pieces-control : (n : Lent) (ps : List (List ℕ)) → fedPieces (freshStream (zeroSheets n)) ps .control ≡ textState (joined ps) .control
 pieces-control n ps = control-is n (joined ps) (fedPieces (freshStream (zeroSheets n)) ps) (whole-is n ps)
+
+-- a text that begins
+pub begun-fresh : (n : Lent) {a b c d : List ℕ} → lentOf a b c d ≡ n → {f : Progress} {a′ b′ c′ d′ : List ℕ} → Begun a b c d f a′ b′ c′ d′
+    → (line names : List ℕ) → streamOf f line names a′ b′ c′ d′ ≡ freshStream (zeroSheets n)
+begun-fresh n is h line names = rw (h .starts, h .sorts-is, h .terms-is, h .inputs-is, h .steps-is, ← is)

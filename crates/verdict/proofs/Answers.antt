@@ -2,30 +2,32 @@
 use Prim.Native.Nat.{ℕ, _*_, _≤_}
 use mathlib.Core.Path.{_≡_, refl, ap, sym, subst, _∙_}
 use mathlib.Core.Bool.{Bool, true, false}
-use mathlib.Core.List.{List}
+use mathlib.Core.List.{List, [], _∷_}
 use native.Mathlib.Omega.{arith}
 use borrow.Author.Tests.{eq-eqb, ne-eqb, le-leb, eqb-true}
 use lib.Dec.{eqb, leb}
 use lib.ListN.{length, take}
 use Rattle.buffers.specs.Room.{padTo}
-use Rattle.buffers.proofs.Room.{take-pad}
+use Rattle.buffers.proofs.Room.{append-nil, take-pad}
+use Rattle.report.specs.Put.{Laid}
+use Rattle.report.specs.Complaint.{complained}
 use Rattle.text_fields.specs.Split.{pick}
 use Rattle.text_rows.specs.View.{keptOf, Bounded}
 use Rattle.text_names.proofs.Table.{length-names}
 use Rattle.text_rows.specs.declared.Counts.{Counts}
 use Rattle.reader.specs.declared.ReadOutcome.{ReadOutcome}
-use Rattle.reader.specs.Text.{State, fits, textState, textFault, textNumber, outcomeOf, textOutcome, textSheet, TextRead}
+use Rattle.reader.specs.Text.{State, lentOf, fits, textState, textFault, textNumber, outcomeOf, textOutcome, textSheet, TextRead}
 use Rattle.text_lines.specs.Lines.{Control}
 use Rattle.text_stream.specs.declared.Progress.{Progress}
-use Rattle.text_stream.specs.Stream.{Stream, streamOf, freshStream}
-use Rattle.reader.specs.Stream.{Finished, fedPieces, joined, zeroSheets}
-use Rattle.reader.proofs.Pieces.{read-in-pieces, pieces-control}
+use Rattle.text_stream.specs.Stream.{Stream, feedAll, streamOf, freshStream}
+use Rattle.reader.specs.Stream.{Begun, Finished, fedPieces, joined, zeroSheets}
+use Rattle.reader.proofs.Pieces.{read-in-pieces, pieces-control, begun-fresh}
 use Rattle.reader.proofs.Sizes.{Sized, sized-sorts, sized-terms, sized-inputs, sized-steps}
 use Rattle.reader.proofs.Final.{text-sized}
 use Rattle.verdict.specs.declared.Answer.{Answer}
 use Rattle.verdict.specs.Verdict.{most, verdictOf}
 use Rattle.verdict.specs.Fault.{complaintOf}
-use Rattle.verdict.specs.Contract.{Held, unreadAnswer, runAnswer, answerOf, Concluded}
+use Rattle.verdict.specs.Contract.{Held, unreadAnswer, runAnswer, answerOf, Concluded, Checked}
 
 -- the greatest sheets hold the rows of every text
 pub held-all : (s : State) → Sized s → (n : Counts) (t : List ℕ) → s .control .kept ≡ keptOf n t → Bounded n → Held s
@@ -137,3 +139,17 @@ module _ (ps : List (List ℕ)) (f : Progress) (line t a b c d : List ℕ) (boun
         inputs-is = read .inputs-is;
         steps-is = read .steps-is;
       }
+
+-- a text in memory: one piece
+module _ (text : List ℕ) {a b c d : List ℕ} (lent : lentOf a b c d ≡ most) {f : Progress} {a₀ b₀ c₀ d₀ : List ℕ} (begun : Begun a b c d f a₀ b₀ c₀ d₀)
+    (line names : List ℕ) (s : Stream) (fed : s ≡ feedAll (streamOf f line names a₀ b₀ c₀ d₀) text) where
+  one-piece : s ≡ fedPieces (freshStream (zeroSheets most)) (text ∷ [])
+  one-piece = fed ∙ ap (λ (x : Stream). feedAll x text) (begun-fresh most lent begun line names)
+
+  pub checked : (x : Answer) {line′ names′ a′ b′ c′ d′ : List ℕ}
+      → ((ps : List (List ℕ)) → s ≡ fedPieces (freshStream (zeroSheets most)) ps → Concluded (joined ps) x line′ names′ a′ b′ c′ d′)
+      → (n k : ℕ) {said : List ℕ} → Laid n (complained (x .complaint)) k said → Checked text n (x .outcome) said
+  unfolding answerOf
+  checked x end n k told =
+      let is = end (text ∷ []) one-piece .answer-is ∙ ap answerOf (append-nil text) in
+      record { result = ap (λ (y : Answer). y .outcome) is; told = told .out-is ∙ ap (λ (y : Answer). padTo n (complained (y .complaint))) is }

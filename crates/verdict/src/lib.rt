@@ -11,7 +11,7 @@ ghost use Rattle.reader.specs.Stream.{fedPieces, joined, zeroSheets};
 ghost use Rattle.reader.specs.Places.{rowLine};
 ghost use Rattle.verdict.specs.Verdict.{most, callWith, unread};
 ghost use Rattle.verdict.specs.Fault.{sheetOf, cutCall, cutRefused, refusedRow, rowIn, lineOf};
-ghost use Rattle.verdict.specs.Contract.{Held, unreadAnswer, runAnswer, answerOf, Concluded};
+ghost use Rattle.verdict.specs.Contract.{Held, unreadAnswer, runAnswer, answerOf, Concluded, Checked};
 use calculus::Outcome;
 use reader::ReadOutcome;
 use report::Complaint;
@@ -216,4 +216,38 @@ pub fn conclude(
 {
     let r = reader::finish(f, line, names, sorts, terms, inputs, steps);
     judge(r, sorts, terms, inputs, steps)
+}
+
+// A text in memory. `said` gets the line that a person is told, cut where it is short, and then zeros.
+pub fn check_text(text: &[u8], said: &mut [u8]) -> Outcome
+    ensures { λ r. ⌜ Checked (now (text .entry)) (length (now (said .entry))) r (now (said .exit)) ⌝ }
+{
+    let mut line = [0u8; 526];
+    let mut names = [0u8; 55392];
+    let mut sorts = [0u16; 64];
+    let mut terms = [0u16; 1536];
+    let mut inputs = [0u16; 512];
+    let mut steps = [0u16; 9216];
+    let start = reader::begin(&mut sorts, &mut terms, &mut inputs, &mut steps);
+    let f = text_stream::feed(
+        start,
+        text,
+        &mut line,
+        &mut names,
+        &mut sorts,
+        &mut terms,
+        &mut inputs,
+        &mut steps,
+    );
+    let a = conclude(
+        f,
+        &mut line,
+        &mut names,
+        &mut sorts,
+        &mut terms,
+        &mut inputs,
+        &mut steps,
+    );
+    report::tell(a.complaint, said);
+    a.outcome
 }

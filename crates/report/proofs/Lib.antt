@@ -1,0 +1,6 @@
+pub mod Lines
+pub mod Parts
+pub mod Digits
+pub mod Printed
+pub mod Words
+pub mod Complaints

@@ -1,0 +1,6 @@
+pub mod Put
+pub mod Printed
+pub mod Lines
+pub mod Words
+pub mod Complaint
+pub mod Examples
