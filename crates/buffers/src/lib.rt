@@ -16,12 +16,12 @@ pub fn clear_bytes(d: &mut [u8])
 }
 
 // Clears a buffer of numbers.
-pub fn clear_numbers(d: &mut [u16])
-    ensures { λ _. ⌜ now (d .exit) ≡ replicate (length (now (d .entry))) 0 ⌝ }
+pub fn clear_numbers(numbers: &mut [u16])
+    ensures { λ _. ⌜ now (numbers .exit) ≡ replicate (length (now (numbers .entry))) 0 ⌝ }
 {
     let mut i = 0;
-    while i < d.len() {
-        d[i] = 0;
+    while i < numbers.len() {
+        numbers[i] = 0;
         i += 1;
     }
 }

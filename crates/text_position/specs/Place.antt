@@ -9,9 +9,13 @@ use Rattle.text_position.specs.declared.Position.{Position}
 abbrev pub nextLine : ℕ → ℕ
 nextLine n = pick (ltb n 18446744073709551615) (n + 1) n
 
+-- the start of the next line
+abbrev pub nextStart : Position → Position
+nextStart p = record { line = nextLine (p .line); at = 0 }
+
 -- the position after a byte: a newline starts the next line; the place stops at 526
 abbrev pub advanced : Position → ℕ → Position
 advanced p b =
     pick (isNewline (classOf b))
-    (record { line = nextLine (p .line); at = 0 })
+    (nextStart p)
     (record { line = p .line; at = pick (ltb (p .at) 526) (p .at + 1) (p .at) })

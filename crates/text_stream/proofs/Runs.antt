@@ -11,7 +11,7 @@ use lib.ListN.{length, take, drop, getD, length-append, length-drop, take-append
 use lib.Seq.{take-all, take-at, take-suc, drop-drop}
 use Rattle.text_fields.specs.Split.{pick, before}
 use Rattle.text_position.specs.declared.Position.{Position}
-use Rattle.text_position.specs.Place.{nextLine, advanced}
+use Rattle.text_position.specs.Place.{nextStart}
 use Rattle.text_lines.specs.Lines.{Control, Effect, quiet, lineEffect}
 use Rattle.text_lines.specs.View.{Sheets, stored, LineEnded}
 use Rattle.text_lines.proofs.Lines.{effect-late, effect-cut}
@@ -110,22 +110,22 @@ late-line c n l s late =
     }
 
 -- what a finished line leaves
-abbrev endedBy : Control → Sheets → ℕ → Effect → Stream
-endedBy c s n e =
+abbrev endedBy : Control → Sheets → Position → Effect → Stream
+endedBy c s p e =
     record {
-      pos = record { line = nextLine n; at = 0 };
+      pos = nextStart p;
       partial = [];
       control = e .control;
       sheets = stored (c .sheet) (c .kept) s (e .cells);
     }
 
 end-step : (pos : Position) (partial : List ℕ) (c : Control) (s : Sheets)
-    → stepByte (record { pos = pos; partial = partial; control = c; sheets = s }) 10 ≡ endedBy c s (pos .line) (lineEffect c (pos .line) partial)
+    → stepByte (record { pos = pos; partial = partial; control = c; sheets = s }) 10 ≡ endedBy c s pos (lineEffect c (pos .line) partial)
 unfolding stepByte
 end-step pos partial c s = refl
 
-end-line : (next pos : Position) (line l : List ℕ) (c c′ : Control) (s s′ : Sheets) → next ≡ advanced pos 10 → LineEnded c (pos .line) l s c′ s′
-    → holding next line c′ s′ ≡ endedBy c s (pos .line) (lineEffect c (pos .line) l)
+end-line : (next pos : Position) (line l : List ℕ) (c c′ : Control) (s s′ : Sheets) → next ≡ nextStart pos → LineEnded c (pos .line) l s c′ s′
+    → holding next line c′ s′ ≡ endedBy c s pos (lineEffect c (pos .line) l)
 end-line next pos line l c c′ s s′ is h = rw (is, h .control-is, h .sheets-are)
 
 and-left : (a b : Bool) → (a && b) ≡ true → a ≡ true
@@ -153,7 +153,7 @@ module _ (pos : Position) (line rest : List ℕ) (n : ℕ) (is : n ≡ before 10
         let all : part ≡ take (n + 1) rest = part-is ∙ rw w (take-all n rest (omega arith) ∙ sym (part-all rest n e)) in
         held-is c s ∙ ap (feedAll (holding pos line c s)) all
 
-    pub part-ended : (next : Position) (l : List ℕ) (c c′ : Control) (s s′ : Sheets) → n ≤ length rest → (n ≡ length rest → ⊥) → next ≡ advanced held 10
+    pub part-ended : (next : Position) (l : List ℕ) (c c′ : Control) (s s′ : Sheets) → n ≤ length rest → (n ≡ length rest → ⊥) → next ≡ nextStart held
         → l ≡ pick whole (take n rest) (take (held .at) line′) → LineEnded c (held .line) l s c′ s′
         → holding next line′ c′ s′ ≡ feedAll (holding pos line c s) (take (n + 1) rest)
     part-ended next l c c′ s s′ le ne next-is l-is h =
@@ -162,7 +162,7 @@ module _ (pos : Position) (line rest : List ℕ) (n : ℕ) (is : n ≡ before 10
           start : Stream
           start = holding pos line c s
 
-          go : (w : Bool) → whole ≡ w → stepByte (feedAll start (take n rest)) 10 ≡ endedBy c s (held .line) (lineEffect c (held .line) l)
+          go : (w : Bool) → whole ≡ w → stepByte (feedAll start (take n rest)) 10 ≡ endedBy c s held (lineEffect c (held .line) l)
           go true w =
               let at : pos .at ≡ 0 = eqb-true (pos .at) 0 (and-left (eqb (pos .at) 0) (ltb n (length rest)) (sym whole-is ∙ w)) in
               let none : take (pos .at) line ≡ [] = rw at in
@@ -171,15 +171,15 @@ module _ (pos : Position) (line rest : List ℕ) (n : ℕ) (is : n ≡ before 10
               let run = run-fed (take n rest) start (line-clear rest n is) (rw none at) (rw none (omega arith)) in
               let e : lineEffect c (pos .line) (take 526 (take (pos .at) line ++ take n rest)) ≡ lineEffect c (held .line) l =
               rw (none, l-is, w, same) (effect-cut c (pos .line) (take n rest)) in
-              ap (λ (x : Stream). stepByte x 10) run ∙ end-step _ _ c s ∙ ap (endedBy c s (pos .line)) e
-              ∙ ap (λ (p : Position). endedBy c s (p .line) (lineEffect c (held .line) l)) (sym same)
+              ap (λ (x : Stream). stepByte x 10) run ∙ end-step _ _ c s ∙ ap (endedBy c s pos) e
+              ∙ ap (λ (p : Position). endedBy c s p (lineEffect c (held .line) l)) (sym same)
           go false w =
               let all : part ≡ take n rest = rw (part-is, w) in
               let this : l ≡ take (held .at) line′ = rw (l-is, w) in
               ap (λ (x : Stream). stepByte x 10) (sym (held-is c s ∙ ap (feedAll start) all)) ∙ end-step held (take (held .at) line′) c s
-              ∙ ap (λ (q : List ℕ). endedBy c s (held .line) (lineEffect c (held .line) q)) (sym this)
+              ∙ ap (λ (q : List ℕ). endedBy c s held (lineEffect c (held .line) q)) (sym this)
 
-    pub part-late : (next : Position) (c : Control) (s : Sheets) → n ≤ length rest → (n ≡ length rest → ⊥) → next ≡ advanced held 10 → (c .number ≡ 0 → ⊥)
+    pub part-late : (next : Position) (c : Control) (s : Sheets) → n ≤ length rest → (n ≡ length rest → ⊥) → next ≡ nextStart held → (c .number ≡ 0 → ⊥)
         → holding next line′ c s ≡ feedAll (holding pos line c s) (take (n + 1) rest)
     part-late next c s le ne next-is late =
         part-ended next (pick whole (take n rest) (take (held .at) line′)) c c s s le ne next-is refl (late-line c (held .line) _ s late)

@@ -94,7 +94,7 @@ fn feed_part(
     if n == end {
         return Progress { pos: held, core };
     }
-    let next = text_position::advanced_by(held.line, held.at, 10);
+    let next = text_position::next_line(held.line, held.at);
     if core.number != 0 {
         return Progress { pos: next, core };
     }

@@ -17,14 +17,14 @@ abbrev μ-loop : tie.MeasureT-loop
 loop-holds : tie.Need-loop-holds Inv-loop μ-loop
 loop-holds c = (omega arith, refl)
 
-mul-d : tie.Need-mul-d Inv-loop μ-loop
-mul-d c =
+mul-numbers : tie.Need-mul-numbers Inv-loop μ-loop
+mul-numbers c =
     let l = c .before .loop in
     let a = c .before .before .args in
-    omega (arith, clear-length (a .d .now) (l .d) (l .i) (l .inv .0) (l .inv .1))
+    omega (arith, clear-length (a .numbers .now) (l .numbers) (l .i) (l .inv .0) (l .inv .1))
 
-slice-write-d : tie.Need-slice-write-d Inv-loop μ-loop
-slice-write-d c = let l = c .before .loop in let a = c .before .before .args in omega arith
+slice-write-numbers : tie.Need-slice-write-numbers Inv-loop μ-loop
+slice-write-numbers c = let l = c .before .loop in let a = c .before .before .args in omega arith
 
 add-i : tie.Need-add-i Inv-loop μ-loop
 add-i c = omega arith
@@ -33,27 +33,27 @@ loop-less : tie.Need-loop-less Inv-loop μ-loop
 loop-less c =
     let l = c .before .loop in
     let a = c .before .before .args in
-    omega (arith, clear-length (a .d .now) (l .d) (l .i) (l .inv .0) (l .inv .1))
+    omega (arith, clear-length (a .numbers .now) (l .numbers) (l .i) (l .inv .0) (l .inv .1))
 
 loop-again : tie.Need-loop-again Inv-loop μ-loop
 loop-again c =
     let l = c .before .loop in
     let a = c .before .before .args in
-    let e = clear-length (a .d .now) (l .d) (l .i) (l .inv .0) (l .inv .1) in
-    (omega arith, clear-more (a .d .now) (l .d) (l .i) (l .inv .0) (l .inv .1) (omega arith))
+    let e = clear-length (a .numbers .now) (l .numbers) (l .i) (l .inv .0) (l .inv .1) in
+    (omega arith, clear-more (a .numbers .now) (l .numbers) (l .i) (l .inv .0) (l .inv .1) (omega arith))
 
 same-length : tie.Need-same-length Inv-loop μ-loop
 same-length c =
     let l = c .before .loop in
     let a = c .before .before .args in
-    clear-length (a .d .now) (l .d) (l .i) (l .inv .0) (l .inv .1)
+    clear-length (a .numbers .now) (l .numbers) (l .i) (l .inv .0) (l .inv .1)
 
 returns : tie.Need-returns Inv-loop μ-loop
 returns c =
     let l = c .before .loop in
     let a = c .before .before .args in
-    clear-end (a .d .now) (l .d) (l .i) (l .inv .0) (l .inv .1)
-    (omega (arith, clear-length (a .d .now) (l .d) (l .i) (l .inv .0) (l .inv .1)))
+    clear-end (a .numbers .now) (l .numbers) (l .i) (l .inv .0) (l .inv .1)
+    (omega (arith, clear-length (a .numbers .now) (l .numbers) (l .i) (l .inv .0) (l .inv .1)))
 
 pub clear-numbers-spec : {M : Type 1} → statement M
 clear-numbers-spec =
@@ -62,8 +62,8 @@ clear-numbers-spec =
     Inv-loop
     μ-loop
     loop-holds
-    mul-d
-    slice-write-d
+    mul-numbers
+    slice-write-numbers
     add-i
     loop-less
     loop-again

@@ -5,75 +5,52 @@ use Rattle.text_stream.proofs.Runs.{hold-clear, part-held, part-late, p
 use borrow.Author.Needs.{needs}
 use Rattle.text_stream.proofs.feed_part.Statement.{statement}
 use Rattle.text_stream.proofs.feed_part.Tie as tie
-use Rattle.text_stream.proofs.feed_part.Reads as reads
-use Rattle.text_stream.proofs.feed_part.Lts as lts
-use Rattle.text_lines.proofs.end_line.Reads as end-line-reads
-use Rattle.text_position.proofs.advanced_by.Reads as advanced-by-reads
-use Rattle.text_stream.proofs.hold.Reads as hold-reads
-use Rattle.text_stream.proofs.line_of.Reads as line-of-reads
-use Rattle.text_stream.proofs.stands_whole.Reads as stands-whole-reads
-use Rattle.text_stream.proofs.to_hold.Reads as to-hold-reads
 
--- src/lib.rt:101:9
 stands-whole-requires : tie.Need-stands-whole-requires
 stands-whole-requires c κs = search needs
 
--- src/lib.rt:102:41
 slice-aggregate-to-hold : tie.Need-slice-aggregate-to-hold
 slice-aggregate-to-hold c = simp length-take (omega (arith))
 
--- src/lib.rt:102:26
 to-hold-requires : tie.Need-to-hold-requires
 to-hold-requires c κs = search needs
 
--- src/lib.rt:102:9
 hold-requires : tie.Need-hold-requires
 hold-requires c κs = (search hold-clear, search needs)
 
--- src/lib.rt:104:9
 returns : tie.Need-returns
 returns c = search part-held
 
--- src/lib.rt:106:9
-advanced-by-requires : tie.Need-advanced-by-requires
-advanced-by-requires c κs = search needs
+next-line-requires : tie.Need-next-line-requires
+next-line-requires c κs = search needs
 
--- src/lib.rt:108:9
 returns-2 : tie.Need-returns-2
 returns-2 c = search part-late
 
--- src/lib.rt:110:28
 slice-aggregate-line-of : tie.Need-slice-aggregate-line-of
 slice-aggregate-line-of c = simp length-take (omega (arith))
 
--- src/lib.rt:110:9
 line-of-requires : tie.Need-line-of-requires
 line-of-requires c κs = search needs
 
--- src/lib.rt:111:9
 end-line-requires : tie.Need-end-line-requires
 end-line-requires c κs =
     let tested = c .before .before .before .before .before .before .before .before .before in
     let start = tested .before .before .before .before .before .before .before .before .before .before .before .before .before .before .before .before in
     (start .pre .0, tested .if2 .left)
 
--- src/lib.rt:77:1
 same-length : tie.Need-same-length
 same-length c = search needs
 
--- src/lib.rt:77:1
 same-length-2 : tie.Need-same-length-2
 same-length-2 c = search needs
 
--- src/lib.rt:77:1
 same-length-3 : tie.Need-same-length-3
 same-length-3 c = search needs
 
--- src/lib.rt:77:1
 same-length-4 : tie.Need-same-length-4
 same-length-4 c = search needs
 
--- src/lib.rt:77:1
 returns-3 : tie.Need-returns-3
 returns-3 c =
     let ended = c .before .before .before .before .before .before .before .before in
@@ -84,7 +61,7 @@ returns-3 c =
     let whole = asked .before .before in
     let start = whole .before .before .before .before .before .before .before .before in (
       part-ended _ _ _ _ (start .pre .1 .0) _ (whole .stands-whole .ensures) _ (asked .to-hold .ensures) _ _ (past .before .hold .ensures) _ _ _ _ _ _
-          (start .pre .1 .1) (past .if1 .left) (moved .advanced-by .ensures) (lined .line-of .ensures) (ended .end-line .ensures .0),
+          (start .pre .1 .1) (past .if1 .left) (moved .next-line .ensures) (lined .line-of .ensures) (ended .end-line .ensures .0),
       ended .end-line .ensures .1,
     )
 
@@ -97,7 +74,7 @@ feed-part-spec =
     to-hold-requires
     hold-requires
     returns
-    advanced-by-requires
+    next-line-requires
     returns-2
     slice-aggregate-line-of
     line-of-requires
