@@ -61,6 +61,15 @@ pub struct Terms {
     pub terms: [Term; MAX_TERMS],
 }
 
+/// The first row in trouble of the sheets, which stand in the order sorts, terms,
+/// inputs, steps; both count from 0.
+#[derive(Clone, Copy, Debug, PartialEq, Eq)]
+pub struct BadRow {
+    pub number: u16,
+    pub sheet: usize,
+    pub row: usize,
+}
+
 /// The index sort and the value sort of an array sort.
 type Array = Option<(u8, u8)>;
 
@@ -71,7 +80,7 @@ struct Sorts {
 }
 
 /// Reads the sort sheet; 1 if a row breaks the rule.
-fn check_sorts(sheet: &[u16]) -> Result<Sorts, u16> {
+fn check_sorts(sheet: &[u16]) -> Result<Sorts, BadRow> {
     let mut sorts = Sorts {
         declared: 0,
         arrays: [None; MAX_SORTS + 1],
@@ -83,7 +92,13 @@ fn check_sorts(sheet: &[u16]) -> Result<Sorts, u16> {
             [index, value] if earlier.contains(&index) && earlier.contains(&value) => {
                 Some((index as u8, value as u8))
             }
-            _ => return Err(1),
+            _ => {
+                return Err(BadRow {
+                    number: 1,
+                    sheet: 0,
+                    row: sorts.declared,
+                })
+            }
         };
         sorts.declared += 1;
         sorts.arrays[sorts.declared] = array;
@@ -109,7 +124,7 @@ impl Table {
 }
 
 /// Reads the sort sheet and the term sheet; 1, 3, 4 or 5 at the first trouble.
-pub fn check(sort_sheet: &[u16], term_sheet: &[u16]) -> Result<Terms, u16> {
+pub fn check(sort_sheet: &[u16], term_sheet: &[u16]) -> Result<Terms, BadRow> {
     let sorts = check_sorts(sort_sheet)?;
     let mut found = Terms {
         rows: 0,
@@ -118,14 +133,19 @@ pub fn check(sort_sheet: &[u16], term_sheet: &[u16]) -> Result<Terms, u16> {
     let mut uses = Table([0; SLOTS]);
     let mut keys = Table([0; SLOTS]);
     for row in term_sheet.as_chunks::<TERM_COLUMNS>().0 {
-        let term = shape(row, found.rows, sorts.declared)?;
+        let bad = |number| BadRow {
+            number,
+            sheet: 1,
+            row: usize::from(found.rows),
+        };
+        let term = shape(row, found.rows, sorts.declared).map_err(bad)?;
         if !fits(&term, &found.terms, &sorts, &mut uses) {
-            return Err(4);
+            return Err(bad(4));
         }
         let key = term.key();
         let slot = keys.slot(key, |other| other == key);
         if *slot != 0 {
-            return Err(5);
+            return Err(bad(5));
         }
         *slot = key;
         found.terms[usize::from(found.rows)] = term;
