@@ -57,12 +57,7 @@ fn malformed() -> Vec<(String, Why, u64, u64)> {
         (format!("\u{feff}{TEXT}"), Why::Mark, 1, 0),
         (TEXT.replace('\n', "\r\n"), Why::Return, 1, 0),
         (with("S - -\n", "S - -\r\n"), Why::Return, 2, 0),
-        (
-            with("S - -", &format!("{long_line}S - -")),
-            Why::Name,
-            2,
-            1,
-        ),
+        (with("S - -", &format!("{long_line}S - -")), Why::Name, 2, 1),
         (
             with("S - -", &format!("{long_line}SS - -")),
             Why::Long,
