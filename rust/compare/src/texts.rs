@@ -213,8 +213,13 @@ fn compare_read(
 
 /// What differs on a text, and the text as bytes and as it looks.
 fn difference(about: &str, text: &[u8], ours: impl Debug, theirs: impl Debug) -> String {
-    let looks = String::from_utf8_lossy(text);
-    format!("{about}:\n{ours:?}\n{theirs:?}\non the text\n{text:?}\n{looks}")
+    let shown = String::from_utf8_lossy(text);
+    format!("{about}:\n{ours:?}\n{theirs:?}\non the text\n{text:?}\n{shown}")
+}
+
+/// Bytes as a string that shows each of them.
+fn looks(bytes: &[u8]) -> String {
+    bytes.escape_ascii().to_string()
 }
 
 /// An undamaged text has to be read as what was printed, then zeros.
@@ -318,7 +323,8 @@ fn compare_check(
         let theirs = (outcome, said);
         if ours != theirs {
             let about = format!("plain and {name} differ on a text checked at once");
-            return Err(difference(&about, text, &ours, &theirs));
+            let [ours, theirs] = [ours, theirs].map(|(out, said)| (out, looks(&said)));
+            return Err(difference(&about, text, ours, theirs));
         }
     }
     Ok(())
@@ -330,11 +336,8 @@ fn through_program(program: &str, text: &[u8], checked: &Checked) -> Result<(), 
     let word = ["open", "refuted", "refused"][usize::from(verdict)];
     let lines = format!("verdict steps code trail\n{word} {steps} {number} {entries}\n");
     let output = feed(program, text).map_err(|trouble| format!("{program}: {trouble}"))?;
-    let printed = [output.stdout, output.stderr].map(|bytes| {
-        let looks = String::from_utf8_lossy(&bytes);
-        looks.into_owned()
-    });
-    let expected = [lines, checked.said()];
+    let printed = [output.stdout, output.stderr].map(|bytes| looks(&bytes));
+    let expected = [lines, checked.said()].map(|line| looks(line.as_bytes()));
     if printed != expected {
         let about = "the program printed as output and error, and should";
         return Err(difference(about, text, printed, expected));
