@@ -79,7 +79,7 @@ impl State {
             state.give(term, value).map_err(|number| BadRow {
                 number,
                 sheet: 2,
-                row: at,
+                row: at as u16,
             })?;
         }
         Ok(state)

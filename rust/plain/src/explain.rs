@@ -68,7 +68,7 @@ pub fn check(text: &[u8]) -> Checked {
     );
     Checked {
         outcome,
-        line: bad.map_or(0, |bad| line_of(&rows, bad.sheet, bad.row)),
+        line: bad.map_or(0, |bad| line_of(&rows, bad.sheet.into(), bad.row.into())),
         field: 0,
         why: Why::Fine,
     }

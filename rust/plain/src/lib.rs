@@ -102,26 +102,28 @@ fn run_to(
     if let Err(number) = lengths(sorts, terms, inputs, steps, work.len(), trail.len()) {
         return (Outcome::unread(number), None);
     }
+    let result = match engine::State::new(sorts, terms, inputs) {
+        Err(bad) => (Outcome::unread(bad.number), Some(bad)),
+        Ok(mut state) => {
+            let (verdict, steps, number) = state.run(steps);
+            let outcome = Outcome {
+                verdict,
+                steps,
+                number,
+                entries: state.write(trail),
+            };
+            let refused = BadRow {
+                number,
+                sheet: 3,
+                row: steps,
+            };
+            (outcome, (number != 0).then_some(refused))
+        }
+    };
     // This checker keeps its state on the stack; the workspace is lent for
     // checkers that do not, and handed back as they hand it back.
     work.fill(0);
-    let mut state = match engine::State::new(sorts, terms, inputs) {
-        Ok(state) => state,
-        Err(bad) => return (Outcome::unread(bad.number), Some(bad)),
-    };
-    let (verdict, allowed, number) = state.run(steps);
-    let outcome = Outcome {
-        verdict,
-        steps: allowed,
-        number,
-        entries: state.write(trail),
-    };
-    let bad = (verdict == REFUSED).then_some(BadRow {
-        number,
-        sheet: 3,
-        row: usize::from(allowed),
-    });
-    (outcome, bad)
+    result
 }
 
 /// The numbers 31, 30 and 32, in this order.

@@ -66,8 +66,8 @@ pub struct Terms {
 #[derive(Clone, Copy, Debug, PartialEq, Eq)]
 pub struct BadRow {
     pub number: u16,
-    pub sheet: usize,
-    pub row: usize,
+    pub sheet: u16,
+    pub row: u16,
 }
 
 /// The index sort and the value sort of an array sort.
@@ -96,7 +96,7 @@ fn check_sorts(sheet: &[u16]) -> Result<Sorts, BadRow> {
                 return Err(BadRow {
                     number: 1,
                     sheet: 0,
-                    row: sorts.declared,
+                    row: sorts.declared as u16,
                 })
             }
         };
@@ -130,28 +130,35 @@ pub fn check(sort_sheet: &[u16], term_sheet: &[u16]) -> Result<Terms, BadRow> {
         rows: 0,
         terms: [Term::NONE; MAX_TERMS],
     };
-    let mut uses = Table([0; SLOTS]);
-    let mut keys = Table([0; SLOTS]);
-    for row in term_sheet.as_chunks::<TERM_COLUMNS>().0 {
-        let bad = |number| BadRow {
+    match check_terms(&sorts, term_sheet, &mut found) {
+        Ok(()) => Ok(found),
+        Err(number) => Err(BadRow {
             number,
             sheet: 1,
-            row: usize::from(found.rows),
-        };
-        let term = shape(row, found.rows, sorts.declared).map_err(bad)?;
-        if !fits(&term, &found.terms, &sorts, &mut uses) {
-            return Err(bad(4));
+            row: found.rows,
+        }),
+    }
+}
+
+/// Reads the term rows up to the first with 3, 4 or 5.
+fn check_terms(sorts: &Sorts, sheet: &[u16], found: &mut Terms) -> Result<(), u16> {
+    let mut uses = Table([0; SLOTS]);
+    let mut keys = Table([0; SLOTS]);
+    for row in sheet.as_chunks::<TERM_COLUMNS>().0 {
+        let term = shape(row, found.rows, sorts.declared)?;
+        if !fits(&term, &found.terms, sorts, &mut uses) {
+            return Err(4);
         }
         let key = term.key();
         let slot = keys.slot(key, |other| other == key);
         if *slot != 0 {
-            return Err(bad(5));
+            return Err(5);
         }
         *slot = key;
         found.terms[usize::from(found.rows)] = term;
         found.rows += 1;
     }
-    Ok(found)
+    Ok(())
 }
 
 /// The term of a row: 3 for an argument that is no earlier row, then 4 for

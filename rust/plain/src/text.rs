@@ -269,7 +269,9 @@ impl<'a> Reader<'a> {
                 _ => Ok(false),
             };
         }
-        self.split()?;
+        if !self.split() {
+            return Err(self.no_row());
+        }
         if self.count != FIELDS[at] {
             return Err(Fault::Shape(Why::Fields));
         }
@@ -293,8 +295,9 @@ impl<'a> Reader<'a> {
         Ok(())
     }
 
-    /// Splits the line that begins here into fields, to its newline.
-    fn split(&mut self) -> Result<(), Fault> {
+    /// Splits the line that begins here into fields, to its newline; false, and
+    /// nothing done, if that cannot be.
+    fn split(&mut self) -> bool {
         let text = self.text;
         let mut begin = self.next;
         let mut count = 0;
@@ -307,13 +310,13 @@ impl<'a> Reader<'a> {
                         hash = (hash ^ u32::from(byte)).wrapping_mul(0x0100_0193)
                     }
                     Some(&stop) => break stop,
-                    None => return Err(self.no_row()),
+                    None => return false,
                 }
                 end += 1;
             };
             let bytes = &text[begin..end];
             if bytes.is_empty() || count == MAX_FIELDS {
-                return Err(self.no_row());
+                return false;
             }
             self.fields[count] = Field { bytes, hash };
             count += 1;
@@ -321,15 +324,15 @@ impl<'a> Reader<'a> {
             match stop {
                 b' ' => (),
                 b'\n' => break,
-                _ => return Err(self.no_row()),
+                _ => return false,
             }
         }
         if begin - 1 - self.next > MAX_LINE {
-            return Err(Fault::Shape(Why::Long));
+            return false;
         }
         self.count = count;
         self.next = begin;
-        Ok(())
+        true
     }
 
     /// Puts the fields of the line into the sheet as its next row, in so far as
