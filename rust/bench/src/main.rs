@@ -1,5 +1,5 @@
 //! Benchmarks: medians of many runs in one process, and the ratio of the static
-//! libraries to the plain checker.
+//! library to the plain checker.
 //!
 //! `bench [--plain-only] [--runs N] [--only WORD]`
 //!
@@ -22,6 +22,9 @@ type Run = fn(&[u16], &[u16], &[u16], &[u16], &mut [u64], &mut [u16]) -> [u16; 4
 /// The reader of texts: the number and the rows.
 type ReadText = fn(&[u8], &mut [Vec<u16>; 4]) -> (u16, [u16; 4]);
 
+/// A text read and run at once: verdict, steps, number, entries.
+type CheckText = fn(&[u8]) -> [u16; 4];
+
 fn run_plain(
     sorts: &[u16],
     terms: &[u16],
@@ -40,6 +43,13 @@ fn read_plain(text: &[u8], sheets: &mut [Vec<u16>; 4]) -> (u16, [u16; 4]) {
     (read.number, read.rows)
 }
 
+fn check_plain(text: &[u8]) -> [u16; 4] {
+    let checked = plain::check(text);
+    black_box(checked.said());
+    let out = checked.outcome;
+    [out.verdict, out.steps, out.number, out.entries]
+}
+
 #[cfg(feature = "library")]
 fn run_library() -> Option<Run> {
     Some(cdsat::run_numbers)
@@ -50,7 +60,7 @@ fn run_library() -> Option<Run> {
     None
 }
 
-#[cfg(feature = "text")]
+#[cfg(feature = "library")]
 fn read_library() -> Option<ReadText> {
     Some(|text, sheets| {
         let [sorts, terms, inputs, steps] = sheets;
@@ -59,8 +69,23 @@ fn read_library() -> Option<ReadText> {
     })
 }
 
-#[cfg(not(feature = "text"))]
+#[cfg(not(feature = "library"))]
 fn read_library() -> Option<ReadText> {
+    None
+}
+
+#[cfg(feature = "library")]
+fn check_library() -> Option<CheckText> {
+    Some(|text| {
+        let mut said = [0; cdsat::SAID];
+        let outcome = cdsat::check_into(text, &mut said);
+        black_box(said);
+        outcome.numbers()
+    })
+}
+
+#[cfg(not(feature = "library"))]
+fn check_library() -> Option<CheckText> {
     None
 }
 
@@ -156,6 +181,8 @@ impl Bench {
         Ok(())
     }
 
+    /// Measures the reader on a text, which is read whole or begins with a bad
+    /// line.
     fn read(&self, name: &str, (about, text): (String, Vec<u8>)) -> Result<(), String> {
         if !name.contains(&self.only) {
             return Ok(());
@@ -178,6 +205,30 @@ impl Bench {
             let text = &text;
             tasks.push(Box::new(move || {
                 black_box(read(black_box(text), sheets));
+            }));
+        }
+        let times = medians(self.runs, 10, &mut tasks);
+        let bytes = text.len() as f64;
+        line(name, &about, "MB/s", &times, |time| bytes * 1e3 / time);
+        Ok(())
+    }
+
+    /// Measures a text read and run at once, whose steps are all allowed.
+    fn check(&self, name: &str, (about, text): (String, Vec<u8>)) -> Result<(), String> {
+        if !name.contains(&self.only) {
+            return Ok(());
+        }
+        let mut checkers: Vec<CheckText> = vec![check_plain];
+        checkers.extend(check_library().filter(|_| !self.plain_only));
+        let mut tasks: Vec<Box<dyn FnMut()>> = Vec::new();
+        for check in checkers {
+            let outcome = check(&text);
+            if outcome[..3] != [0, 1_024, 0] {
+                return Err(format!("{name}: the outcome is {outcome:?}"));
+            }
+            let text = &text;
+            tasks.push(Box::new(move || {
+                black_box(check(black_box(text)));
             }));
         }
         let times = medians(self.runs, 10, &mut tasks);
@@ -225,7 +276,8 @@ fn all(bench: &Bench) -> Result<(), String> {
     bench.read("text, one tag", work::one_tag())?;
     bench.read("text, one tag, short", work::one_tag_short())?;
     bench.read("text, one tag, long", work::one_tag_long())?;
-    bench.read("text, newlines", work::newlines())
+    bench.read("text, newlines", work::newlines())?;
+    bench.check("text, read and run", work::text())
 }
 
 fn main() -> ExitCode {

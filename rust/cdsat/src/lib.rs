@@ -1,8 +1,10 @@
 //! Safe bindings of the verified checker of rule logs.
 //!
-//! A [`Log`] collects the four sheets: sorts, terms, inputs and steps. Running it
-//! calls the checker and gives the [`Outcome`] and the trail. Who keeps sheets and
-//! buffers of their own calls [`run`].
+//! A [`Log`] collects the four sheets: sorts, terms, inputs and steps. It is built
+//! row by row or read from a text ([`Log::read`]). Running it calls the checker and
+//! gives the [`Outcome`] and the trail. Who has a text and wants its verdict alone
+//! calls [`check`]; who keeps sheets and buffers of their own calls [`run`] and
+//! [`read`].
 //!
 //! ```
 //! use cdsat::{Head, Log, Rule, Sort, Verdict};
@@ -31,12 +33,23 @@
 mod log;
 #[allow(unsafe_code)]
 mod sys;
+mod text;
 mod words;
 
 pub use log::{Entry, Head, Log, Rule, Run, Sort, Step, Term};
+pub use text::{check, check_into, read, Checked, Read, Why, SAID};
 
 /// The number of an empty column.
 pub const BLANK: u16 = 65_535;
+
+/// Numbers in a row of each sheet.
+pub const SORT_COLUMNS: usize = 2;
+pub const TERM_COLUMNS: usize = 6;
+pub const INPUT_COLUMNS: usize = 2;
+pub const STEP_COLUMNS: usize = 9;
+
+/// Numbers in the trail buffer for each entry.
+pub const ENTRY_COLUMNS: usize = 4;
 
 /// The greatest number of rows of each sheet.
 pub const MAX_SORTS: usize = 32;
@@ -54,7 +67,7 @@ pub const fn work_words(terms: usize) -> usize {
 
 /// The least length of the trail buffer for so many term rows.
 pub const fn trail_numbers(terms: usize) -> usize {
-    4 * terms
+    ENTRY_COLUMNS * terms
 }
 
 /// What became of a log.
@@ -81,9 +94,24 @@ pub struct Outcome {
 }
 
 impl Outcome {
-    /// What the number means.
+    /// What the number means; no words for 0.
     pub fn meaning(&self) -> &'static str {
         words::meaning(self.number)
+    }
+
+    /// The outcome of the library's numbers.
+    fn of(raw: sys::RawOutcome) -> Self {
+        Outcome {
+            verdict: match raw.verdict {
+                0 => Verdict::Open,
+                1 => Verdict::Refuted,
+                2 => Verdict::Refused,
+                other => panic!("the library answered with verdict {other}"),
+            },
+            steps: raw.steps,
+            number: raw.number,
+            entries: raw.entries,
+        }
     }
 
     /// The four numbers of the result, the verdict as 0, 1 or 2.
@@ -98,6 +126,23 @@ impl Outcome {
 /// oldest first: term, value, level, and 1 for a decision or 0; what follows them
 /// is untouched. With the numbers 30, 31 and 32 nothing is written.
 ///
+/// ```
+/// use cdsat::{trail_numbers, work_words, Verdict, BLANK};
+///
+/// let sorts = [BLANK, BLANK];
+/// let terms = [16, 1, BLANK, BLANK, BLANK, BLANK];
+/// let inputs = [0, 7];
+/// let mut work = [0; work_words(1)];
+/// let mut trail = [0; trail_numbers(1)];
+/// let outcome = cdsat::run(&sorts, &terms, &inputs, &[], &mut work, &mut trail);
+/// assert_eq!((outcome.verdict, outcome.entries), (Verdict::Open, 1));
+/// assert_eq!(trail, [0, 7, 0, 0]);
+///
+/// let outcome = cdsat::run(&sorts, &terms, &[1, 7], &[], &mut work, &mut trail);
+/// assert_eq!((outcome.verdict, outcome.number), (Verdict::Refused, 6));
+/// assert_eq!(outcome.meaning(), "an input row names no term");
+/// ```
+///
 /// # Panics
 ///
 /// If the library answers with a verdict it does not have.
@@ -109,18 +154,7 @@ pub fn run(
     work: &mut [u64],
     trail: &mut [u16],
 ) -> Outcome {
-    let [verdict, steps, number, entries] = run_numbers(sorts, terms, inputs, steps, work, trail);
-    Outcome {
-        verdict: match verdict {
-            0 => Verdict::Open,
-            1 => Verdict::Refuted,
-            2 => Verdict::Refused,
-            other => panic!("the library answered with verdict {other}"),
-        },
-        steps,
-        number,
-        entries,
-    }
+    Outcome::of(sys::run(sorts, terms, inputs, steps, work, trail))
 }
 
 /// The same with the result as the library's four numbers: verdict, steps,
@@ -135,45 +169,4 @@ pub fn run_numbers(
 ) -> [u16; 4] {
     let raw = sys::run(sorts, terms, inputs, steps, work, trail);
     [raw.verdict, raw.steps, raw.number, raw.entries]
-}
-
-/// The result of reading a text.
-#[cfg(feature = "text")]
-#[derive(Clone, Copy, Debug, PartialEq, Eq)]
-pub struct Read {
-    /// 0, or 2, 30, 31 or 32.
-    pub number: u16,
-    /// The rows of the sort, term, input and step sheet.
-    pub rows: [u16; 4],
-    /// The first bad line, from 1; 0 if there is none.
-    pub line: u64,
-    /// The field of that line at fault, from 1; 0 if it is the line as a whole.
-    pub place: u64,
-}
-
-#[cfg(feature = "text")]
-impl Read {
-    /// What the number means.
-    pub fn meaning(&self) -> &'static str {
-        words::meaning(self.number)
-    }
-}
-
-/// Reads a text into four sheets of the caller, which hold the rows and then
-/// zeros, or zeros alone if the number is not 0.
-#[cfg(feature = "text")]
-pub fn read(
-    text: &[u8],
-    sorts: &mut [u16],
-    terms: &mut [u16],
-    inputs: &mut [u16],
-    steps: &mut [u16],
-) -> Read {
-    let raw = sys::read(text, sorts, terms, inputs, steps);
-    Read {
-        number: raw.number,
-        rows: raw.rows,
-        line: raw.line,
-        place: raw.place,
-    }
 }

@@ -1,6 +1,9 @@
-//! The four sheets, built row by row.
+//! The four sheets, built row by row or read from a text.
 
-use crate::{run, trail_numbers, work_words, Outcome, BLANK};
+use crate::{
+    read, run, trail_numbers, work_words, Outcome, Read, BLANK, ENTRY_COLUMNS, INPUT_COLUMNS,
+    MAX_INPUTS, MAX_SORTS, MAX_TERMS, MAX_TEXT_STEPS, SORT_COLUMNS, STEP_COLUMNS, TERM_COLUMNS,
+};
 
 /// A sort: prop, or a row of the sort sheet, counted from 1.
 #[derive(Clone, Copy, Debug, PartialEq, Eq, Hash)]
@@ -114,7 +117,7 @@ pub struct Run {
     pub trail: Vec<Entry>,
 }
 
-/// The sheets of a problem and its log.
+/// The sheets of a problem and its log, without names.
 ///
 /// Nothing is checked here; that is what running the log is for.
 #[derive(Clone, Debug, Default, PartialEq, Eq)]
@@ -130,6 +133,63 @@ impl Log {
         Log::default()
     }
 
+    /// Reads the sheets from a text, whose names are forgotten: a sort and a term
+    /// are the numbers of their rows.
+    ///
+    /// ```
+    /// use cdsat::{Log, Verdict, Why};
+    ///
+    /// let text = "\
+    /// sort index value
+    /// S - -
+    ///
+    /// term head sort a b c d
+    /// a A S - - - -
+    /// e eq prop a a - -
+    ///
+    /// term value
+    /// e false
+    ///
+    /// step rule term value p q r s t
+    /// clash refl e true - - - - -
+    /// ";
+    /// let log = Log::read(text.as_bytes()).unwrap();
+    /// assert_eq!(log.inputs(), [1, 0]);
+    /// assert_eq!(log.run().outcome.verdict, Verdict::Refuted);
+    ///
+    /// let bad = Log::read(text.trim_end().as_bytes()).unwrap_err();
+    /// assert_eq!((bad.number, bad.line, bad.why), (31, 12, Why::Cut));
+    /// assert_eq!(bad.to_string(), "line 12: 31 malformed: the last line has no newline");
+    /// ```
+    ///
+    /// # Errors
+    ///
+    /// What the reader answers, if its number is not 0.
+    pub fn read(text: &[u8]) -> Result<Log, Read> {
+        let mut log = Log {
+            sorts: vec![0; SORT_COLUMNS * MAX_SORTS],
+            terms: vec![0; TERM_COLUMNS * MAX_TERMS],
+            inputs: vec![0; INPUT_COLUMNS * MAX_INPUTS],
+            steps: vec![0; STEP_COLUMNS * MAX_TEXT_STEPS],
+        };
+        let read = read(
+            text,
+            &mut log.sorts,
+            &mut log.terms,
+            &mut log.inputs,
+            &mut log.steps,
+        );
+        if read.number != 0 {
+            return Err(read);
+        }
+        let [sorts, terms, inputs, steps] = read.rows.map(usize::from);
+        log.sorts.truncate(SORT_COLUMNS * sorts);
+        log.terms.truncate(TERM_COLUMNS * terms);
+        log.inputs.truncate(INPUT_COLUMNS * inputs);
+        log.steps.truncate(STEP_COLUMNS * steps);
+        Ok(log)
+    }
+
     /// Adds a sort that is no array sort.
     pub fn sort(&mut self) -> Sort {
         self.add_sort([BLANK, BLANK])
@@ -140,9 +200,9 @@ impl Log {
         self.add_sort([index.0, value.0])
     }
 
-    fn add_sort(&mut self, row: [u16; 2]) -> Sort {
+    fn add_sort(&mut self, row: [u16; SORT_COLUMNS]) -> Sort {
         self.sorts.extend(row);
-        Sort(number_of(self.sorts.len() / 2))
+        Sort(number_of(self.sorts.len() / SORT_COLUMNS))
     }
 
     /// Adds a term.
@@ -152,11 +212,11 @@ impl Log {
     /// If there are more than four arguments.
     pub fn term(&mut self, head: Head, sort: Sort, args: &[Term]) -> Term {
         assert!(args.len() <= 4, "a term has at most four arguments");
-        let mut row = [BLANK; 6];
+        let mut row = [BLANK; TERM_COLUMNS];
         row[0] = head.number();
         row[1] = sort.0;
         fill(&mut row[2..], args);
-        let term = Term(number_of(self.terms.len() / 6));
+        let term = Term(number_of(self.terms.len() / TERM_COLUMNS));
         self.terms.extend(row);
         term
     }
@@ -221,7 +281,7 @@ impl Log {
         premises: &[Term],
     ) -> &mut Self {
         assert!(premises.len() <= 5, "a step has at most five premises");
-        let mut row = [BLANK; 9];
+        let mut row = [BLANK; STEP_COLUMNS];
         row[..4].copy_from_slice(&[step as u16, rule, term.0, value]);
         fill(&mut row[4..], premises);
         self.steps.extend(row);
@@ -250,7 +310,7 @@ impl Log {
 
     /// Runs the log, with buffers of its own.
     pub fn run(&self) -> Run {
-        let rows = self.terms.len() / 6;
+        let rows = self.terms.len() / TERM_COLUMNS;
         let mut work = vec![0; work_words(rows)];
         let mut trail = vec![0; trail_numbers(rows)];
         let outcome = run(
@@ -261,7 +321,9 @@ impl Log {
             &mut work,
             &mut trail,
         );
-        let entries = trail.chunks_exact(4).take(outcome.entries.into());
+        let entries = trail
+            .chunks_exact(ENTRY_COLUMNS)
+            .take(outcome.entries.into());
         Run {
             outcome,
             trail: entries.map(entry).collect(),

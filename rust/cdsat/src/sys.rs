@@ -1,6 +1,8 @@
 //! The exported calls, and the only unsafe code of the workspace.
 
-/// What `cdsat_run` returns.
+use std::mem::{offset_of, size_of};
+
+/// What `cdsat_run` and `cdsat_check` return.
 #[repr(C)]
 #[derive(Clone, Copy)]
 pub struct RawOutcome {
@@ -11,12 +13,12 @@ pub struct RawOutcome {
 }
 
 /// What `cdsat_read` returns.
-#[cfg(feature = "text")]
 #[repr(C)]
 #[derive(Clone, Copy)]
 pub struct RawRead {
     pub number: u16,
     pub rows: [u16; 4],
+    pub why: u16,
     pub line: u64,
     pub place: u64,
 }
@@ -37,7 +39,6 @@ extern "C" {
         trail_len: usize,
     ) -> RawOutcome;
 
-    #[cfg(feature = "text")]
     fn cdsat_read(
         text: *const u8,
         text_len: usize,
@@ -50,7 +51,18 @@ extern "C" {
         steps: *mut u16,
         steps_len: usize,
     ) -> RawRead;
+
+    fn cdsat_check(text: *const u8, text_len: usize, said: *mut u8, said_len: usize) -> RawOutcome;
 }
+
+// The sizes and places that the library's calls answer with.
+const _: () = {
+    assert!(size_of::<RawOutcome>() == 8);
+    assert!(size_of::<RawRead>() == 32);
+    assert!(offset_of!(RawRead, why) == 10);
+    assert!(offset_of!(RawRead, line) == 16);
+    assert!(offset_of!(RawRead, place) == 24);
+};
 
 pub fn run(
     sorts: &[u16],
@@ -81,7 +93,6 @@ pub fn run(
     }
 }
 
-#[cfg(feature = "text")]
 pub fn read(
     text: &[u8],
     sorts: &mut [u16],
@@ -105,4 +116,10 @@ pub fn read(
             steps.len(),
         )
     }
+}
+
+pub fn check(text: &[u8], said: &mut [u8]) -> RawOutcome {
+    // SAFETY: as above, the text read and the buffer written within their lengths
+    // alone.
+    unsafe { cdsat_check(text.as_ptr(), text.len(), said.as_mut_ptr(), said.len()) }
 }

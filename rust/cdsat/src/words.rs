@@ -1,34 +1,54 @@
-//! What the numbers mean.
+//! What the numbers and the causes mean, in the words of the line for a person.
 
+use crate::Why;
+
+/// The words of a number; 0 and the numbers that there are not have none.
 pub fn meaning(number: u16) -> &'static str {
     match number {
-        0 => "no trouble",
-        1 => "a sort row is neither blank nor an array of two earlier sorts",
+        1 => "a sort row breaks the rule for sorts",
         2 => "a name is repeated or reserved",
-        3 => "an argument of a term is no earlier row",
-        4 => "head, sort and arguments of a term do not belong together",
-        5 => "a term has the head and arguments of an earlier one",
+        3 => "an argument is no earlier row",
+        4 => "head, sort and arguments do not fit",
+        5 => "a row with the head and arguments of an earlier one",
         6 => "an input row names no term",
-        7 => "an input row's value is blank or not one of the term's sort",
-        8 => "an input row's term was given before",
-        9 => "a step has an unknown step or rule number, a wrong column filled or blank, or a value above 1",
-        10 => "the step belongs to the other state, search or conflict",
-        11 => "a step names a term row that does not exist",
+        7 => "a value that the term cannot have",
+        8 => "a term given twice",
+        9 => "a step's columns are wrong",
+        10 => "wrong state for the step",
+        11 => "the term or a premise is no row",
         12 => "a premise is not on the trail",
-        13 => "the rule does not give the term this value from these premises",
-        14 => "the value, or for a decision the term, is on the trail already",
-        15 => "the opposite value is on the trail",
-        16 => "the opposite value is not on the trail",
-        17 => "the term is not in the conflict",
-        18 => "the term is a decision",
-        19 => "resolving is barred by a decision in the justification",
-        20 => "the term is not a decision that can be cleared",
-        21 => "the level is not above that of the rest of the conflict",
-        22 => "the term's sort is wrong for the step, or the value for the sort",
-        23 => "the two justifications share no such decision, or one term is named twice",
-        30 => "a sheet has too many rows",
-        31 => "a sheet's length is no whole number of rows, or a line is malformed",
-        32 => "a buffer is too short",
-        _ => "an unknown number",
+        13 => "the rule does not fit",
+        14 => "the value is there already",
+        15 => "the opposite is there",
+        16 => "the opposite is not there",
+        17 => "not a member of the conflict",
+        18 => "it is a decision",
+        19 => "resolve is barred",
+        20 => "not the decision that clear needs",
+        21 => "its level is not above the rest",
+        22 => "the term's sort is wrong for the step, or the value does not suit it",
+        23 => "no shared decision",
+        30 => "above a ceiling",
+        31 => "malformed",
+        32 => "a lent buffer is short",
+        _ => "",
+    }
+}
+
+/// The words of a cause; `Fine` has none.
+pub fn cause(why: Why) -> &'static str {
+    match why {
+        Why::Fine => "",
+        Why::Mark => "a byte order mark stands before the header",
+        Why::Return => "a carriage return, where lines end with a newline alone",
+        Why::Long => "the line has more than 525 bytes",
+        Why::Header => "this is not the sheet's header line",
+        Why::Empty => "an empty line after the last sheet",
+        Why::Byte => "a tab or another byte that no field may have",
+        Why::Fields => "not as many fields as the sheet has columns, or not single spaces",
+        Why::Name => "a name of more than 64 bytes",
+        Why::Value => "neither true, false, - nor a number up to 65534 without leading zeros",
+        Why::Early => "the text ends before the header of the step sheet",
+        Why::Cut => "the last line has no newline",
     }
 }

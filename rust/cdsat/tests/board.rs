@@ -74,7 +74,7 @@ fn resolve_is_barred() {
     let run = log.run();
     assert_eq!(run.outcome.numbers(), [2, 4, 19, 4]);
     assert_eq!(run.outcome.verdict, Verdict::Refused);
-    assert!(run.outcome.meaning().contains("barred"));
+    assert_eq!(run.outcome.meaning(), "resolve is barred");
 }
 
 #[test]
@@ -87,14 +87,4 @@ fn jump_learns() {
     let run = log.run();
     assert_eq!(run.outcome.numbers(), [0, 3, 0, 2]);
     assert_eq!((run.trail[1].term, run.trail[1].value), (e, 0));
-}
-
-#[cfg(feature = "text")]
-#[test]
-fn a_bad_line() {
-    let mut sheets = [vec![7; 2], vec![7; 6], vec![7; 2], vec![7; 9]];
-    let [sorts, terms, inputs, steps] = &mut sheets;
-    let read = cdsat::read(b"sort index value\nprop - -\n", sorts, terms, inputs, steps);
-    assert_eq!((read.number, read.line, read.place), (2, 2, 1));
-    assert!(sheets.iter().flatten().all(|&number| number == 0));
 }

@@ -4,10 +4,11 @@
 //!
 //! Every case is run by `plain`, by the slow checker and, with the feature
 //! `library`, by the static library: the result, the whole trail buffer and the
-//! whole workspace have to be the same. Every second case is also printed as
-//! text, damaged or not, and read by all readers there are. With a program, some
-//! of the texts go through it too. The counts of everything that has to occur
-//! are printed, and a zero fails.
+//! whole workspace have to be the same. Many cases are also printed as text,
+//! damaged or not, and read by all readers there are, and checked at once: the
+//! outcome and the line for a person have to be the same. With a program, some of
+//! the texts of every kind go through it too. The counts of everything that has to
+//! occur are printed, and a zero fails.
 
 mod case;
 mod grow;
@@ -17,22 +18,16 @@ mod print;
 mod problem;
 mod rng;
 mod stats;
+mod texts;
 
 use case::Case;
-use plain::Read;
 use rng::Rng;
 use stats::Stats;
-use std::io::Write;
-use std::process::{Command, ExitCode, Stdio};
+use std::collections::BTreeMap;
+use std::process::ExitCode;
 
 /// The call, whoever makes it.
 type Run = fn(&[u16], &[u16], &[u16], &[u16], &mut [u64], &mut [u16]) -> [u16; 4];
-
-/// The reader of texts, whoever it is.
-type ReadText = fn(&[u8], &mut [Vec<u16>; 4]) -> Read;
-
-/// How many texts go through the program.
-const PROGRAM_TEXTS: u64 = 400;
 
 fn run_plain(
     sorts: &[u16],
@@ -46,37 +41,12 @@ fn run_plain(
     [out.verdict, out.steps, out.number, out.entries]
 }
 
-fn read_plain(text: &[u8], sheets: &mut [Vec<u16>; 4]) -> Read {
-    let [sorts, terms, inputs, steps] = sheets;
-    plain::read(text, sorts, terms, inputs, steps)
-}
-
-#[cfg(feature = "text")]
-fn read_library(text: &[u8], sheets: &mut [Vec<u16>; 4]) -> Read {
-    let [sorts, terms, inputs, steps] = sheets;
-    let read = cdsat::read(text, sorts, terms, inputs, steps);
-    Read {
-        number: read.number,
-        rows: read.rows,
-        line: read.line,
-        place: read.place,
-    }
-}
-
 /// Those that are held against `plain`.
 fn runners() -> Vec<(&'static str, Run)> {
     vec![
         ("the slow checker", naive::run),
         #[cfg(feature = "library")]
         ("the library", cdsat::run_numbers),
-    ]
-}
-
-fn readers() -> Vec<(&'static str, ReadText)> {
-    vec![
-        ("the slow reader", naive_text::read),
-        #[cfg(feature = "text")]
-        ("the library's reader", read_library),
     ]
 }
 
@@ -122,12 +92,16 @@ fn main() -> ExitCode {
         }
     };
     let mut session = Session {
-        stats: Stats::new(true),
+        stats: Stats::new(),
         program: options.program.clone(),
         probes: 0,
         texts: 0,
-        programs: 0,
+        programs: BTreeMap::new(),
     };
+    if let Err(difference) = texts::compare_words() {
+        println!("{difference}");
+        return ExitCode::FAILURE;
+    }
     let numbers = match options.only {
         Some(only) => only..only + 1,
         None => 0..options.cases,
@@ -146,7 +120,7 @@ fn main() -> ExitCode {
     }
     let complete = session.stats.print();
     let names: Vec<&str> = runners().iter().map(|runner| runner.0).collect();
-    let readers: Vec<&str> = readers().iter().map(|reader| reader.0).collect();
+    let readers: Vec<&str> = texts::readers().iter().map(|reader| reader.0).collect();
     println!(
         "{} cases and {} probes of seed {} agree with plain: {}; {} texts: {}; {} through the program",
         options.cases,
@@ -155,7 +129,7 @@ fn main() -> ExitCode {
         names.join(", "),
         session.texts,
         readers.join(", "),
-        session.programs,
+        session.programs.values().sum::<u64>(),
     );
     if complete {
         ExitCode::SUCCESS
@@ -170,7 +144,8 @@ struct Session {
     /// Logs with another last step than the one that was grown.
     probes: u64,
     texts: u64,
-    programs: u64,
+    /// How many texts of each kind went through the program.
+    programs: BTreeMap<texts::Kind, u64>,
 }
 
 impl Session {
@@ -184,8 +159,9 @@ impl Session {
         let outcome = compare_run(&case)?;
         self.stats.run(outcome, &case.steps);
         self.events(&case, outcome, late);
-        if rng.percent(50) && case.steps.len() < 9 * 2_000 {
-            self.text(rng, &case)?;
+        if rng.percent(40) && case.steps.len() < 9 * 2_000 {
+            let damaged = rng.percent(65);
+            self.text(rng, &case, damaged)?;
         }
         // With a buffer too short a probe says no more than the case.
         let probes = if outcome[2] == 32 { Vec::new() } else { probes };
@@ -195,6 +171,9 @@ impl Session {
             let outcome = compare_run(&case)?;
             self.probes += 1;
             self.stats.probe(outcome, rows, &row);
+            if rng.percent(5) {
+                self.text(rng, &case, false)?;
+            }
         }
         Ok(())
     }
@@ -235,69 +214,6 @@ impl Session {
             outcome[0] == 0 && matches!(last, Some(2 | 3)),
         );
         self.stats.event("late entries kept by a cut", late);
-    }
-
-    /// Prints the case as text, damages it perhaps, and compares the readers.
-    fn text(&mut self, rng: &mut Rng, case: &Case) -> Result<(), String> {
-        let mut printed = print::print(rng, case);
-        let damaged = rng.percent(60);
-        for _ in 0..if damaged { rng.within(1, 2) } else { 0 } {
-            print::damage(rng, &mut printed.text);
-        }
-        let mut lengths = [0; 4];
-        let roomy = rng.percent(30);
-        let short = rng.percent(8);
-        for (at, length) in lengths.iter_mut().enumerate() {
-            *length = match roomy {
-                true => [64, 1_536, 512, 9_216][at],
-                false => printed.sheets[at].len() + rng.below(3) * rng.below(12),
-            };
-        }
-        if short {
-            let at = rng.below(4);
-            lengths[at] = printed.sheets[at].len().saturating_sub(1);
-        }
-        let (read, sheets) = compare_read(&printed.text, lengths, rng.next() as u16)?;
-        self.texts += 1;
-        self.stats.text(read.number);
-        let within = (0..4).all(|at| printed.sheets[at].len() <= [64, 1_536, 512, 9_216][at]);
-        if !damaged && within && read.number != 32 {
-            expect_sheets(&printed, &read, &sheets)?;
-        }
-        let outcome = if read.number == 0 {
-            let case = read_case(&read, sheets);
-            compare_run(&case)?
-        } else {
-            [2, 0, read.number, 0]
-        };
-        if read.number == 0 {
-            self.stats.text_verdict(outcome[0]);
-        }
-        if read.number != 32 && self.programs < PROGRAM_TEXTS {
-            if let Some(program) = &self.program {
-                self.programs += 1;
-                through_program(program, &printed.text, outcome)?;
-            }
-        }
-        Ok(())
-    }
-}
-
-/// The sheets of a text as a case with buffers of the least lengths.
-fn read_case(read: &Read, sheets: [Vec<u16>; 4]) -> Case {
-    let [mut sorts, mut terms, mut inputs, mut steps] = sheets;
-    let [sort_rows, term_rows, input_rows, step_rows] = read.rows.map(usize::from);
-    sorts.truncate(2 * sort_rows);
-    terms.truncate(6 * term_rows);
-    inputs.truncate(2 * input_rows);
-    steps.truncate(9 * step_rows);
-    Case {
-        sorts,
-        terms,
-        inputs,
-        steps,
-        work: vec![u64::MAX; 8 * term_rows + 12],
-        trail: vec![0xAAAA; 4 * term_rows],
     }
 }
 
@@ -350,89 +266,4 @@ fn difference(case: &Case, name: &str, ours: &Ran, theirs: &Ran) -> String {
         theirs.2,
         String::from_utf8_lossy(&text),
     )
-}
-
-/// Reads the text with everyone into sheets of the lengths, full of old contents;
-/// the result, if all agree.
-fn compare_read(
-    text: &[u8],
-    lengths: [usize; 4],
-    old: u16,
-) -> Result<(Read, [Vec<u16>; 4]), String> {
-    let go = |read: ReadText| {
-        let mut sheets = lengths.map(|length| vec![old; length]);
-        let result = read(text, &mut sheets);
-        (result, sheets)
-    };
-    let ours = go(read_plain);
-    for (name, read) in readers() {
-        let theirs = go(read);
-        if ours != theirs {
-            return Err(format!(
-                "plain and {name} differ on a text, sheets of lengths {lengths:?}:\n{:?}\n{:?}\n{:?}\n{}",
-                ours,
-                theirs,
-                text,
-                String::from_utf8_lossy(text),
-            ));
-        }
-    }
-    Ok(ours)
-}
-
-/// An undamaged text has to be read as what was printed, then zeros.
-fn expect_sheets(
-    printed: &print::Printed,
-    read: &Read,
-    sheets: &[Vec<u16>; 4],
-) -> Result<(), String> {
-    let good = (0..4).all(|at| {
-        let (rows, rest) = sheets[at].split_at(printed.sheets[at].len());
-        rows == printed.sheets[at] && rest.iter().all(|&number| number == 0)
-    });
-    if read.number != 0 || !good {
-        return Err(format!(
-            "an undamaged text is read as {read:?}\n{:?}\nbut stands for\n{:?}\n{}",
-            sheets,
-            printed.sheets,
-            String::from_utf8_lossy(&printed.text),
-        ));
-    }
-    Ok(())
-}
-
-/// The program has to print the outcome.
-fn through_program(program: &str, text: &[u8], outcome: [u16; 4]) -> Result<(), String> {
-    let expected = format!(
-        "verdict steps code trail\n{} {} {} {}\n",
-        ["open", "refuted", "refused"][usize::from(outcome[0])],
-        outcome[1],
-        outcome[2],
-        outcome[3],
-    );
-    let printed = feed(program, text).map_err(|trouble| format!("{program}: {trouble}"))?;
-    if printed != expected.as_bytes() {
-        return Err(format!(
-            "the program printed\n{}\ninstead of\n{expected}\nfor {:?}\n{}",
-            String::from_utf8_lossy(&printed),
-            text,
-            String::from_utf8_lossy(text),
-        ));
-    }
-    Ok(())
-}
-
-fn feed(program: &str, text: &[u8]) -> std::io::Result<Vec<u8>> {
-    let mut child = Command::new(program)
-        .stdin(Stdio::piped())
-        .stdout(Stdio::piped())
-        .stderr(Stdio::null())
-        .spawn()?;
-    let mut input = child.stdin.take().expect("a pipe");
-    let text = text.to_vec();
-    let writer = std::thread::spawn(move || input.write_all(&text));
-    let output = child.wait_with_output()?;
-    let written = writer.join().expect("a writer that ends");
-    written?;
-    Ok(output.stdout)
 }

@@ -1,7 +1,7 @@
 //! A second reader of the text form, slow on purpose: the whole text as a list
 //! of lines, each line as a list of fields, names looked for one by one.
 
-use plain::Read;
+use plain::{Read, Why};
 
 const X: u16 = 65_535;
 const UNKNOWN: u16 = 65_534;
@@ -37,14 +37,16 @@ pub fn read(text: &[u8], sheets: &mut [Vec<u16>; 4]) -> Read {
     let mut result = Read {
         number: 0,
         rows: [0; 4],
+        why: Why::Fine,
         line: 0,
         place: 0,
     };
     match parse(text) {
-        Err((number, line, place)) => {
-            result.number = number;
-            result.line = line as u64;
-            result.place = place;
+        Err(bad) => {
+            result.number = bad.number;
+            result.why = bad.why;
+            result.line = bad.line as u64;
+            result.place = bad.place;
         }
         Ok(rows) => {
             let numbers: [Vec<u16>; 4] = rows.clone().map(|rows| rows.concat());
@@ -64,32 +66,102 @@ pub fn read(text: &[u8], sheets: &mut [Vec<u16>; 4]) -> Read {
 /// The rows of the four sheets.
 type Rows = [Vec<Vec<u16>>; 4];
 
-/// The rows, or the first bad line: number, line, place.
-fn parse(text: &[u8]) -> Result<Rows, (u16, usize, u64)> {
+/// The first bad line, or the end of the text where another line has to stand.
+struct Bad {
+    number: u16,
+    why: Why,
+    line: usize,
+    place: u64,
+}
+
+/// The rows, or the first bad line.
+fn parse(text: &[u8]) -> Result<Rows, Bad> {
     let mut lines: Vec<&[u8]> = text.split(|&byte| byte == b'\n').collect();
     let unfinished = lines.pop().unwrap();
     let mut parsed = Parsed::default();
     let mut sheet = 0;
     let mut header = true;
     for (at, line) in lines.iter().enumerate() {
+        let malformed = |why, place| Bad {
+            number: 31,
+            why,
+            line: at + 1,
+            place,
+        };
         if header {
             if *line != HEADERS[sheet].as_bytes() {
-                return Err((31, at + 1, 0));
+                return Err(malformed(why_no_header(line), 0));
             }
             header = false;
         } else if line.is_empty() && sheet < 3 {
             sheet += 1;
             header = true;
         } else {
-            parsed
-                .line(sheet, line)
-                .map_err(|(number, place)| (number, at + 1, place))?;
+            parsed.line(sheet, line).map_err(|bad| match bad {
+                (31, place) => malformed(why_no_row(sheet, place, line), place),
+                (number, place) => Bad {
+                    number,
+                    why: Why::Fine,
+                    line: at + 1,
+                    place,
+                },
+            })?;
         }
     }
     if sheet < 3 || header || !unfinished.is_empty() {
-        return Err((31, lines.len() + 1, 0));
+        return Err(Bad {
+            number: 31,
+            why: first(&[(!unfinished.is_empty(), Why::Cut), (true, Why::Early)]),
+            line: lines.len() + 1,
+            place: 0,
+        });
     }
     Ok(parsed.rows)
+}
+
+/// The first cause that applies.
+fn first(causes: &[(bool, Why)]) -> Why {
+    let found = causes.iter().find(|(applies, _)| *applies);
+    found.expect("a cause that always applies").1
+}
+
+/// Why a line is not the header that is due.
+fn why_no_header(line: &[u8]) -> Why {
+    first(&[
+        (line.len() > 525, Why::Long),
+        (line.get(..3) == Some(&[239, 187, 191]), Why::Mark),
+        (line.contains(&13), Why::Return),
+        (true, Why::Header),
+    ])
+}
+
+/// Why a line is no row of the sheet, by the place at fault.
+fn why_no_row(sheet: usize, place: u64, line: &[u8]) -> Why {
+    let strange = |byte: &u8| *byte < 32 || *byte > 126;
+    first(&[
+        (line.len() > 525, Why::Long),
+        (line.is_empty(), Why::Empty),
+        (line.contains(&13), Why::Return),
+        (place == 0 && line.iter().any(strange), Why::Byte),
+        (place == 0, Why::Fields),
+        (place == [0, 0, 2, 4][sheet], Why::Value),
+        (true, Why::Name),
+    ])
+}
+
+/// The first so many lines of a text that can be read, the last of them a header
+/// or a row, and then the headers of the sheets that have not begun.
+pub fn cut(text: &[u8], lines: usize) -> Vec<u8> {
+    let lines: Vec<&[u8]> = text
+        .split_inclusive(|&byte| byte == b'\n')
+        .take(lines)
+        .collect();
+    let ended = lines.iter().filter(|line| **line == b"\n").count();
+    let mut shorter = lines.concat();
+    for header in &HEADERS[ended + 1..] {
+        shorter.extend(format!("\n{header}\n").bytes());
+    }
+    shorter
 }
 
 impl Parsed {

@@ -237,7 +237,7 @@ impl Printer<'_> {
 
 /// One piece of damage to a text.
 pub fn damage(rng: &mut Rng, text: &mut Vec<u8>) {
-    match rng.below(14) {
+    match rng.below(20) {
         0..=2 => byte(rng, text),
         3 => text.truncate(rng.below(text.len() + 1)),
         4 => text.push(*rng.pick(b"\n\n x\r")),
@@ -246,8 +246,87 @@ pub fn damage(rng: &mut Rng, text: &mut Vec<u8>) {
         }
         6..=9 => fields(rng, text),
         10 => crowd(rng, text),
-        _ => lines(rng, text),
+        11..=13 => lines(rng, text),
+        14..=15 => stretch(rng, text),
+        _ => mishap(rng, text),
     }
+}
+
+/// What editors and other systems do to texts.
+fn mishap(rng: &mut Rng, text: &mut Vec<u8>) {
+    let mut lines = split(text);
+    if lines.is_empty() {
+        return;
+    }
+    let at = rng.below(lines.len());
+    match rng.below(8) {
+        0 => lines[0].splice(..0, *b"\xEF\xBB\xBF").for_each(drop),
+        1 => lines[at].splice(..0, *b"\xEF\xBB\xBF").for_each(drop),
+        2 => lines.iter_mut().for_each(add_return),
+        3 => add_return(&mut lines[at]),
+        4 => {
+            let spaces = lines[at].iter_mut().filter(|byte| **byte == b' ');
+            spaces.for_each(|byte| *byte = b'\t');
+        }
+        5 => lines.truncate(at),
+        6 => lines.push(b"\n".to_vec()),
+        _ => retitle(rng, &mut lines),
+    }
+    *text = lines.concat();
+}
+
+/// Puts a carriage return before the newline.
+fn add_return(line: &mut Vec<u8>) {
+    line.insert(line.len() - 1, b'\r');
+}
+
+/// Writes a header in another way.
+fn retitle(rng: &mut Rng, lines: &mut [Vec<u8>]) {
+    let header = format!("{}\n", rng.pick(&HEADERS));
+    let new = match rng.below(5) {
+        0 => header.to_uppercase(),
+        1 => header.replace(' ', "  "),
+        2 => header.replace('\n', " \n"),
+        3 => format!("{}\n", rng.pick(&HEADERS)),
+        _ => header.replace("term", "terms").replace("sort", "sorts"),
+    };
+    for line in lines.iter_mut().filter(|line| **line == header.as_bytes()) {
+        *line = new.clone().into_bytes();
+    }
+}
+
+/// Makes a line about as long as a line may be: with a field too long, or with
+/// the longest names and the longest value, perhaps with a strange byte too.
+fn stretch(rng: &mut Rng, text: &mut Vec<u8>) {
+    let mut lines = split(text);
+    if lines.is_empty() {
+        return;
+    }
+    let at = match rng.percent(50) {
+        true => lines.len() - 1,
+        false => rng.below(lines.len()),
+    };
+    let length = rng.within(524, 527);
+    let Some(line) = lines[at].strip_suffix(b"\n") else {
+        return;
+    };
+    let columns = line.split(|&byte| byte == b' ').count();
+    let mut line = match columns {
+        9 if rng.percent(70) => {
+            let name = ["n"; 64].concat();
+            let mut fields = [name.as_str(); 9];
+            fields[3] = "65534";
+            fields.join(" ").into_bytes()
+        }
+        _ => line.to_vec(),
+    };
+    line.resize(length.max(line.len()), b'n');
+    if rng.percent(20) {
+        line[rng.below(length)] = *rng.pick(b"\r\t \x80");
+    }
+    line.push(b'\n');
+    lines[at] = line;
+    *text = lines.concat();
 }
 
 fn byte(rng: &mut Rng, text: &mut Vec<u8>) {

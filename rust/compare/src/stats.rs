@@ -1,11 +1,17 @@
 //! How often everything occurred.
 
 use crate::naive_text::{RULE_WORDS, STEP_WORDS};
+use plain::{Checked, Why};
 use std::collections::BTreeMap;
 
 /// The numbers that a run can be refused with.
 const RUN_NUMBERS: [u16; 26] = [
     0, 1, 3, 4, 5, 6, 7, 8, 9, 10, 11, 12, 13, 14, 15, 16, 17, 18, 19, 20, 21, 22, 23, 30, 31, 32,
+];
+
+/// The numbers that a person is told of a text.
+const TOLD: [u16; 25] = [
+    1, 2, 3, 4, 5, 6, 7, 8, 9, 10, 11, 12, 13, 14, 15, 16, 17, 18, 19, 20, 21, 22, 23, 30, 31,
 ];
 
 /// The numbers of the text reader.
@@ -18,7 +24,7 @@ pub struct Stats {
     counts: BTreeMap<(u8, u16), (String, u64)>,
 }
 
-const HEADINGS: [&str; 8] = [
+const HEADINGS: [&str; 10] = [
     "steps allowed",
     "rules used by a deduce",
     "rules used by a clash",
@@ -27,10 +33,12 @@ const HEADINGS: [&str; 8] = [
     "other events",
     "numbers of texts",
     "verdicts of texts",
+    "causes of malformed texts",
+    "numbers of lines for a person",
 ];
 
 /// Events that are counted besides.
-pub const EVENTS: [&str; 9] = [
+pub const EVENTS: [&str; 11] = [
     "late entries kept by a cut",
     "workspace exactly long enough",
     "workspace one short",
@@ -40,10 +48,12 @@ pub const EVENTS: [&str; 9] = [
     "256 input rows run",
     "32 sort rows run",
     "logs that end in a conflict",
+    "texts read with a line of 525 bytes",
+    "bad lines of 526 bytes",
 ];
 
 impl Stats {
-    pub fn new(texts: bool) -> Self {
+    pub fn new() -> Self {
         let mut stats = Stats {
             counts: BTreeMap::new(),
         };
@@ -59,14 +69,19 @@ impl Stats {
         expect(2, &RULE_WORDS);
         expect(3, &VERDICTS);
         expect(5, &EVENTS);
-        if texts {
-            expect(7, &VERDICTS);
-        }
+        expect(7, &VERDICTS);
         for number in RUN_NUMBERS {
             stats.counts.insert((4, number), (number.to_string(), 0));
         }
-        for number in TEXT_NUMBERS.into_iter().filter(|_| texts) {
+        for number in TEXT_NUMBERS {
             stats.counts.insert((6, number), (number.to_string(), 0));
+        }
+        for why in &Why::ALL[1..] {
+            let name = format!("{why:?}");
+            stats.counts.insert((8, *why as u16), (name, 0));
+        }
+        for number in TOLD {
+            stats.counts.insert((9, number), (number.to_string(), 0));
         }
         stats
     }
@@ -109,6 +124,16 @@ impl Stats {
 
     pub fn text(&mut self, number: u16) {
         self.add(6, number, 1);
+    }
+
+    /// Counts what a person is told of a text, if anything.
+    pub fn told(&mut self, checked: &Checked) {
+        if checked.why != Why::Fine {
+            self.add(8, checked.why as u16, 1);
+        }
+        if checked.outcome.number != 0 {
+            self.add(9, checked.outcome.number, 1);
+        }
     }
 
     pub fn text_verdict(&mut self, verdict: u16) {

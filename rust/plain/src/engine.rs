@@ -1,6 +1,6 @@
 //! The trail, the conflict and the steps.
 
-use crate::problem::{self, Terms, PROP};
+use crate::problem::{self, BadRow, Terms, PROP};
 use crate::rules::{Premises, View, RULES};
 use crate::set::Set;
 use crate::{BLANK, ENTRY_COLUMNS, INPUT_COLUMNS, MAX_TERMS, OPEN, REFUSED, REFUTED, STEP_COLUMNS};
@@ -56,8 +56,8 @@ pub struct State {
 }
 
 impl State {
-    /// The state before the first step; 1 or 3 to 8 if a sheet is in trouble.
-    pub fn new(sorts: &[u16], terms: &[u16], inputs: &[u16]) -> Result<State, u16> {
+    /// The state before the first step, or the row with 1 or 3 to 8.
+    pub fn new(sorts: &[u16], terms: &[u16], inputs: &[u16]) -> Result<State, BadRow> {
         let mut state = State {
             terms: problem::check(sorts, terms)?,
             entries: [Entry {
@@ -75,19 +75,27 @@ impl State {
                 level: 0,
             },
         };
-        for &[term, value] in inputs.as_chunks::<INPUT_COLUMNS>().0 {
-            let Some(row) = state.row(term) else {
-                return Err(6);
-            };
-            if value == BLANK || !state.takes(row, value) {
-                return Err(7);
-            }
-            if state.is_assigned(row) {
-                return Err(8);
-            }
-            state.justify(row, value, 0);
+        for (at, &[term, value]) in inputs.as_chunks::<INPUT_COLUMNS>().0.iter().enumerate() {
+            state.give(term, value).map_err(|number| BadRow {
+                number,
+                sheet: 2,
+                row: at as u16,
+            })?;
         }
         Ok(state)
+    }
+
+    /// Puts an input row on the trail: 6, 7 and 8.
+    fn give(&mut self, term: u16, value: u16) -> Result<(), u16> {
+        let row = self.row(term).ok_or(6u16)?;
+        if value == BLANK || !self.takes(row, value) {
+            return Err(7);
+        }
+        if self.is_assigned(row) {
+            return Err(8);
+        }
+        self.justify(row, value, 0);
+        Ok(())
     }
 
     /// Runs the steps: verdict, steps allowed, number.

@@ -1,18 +1,23 @@
 //! A checker of rule logs in plain Rust, written from the paper alone.
 //!
-//! It takes the four sheets as numbers ([`run`]) or as text ([`read`]). It
+//! It takes the four sheets as numbers ([`run`]) or as text ([`read`]), or a text
+//! at once ([`check`]), and says to a person where and why it was refused. It
 //! shares nothing with the verified checker: it is what that one is compared
 //! with, on random logs, and measured against.
 
 #![forbid(unsafe_code)]
 
 mod engine;
+mod explain;
 mod problem;
 mod rules;
 mod set;
 mod text;
 
-pub use text::{read, Read, MAX_TEXT_STEPS};
+pub use explain::{check, meaning, Checked};
+pub use text::{read, Read, Why, MAX_TEXT_STEPS};
+
+use problem::BadRow;
 
 /// The number of an empty column.
 pub const BLANK: u16 = 65_535;
@@ -82,25 +87,43 @@ pub fn run(
     work: &mut [u64],
     trail: &mut [u16],
 ) -> Outcome {
+    run_to(sorts, terms, inputs, steps, work, trail).0
+}
+
+/// The same, with the row that was refused.
+fn run_to(
+    sorts: &[u16],
+    terms: &[u16],
+    inputs: &[u16],
+    steps: &[u16],
+    work: &mut [u64],
+    trail: &mut [u16],
+) -> (Outcome, Option<BadRow>) {
     if let Err(number) = lengths(sorts, terms, inputs, steps, work.len(), trail.len()) {
-        return Outcome::unread(number);
+        return (Outcome::unread(number), None);
     }
-    let outcome = match engine::State::new(sorts, terms, inputs) {
-        Err(number) => Outcome::unread(number),
+    let result = match engine::State::new(sorts, terms, inputs) {
+        Err(bad) => (Outcome::unread(bad.number), Some(bad)),
         Ok(mut state) => {
             let (verdict, steps, number) = state.run(steps);
-            Outcome {
+            let outcome = Outcome {
                 verdict,
                 steps,
                 number,
                 entries: state.write(trail),
-            }
+            };
+            let refused = BadRow {
+                number,
+                sheet: 3,
+                row: steps,
+            };
+            (outcome, (number != 0).then_some(refused))
         }
     };
     // This checker keeps its state on the stack; the workspace is lent for
     // checkers that do not, and handed back as they hand it back.
     work.fill(0);
-    outcome
+    result
 }
 
 /// The numbers 31, 30 and 32, in this order.

@@ -61,6 +61,15 @@ pub struct Terms {
     pub terms: [Term; MAX_TERMS],
 }
 
+/// The first row in trouble of the sheets, which stand in the order sorts, terms,
+/// inputs, steps; both count from 0.
+#[derive(Clone, Copy, Debug, PartialEq, Eq)]
+pub struct BadRow {
+    pub number: u16,
+    pub sheet: u16,
+    pub row: u16,
+}
+
 /// The index sort and the value sort of an array sort.
 type Array = Option<(u8, u8)>;
 
@@ -71,7 +80,7 @@ struct Sorts {
 }
 
 /// Reads the sort sheet; 1 if a row breaks the rule.
-fn check_sorts(sheet: &[u16]) -> Result<Sorts, u16> {
+fn check_sorts(sheet: &[u16]) -> Result<Sorts, BadRow> {
     let mut sorts = Sorts {
         declared: 0,
         arrays: [None; MAX_SORTS + 1],
@@ -83,7 +92,13 @@ fn check_sorts(sheet: &[u16]) -> Result<Sorts, u16> {
             [index, value] if earlier.contains(&index) && earlier.contains(&value) => {
                 Some((index as u8, value as u8))
             }
-            _ => return Err(1),
+            _ => {
+                return Err(BadRow {
+                    number: 1,
+                    sheet: 0,
+                    row: sorts.declared as u16,
+                })
+            }
         };
         sorts.declared += 1;
         sorts.arrays[sorts.declared] = array;
@@ -109,17 +124,29 @@ impl Table {
 }
 
 /// Reads the sort sheet and the term sheet; 1, 3, 4 or 5 at the first trouble.
-pub fn check(sort_sheet: &[u16], term_sheet: &[u16]) -> Result<Terms, u16> {
+pub fn check(sort_sheet: &[u16], term_sheet: &[u16]) -> Result<Terms, BadRow> {
     let sorts = check_sorts(sort_sheet)?;
     let mut found = Terms {
         rows: 0,
         terms: [Term::NONE; MAX_TERMS],
     };
+    match check_terms(&sorts, term_sheet, &mut found) {
+        Ok(()) => Ok(found),
+        Err(number) => Err(BadRow {
+            number,
+            sheet: 1,
+            row: found.rows,
+        }),
+    }
+}
+
+/// Reads the term rows up to the first with 3, 4 or 5.
+fn check_terms(sorts: &Sorts, sheet: &[u16], found: &mut Terms) -> Result<(), u16> {
     let mut uses = Table([0; SLOTS]);
     let mut keys = Table([0; SLOTS]);
-    for row in term_sheet.as_chunks::<TERM_COLUMNS>().0 {
+    for row in sheet.as_chunks::<TERM_COLUMNS>().0 {
         let term = shape(row, found.rows, sorts.declared)?;
-        if !fits(&term, &found.terms, &sorts, &mut uses) {
+        if !fits(&term, &found.terms, sorts, &mut uses) {
             return Err(4);
         }
         let key = term.key();
@@ -131,7 +158,7 @@ pub fn check(sort_sheet: &[u16], term_sheet: &[u16]) -> Result<Terms, u16> {
         found.terms[usize::from(found.rows)] = term;
         found.rows += 1;
     }
-    Ok(found)
+    Ok(())
 }
 
 /// The term of a row: 3 for an argument that is no earlier row, then 4 for

@@ -5,6 +5,54 @@ use crate::{
     TERM_COLUMNS,
 };
 
+/// Why a line, or the end of a text, is malformed: the first cause that is met.
+#[derive(Clone, Copy, Debug, PartialEq, Eq)]
+#[repr(u16)]
+pub enum Why {
+    /// Nothing is malformed.
+    Fine,
+    /// A byte order mark before a header.
+    Mark,
+    /// A carriage return in the line.
+    Return,
+    /// A line that is longer than any row can be.
+    Long,
+    /// Another line where a header has to stand.
+    Header,
+    /// An empty line after the last sheet.
+    Empty,
+    /// A byte that is neither a space nor part of a name.
+    Byte,
+    /// A wrong number of fields, or spaces that are not single.
+    Fields,
+    /// A name that is too long.
+    Name,
+    /// A value that is none.
+    Value,
+    /// The text ends before the header of the step sheet.
+    Early,
+    /// The text ends within a line.
+    Cut,
+}
+
+impl Why {
+    /// All of them, in the order of their numbers.
+    pub const ALL: [Why; 12] = [
+        Why::Fine,
+        Why::Mark,
+        Why::Return,
+        Why::Long,
+        Why::Header,
+        Why::Empty,
+        Why::Byte,
+        Why::Fields,
+        Why::Name,
+        Why::Value,
+        Why::Early,
+        Why::Cut,
+    ];
+}
+
 /// The greatest number of step lines of a text.
 pub const MAX_TEXT_STEPS: usize = 1_024;
 
@@ -19,6 +67,9 @@ const VALUE_COLUMN: [usize; 4] = [usize::MAX, usize::MAX, 1, 3];
 
 /// What a name or word stands for that nothing gave.
 const UNKNOWN: u16 = 65_534;
+
+/// The bytes that some editors put before a text.
+const BYTE_ORDER_MARK: &[u8] = b"\xEF\xBB\xBF";
 
 const HEADERS: [&[u8]; 4] = [
     b"sort index value",
@@ -38,25 +89,26 @@ const COLUMNS: [usize; 4] = [SORT_COLUMNS, TERM_COLUMNS, INPUT_COLUMNS, STEP_COL
 const CEILINGS: [usize; 4] = [MAX_SORTS, MAX_TERMS, MAX_INPUTS, MAX_TEXT_STEPS];
 
 /// The result of reading a text: 0 or the number of the trouble, the rows of
-/// each sheet, and the first bad line with the field at fault, both from 1.
+/// each sheet, why a line is malformed, and the first bad line with the field at
+/// fault, both from 1.
 ///
 /// The rows are 0 after any trouble. The line is 0 with no bad line, the place 0
-/// where a line as a whole is at fault.
+/// where a line as a whole is at fault. The cause is `Fine` but for 31.
 #[derive(Clone, Copy, Debug, PartialEq, Eq)]
 pub struct Read {
     pub number: u16,
     pub rows: [u16; 4],
+    pub why: Why,
     pub line: u64,
     pub place: u64,
 }
 
 /// What is wrong with a line.
 enum Fault {
-    /// Bytes, spacing, length of the line, number of fields, a header that is not
-    /// the expected one, an empty line, an end of the file inside the line.
-    Shape,
+    /// The line as a whole, or an end of the text at it.
+    Shape(Why),
     /// A field, counted from 1, that is no value, or a name that is too long.
-    Field(u64),
+    Field(Why, u64),
     /// A row too many.
     Ceiling,
     /// A name repeated or reserved.
@@ -64,13 +116,13 @@ enum Fault {
 }
 
 impl Fault {
-    /// The number and the place that a fault is reported with.
-    fn report(&self) -> (u16, u64) {
+    /// The number, the cause and the place that a fault is reported with.
+    fn report(&self) -> (u16, Why, u64) {
         match *self {
-            Fault::Shape => (31, 0),
-            Fault::Field(field) => (31, field),
-            Fault::Ceiling => (30, 0),
-            Fault::Name => (2, 1),
+            Fault::Shape(why) => (31, why, 0),
+            Fault::Field(why, field) => (31, why, field),
+            Fault::Ceiling => (30, Why::Fine, 0),
+            Fault::Name => (2, Why::Fine, 1),
         }
     }
 }
@@ -90,11 +142,12 @@ pub fn read(
     let mut result = Read {
         number: 0,
         rows: [0; 4],
+        why: Why::Fine,
         line: 0,
         place: 0,
     };
     if let Err(fault) = reader.sheets(&mut sheets) {
-        (result.number, result.place) = fault.report();
+        (result.number, result.why, result.place) = fault.report();
         result.line = reader.line;
     } else if (0..4).any(|at| sheets[at].len() < reader.rows[at] * COLUMNS[at]) {
         result.number = 32;
@@ -167,10 +220,43 @@ impl<'a> Reader<'a> {
         self.line += 1;
         let rest = &self.text[self.next..];
         if !rest.starts_with(header) || rest.get(header.len()) != Some(&b'\n') {
-            return Err(Fault::Shape);
+            return Err(self.no_header());
         }
         self.next += header.len() + 1;
         Ok(())
+    }
+
+    /// What is wrong with the line that begins here, where a header has to.
+    #[cold]
+    fn no_header(&self) -> Fault {
+        Fault::Shape(match self.whole() {
+            Err(why) => why,
+            Ok(line) if line.starts_with(BYTE_ORDER_MARK) => Why::Mark,
+            Ok(line) if line.contains(&b'\r') => Why::Return,
+            Ok(_) => Why::Header,
+        })
+    }
+
+    /// What is wrong with the line that begins here and is no row.
+    #[cold]
+    fn no_row(&self) -> Fault {
+        Fault::Shape(match self.whole() {
+            Err(why) => why,
+            Ok(line) if line.contains(&b'\r') => Why::Return,
+            Ok(line) if line.iter().all(|byte| (b' '..=b'~').contains(byte)) => Why::Fields,
+            Ok(_) => Why::Byte,
+        })
+    }
+
+    /// The line that begins here, if it has an end and is not too long.
+    fn whole(&self) -> Result<&'a [u8], Why> {
+        let rest = &self.text[self.next..];
+        match rest.iter().position(|&byte| byte == b'\n') {
+            Some(end) if end > MAX_LINE => Err(Why::Long),
+            Some(end) => Ok(&rest[..end]),
+            None if rest.is_empty() => Err(Why::Early),
+            None => Err(Why::Cut),
+        }
     }
 
     /// Takes a line of a sheet apart; false for the empty line after it.
@@ -178,11 +264,16 @@ impl<'a> Reader<'a> {
         self.line += 1;
         if self.text.get(self.next) == Some(&b'\n') {
             self.next += 1;
-            return if at < 3 { Ok(false) } else { Err(Fault::Shape) };
+            return match at {
+                3 => Err(Fault::Shape(Why::Empty)),
+                _ => Ok(false),
+            };
         }
-        self.split()?;
+        if !self.split() {
+            return Err(self.no_row());
+        }
         if self.count != FIELDS[at] {
-            return Err(Fault::Shape);
+            return Err(Fault::Shape(Why::Fields));
         }
         self.formed(at)?;
         Ok(true)
@@ -192,20 +283,21 @@ impl<'a> Reader<'a> {
     /// not too long. The first that cannot is at fault.
     fn formed(&self, at: usize) -> Result<(), Fault> {
         for (column, field) in self.fields[..self.count].iter().enumerate() {
-            let good = if column == VALUE_COLUMN[at] {
-                value(field).is_some()
+            let (good, why) = if column == VALUE_COLUMN[at] {
+                (value(field).is_some(), Why::Value)
             } else {
-                field.bytes.len() <= MAX_NAME
+                (field.bytes.len() <= MAX_NAME, Why::Name)
             };
             if !good {
-                return Err(Fault::Field(column as u64 + 1));
+                return Err(Fault::Field(why, column as u64 + 1));
             }
         }
         Ok(())
     }
 
-    /// Splits the line that begins here into fields, to its newline.
-    fn split(&mut self) -> Result<(), Fault> {
+    /// Splits the line that begins here into fields, to its newline; false, and
+    /// nothing done, if that cannot be.
+    fn split(&mut self) -> bool {
         let text = self.text;
         let mut begin = self.next;
         let mut count = 0;
@@ -218,13 +310,13 @@ impl<'a> Reader<'a> {
                         hash = (hash ^ u32::from(byte)).wrapping_mul(0x0100_0193)
                     }
                     Some(&stop) => break stop,
-                    None => return Err(Fault::Shape),
+                    None => return false,
                 }
                 end += 1;
             };
             let bytes = &text[begin..end];
             if bytes.is_empty() || count == MAX_FIELDS {
-                return Err(Fault::Shape);
+                return false;
             }
             self.fields[count] = Field { bytes, hash };
             count += 1;
@@ -232,15 +324,15 @@ impl<'a> Reader<'a> {
             match stop {
                 b' ' => (),
                 b'\n' => break,
-                _ => return Err(Fault::Shape),
+                _ => return false,
             }
         }
         if begin - 1 - self.next > MAX_LINE {
-            return Err(Fault::Shape);
+            return false;
         }
         self.count = count;
         self.next = begin;
-        Ok(())
+        true
     }
 
     /// Puts the fields of the line into the sheet as its next row, in so far as
@@ -267,12 +359,12 @@ impl<'a> Reader<'a> {
                 self.terms.add(fields[0]);
             }
             2 => {
-                row[1] = value(&fields[1]).ok_or(Fault::Field(2))?;
+                row[1] = value(&fields[1]).ok_or(Fault::Field(Why::Value, 2))?;
                 self.room(at)?;
                 row[0] = self.term(&fields[0]);
             }
             _ => {
-                row[3] = value(&fields[3]).ok_or(Fault::Field(4))?;
+                row[3] = value(&fields[3]).ok_or(Fault::Field(Why::Value, 4))?;
                 self.room(at)?;
                 row[0] = step_word(&fields[0]);
                 row[1] = rule_word(&fields[1]);

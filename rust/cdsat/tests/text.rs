@@ -1,0 +1,262 @@
+//! Texts through the safe bindings: causes, lines for a person, logs read.
+
+use cdsat::{check, check_into, read, Log, Read, Verdict, Why, SAID};
+
+/// The paper's text.
+const TEXT: &str = "\
+sort index value
+S - -
+
+term head sort a b c d
+a A S - - - -
+b B S - - - -
+e eq prop a b - -
+fa F S a - - -
+fb F S b - - -
+g eq prop fa fb - -
+
+term value
+e true
+g false
+
+step rule term value p q r s t
+clash cong g true e - - - -
+";
+
+/// The headers alone.
+const NOTHING: &str = "\
+sort index value
+
+term head sort a b c d
+
+term value
+
+step rule term value p q r s t
+";
+
+/// The text with something in another's place.
+fn with(old: &str, new: &str) -> String {
+    assert!(TEXT.contains(old), "{old}");
+    TEXT.replacen(old, new, 1)
+}
+
+/// Reads into sheets of so many rows that are full of old contents.
+fn read_rows(text: &str, rows: [usize; 4]) -> (Read, [Vec<u16>; 4]) {
+    let columns = [2, 6, 2, 9];
+    let mut sheets = [0, 1, 2, 3].map(|at| vec![7; columns[at] * rows[at]]);
+    let [sorts, terms, inputs, steps] = &mut sheets;
+    let read = read(text.as_bytes(), sorts, terms, inputs, steps);
+    (read, sheets)
+}
+
+/// A text of every cause, with the line and the place.
+fn malformed() -> Vec<(String, Why, u64, u64)> {
+    let long_name = "S".repeat(65);
+    let long_line = "S".repeat(520);
+    vec![
+        (format!("\u{feff}{TEXT}"), Why::Mark, 1, 0),
+        (TEXT.replace('\n', "\r\n"), Why::Return, 1, 0),
+        (with("S - -\n", "S - -\r\n"), Why::Return, 2, 0),
+        (with("S - -", &format!("{long_line}S - -")), Why::Name, 2, 1),
+        (
+            with("S - -", &format!("{long_line}SS - -")),
+            Why::Long,
+            2,
+            0,
+        ),
+        (with("term head", "term Head"), Why::Header, 4, 0),
+        (format!("{TEXT}\n"), Why::Empty, 18, 0),
+        (with("S - -", "S\t- -"), Why::Byte, 2, 0),
+        (with("S - -", "S -"), Why::Fields, 2, 0),
+        (with("S - -", &format!("{long_name} - -")), Why::Name, 2, 1),
+        (with("g false", "g 01"), Why::Value, 14, 2),
+        (with("g true", "g TRUE"), Why::Value, 17, 4),
+        (String::new(), Why::Early, 1, 0),
+        ("sort index value\n".into(), Why::Early, 2, 0),
+        (TEXT.trim_end().into(), Why::Cut, 17, 0),
+    ]
+}
+
+#[test]
+fn every_cause() {
+    let texts = malformed();
+    for (text, why, line, place) in &texts {
+        let (read, sheets) = read_rows(text, [2, 8, 3, 2]);
+        assert_eq!((read.number, read.rows), (31, [0; 4]), "{text}");
+        assert_eq!(
+            (read.why, read.line, read.place),
+            (*why, *line, *place),
+            "{text}"
+        );
+        assert!(sheets.iter().flatten().all(|&number| number == 0));
+        assert_eq!(check(text.as_bytes()).said, read.to_string());
+    }
+    for why in Why::ALL {
+        assert_eq!(why == Why::Fine, why.words().is_empty());
+        assert_eq!(why == Why::Fine, texts.iter().all(|text| text.1 != why));
+    }
+}
+
+#[test]
+fn other_numbers_of_the_reader() {
+    let (read, sheets) = read_rows("sort index value\nprop - -\n", [1; 4]);
+    assert_eq!((read.number, read.line, read.place), (2, 2, 1));
+    assert_eq!(read.why, Why::Fine);
+    assert_eq!(
+        read.to_string(),
+        "line 2, field 1: 2 a name is repeated or reserved"
+    );
+    assert!(sheets.iter().flatten().all(|&number| number == 0));
+    let (read, sheets) = read_rows(TEXT, [1, 5, 2, 1]);
+    assert_eq!(
+        (read.number, read.why, read.line, read.place),
+        (32, Why::Fine, 0, 0)
+    );
+    assert_eq!(read.to_string(), "32 a lent buffer is short");
+    assert!(sheets.iter().flatten().all(|&number| number == 0));
+    let rows: String = (0..33).map(|at| format!("s{at} - -\n")).collect();
+    let bad = Log::read(with("S - -\n", &rows).as_bytes()).unwrap_err();
+    assert_eq!(
+        (bad.number, bad.why, bad.line, bad.place),
+        (30, Why::Fine, 34, 0)
+    );
+    assert_eq!(bad.to_string(), "line 34: 30 above a ceiling");
+    assert_eq!(read_rows(NOTHING, [0; 4]).0.to_string(), "");
+}
+
+#[test]
+fn a_log_from_a_text() {
+    let log = Log::read(TEXT.as_bytes()).unwrap();
+    assert_eq!(log.sorts(), [cdsat::BLANK; 2]);
+    assert_eq!(log.terms().len(), 6 * cdsat::TERM_COLUMNS);
+    assert_eq!(log.inputs(), [2, 1, 5, 0]);
+    assert_eq!(log.steps().len(), cdsat::STEP_COLUMNS);
+    let run = log.run();
+    assert_eq!(run.outcome.numbers(), [1, 1, 0, 2]);
+    assert_eq!(run.outcome, check(TEXT.as_bytes()).outcome);
+    assert_eq!(run.trail.len(), 2);
+    let log = Log::read(NOTHING.as_bytes()).unwrap();
+    assert_eq!(log, Log::new());
+    assert_eq!(log.run().outcome.numbers(), [0; 4]);
+}
+
+#[test]
+fn lines_for_a_person() {
+    let said = |old: &str, new: &str| check(with(old, new).as_bytes()).said;
+    let second = "S - -\nT S prop";
+    assert_eq!(
+        said("S - -", second),
+        "line 3: 1 a sort row breaks the rule for sorts"
+    );
+    assert_eq!(
+        said("b B S -", "b B S c"),
+        "line 6: 3 an argument is no earlier row"
+    );
+    assert_eq!(
+        said("g eq prop", "g eq S"),
+        "line 10: 4 head, sort and arguments do not fit"
+    );
+    assert_eq!(
+        said("b B", "b A"),
+        "line 6: 5 a row with the head and arguments of an earlier one"
+    );
+    assert_eq!(
+        said("e true", "E true"),
+        "line 13: 6 an input row names no term"
+    );
+    assert_eq!(
+        said("g false", "g -"),
+        "line 14: 7 a value that the term cannot have"
+    );
+    assert_eq!(said("g false", "e false"), "line 14: 8 a term given twice");
+    assert_eq!(
+        said("cong", "congo"),
+        "line 17: 9 a step's columns are wrong"
+    );
+    assert_eq!(
+        said("g false\n", ""),
+        "line 16: 16 the opposite is not there"
+    );
+    let steps = "decide - a 7 - - - - -\ndecide - a 7 - - - - -\nclash";
+    assert_eq!(
+        said("clash", steps),
+        "line 18: 14 the value is there already"
+    );
+    assert_eq!(
+        said("e true", "e 65535"),
+        "line 13, field 2: 31 malformed: neither true, false, - nor a number up to 65534 without leading zeros"
+    );
+}
+
+#[test]
+fn outcomes_of_texts() {
+    assert_eq!(check(TEXT.as_bytes()).outcome.numbers(), [1, 1, 0, 2]);
+    assert_eq!(check(NOTHING.as_bytes()).outcome.numbers(), [0; 4]);
+    let open = check(with("clash cong g true e - - - -\n", "").as_bytes());
+    assert_eq!(
+        (open.outcome.verdict, open.said),
+        (Verdict::Open, String::new())
+    );
+    assert_eq!(open.outcome.numbers(), [0, 0, 0, 2]);
+    let refused = check(b"");
+    assert_eq!(refused.outcome.numbers(), [2, 0, 31, 0]);
+    let refused = check(with("e true\n", "").as_bytes());
+    assert_eq!(refused.outcome.numbers(), [2, 0, 12, 1]);
+    assert_eq!(refused.outcome.meaning(), "a premise is not on the trail");
+}
+
+#[test]
+fn lines_in_buffers() {
+    let text = with("e true\n", "");
+    let line = "line 16: 12 a premise is not on the trail\n";
+    for length in (0..line.len() + 3).chain([SAID, 1_000]) {
+        let mut said = vec![b'?'; length];
+        let outcome = check_into(text.as_bytes(), &mut said);
+        assert_eq!(outcome.numbers(), [2, 0, 12, 1]);
+        let (there, rest) = said.split_at(length.min(line.len()));
+        assert_eq!(there, &line.as_bytes()[..there.len()]);
+        assert!(rest.iter().all(|&byte| byte == 0));
+    }
+    let mut said = [b'?'; SAID];
+    check_into(TEXT.as_bytes(), &mut said);
+    assert_eq!(said, [0; SAID]);
+}
+
+#[test]
+fn empty_sheets() {
+    let mut work = [9; cdsat::work_words(0)];
+    let outcome = cdsat::run(&[], &[], &[], &[], &mut work, &mut []);
+    assert_eq!(outcome.numbers(), [0; 4]);
+    assert_eq!(work, [0; cdsat::work_words(0)]);
+    let outcome = cdsat::run(&[], &[], &[], &[], &mut [], &mut []);
+    assert_eq!(outcome.numbers(), [2, 0, 32, 0]);
+    let outcome = cdsat::run(&[], &[], &[], &[9; 9], &mut work, &mut []);
+    assert_eq!(outcome.numbers(), [2, 0, 9, 0]);
+    assert_eq!(Log::new().run().outcome.numbers(), [0; 4]);
+    assert_eq!(read_rows(NOTHING, [0; 4]).0.number, 0);
+    assert_eq!(read_rows(TEXT, [0; 4]).0.number, 32);
+    assert_eq!(read_rows("", [0; 4]).0.why, Why::Early);
+    assert_eq!(check_into(b"", &mut []).numbers(), [2, 0, 31, 0]);
+    assert_eq!(check_into(NOTHING.as_bytes(), &mut []).numbers(), [0; 4]);
+}
+
+#[test]
+fn the_most_rows() {
+    let sorts: String = (0..32).map(|at| format!("s{at} - -\n")).collect();
+    let terms: String = (0..256)
+        .map(|at| format!("t{at} f{at} s0 - - - -\n"))
+        .collect();
+    let inputs: String = (0..256).map(|at| format!("t{at} {at}\n")).collect();
+    let steps = "resolve - t0 - - - - - -\n".repeat(1_024);
+    let text = format!(
+        "sort index value\n{sorts}\nterm head sort a b c d\n{terms}\nterm value\n{inputs}\n\
+         step rule term value p q r s t\n{steps}"
+    );
+    let log = Log::read(text.as_bytes()).unwrap();
+    let lengths = [log.sorts(), log.terms(), log.inputs(), log.steps()].map(<[u16]>::len);
+    assert_eq!(lengths, [64, 1_536, 512, 9_216]);
+    let checked = check(text.as_bytes());
+    assert_eq!(checked.outcome.numbers(), [2, 0, 10, 256]);
+    assert_eq!(checked.outcome, log.run().outcome);
+    assert_eq!(checked.said, "line 552: 10 wrong state for the step");
+}

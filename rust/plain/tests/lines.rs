@@ -1,0 +1,190 @@
+//! Why a text is malformed, and the line for a person.
+
+use plain::{check, read, Why};
+
+/// The paper's text, with the two more terms of its small board.
+const TEXT: &str = "\
+sort index value
+S - -
+
+term head sort a b c d
+a A S - - - -
+b B S - - - -
+e eq prop a b - -
+fa F S a - - -
+fb F S b - - -
+g eq prop fa fb - -
+n not prop e - - -
+o or prop e g - -
+
+term value
+e true
+g false
+
+step rule term value p q r s t
+clash cong g true e - - - -
+";
+
+fn said(text: &str) -> String {
+    check(text.as_bytes()).said()
+}
+
+/// The line for the text with something in another's place.
+fn said_of(old: &str, new: &str) -> String {
+    assert!(TEXT.contains(old), "{old}");
+    said(&TEXT.replacen(old, new, 1))
+}
+
+fn why(text: &[u8]) -> (u16, Why, u64, u64) {
+    let mut sheets = [64, 1_536, 512, 9_216].map(|length| vec![5; length]);
+    let [sorts, terms, inputs, steps] = &mut sheets;
+    let read = read(text, sorts, terms, inputs, steps);
+    (read.number, read.why, read.line, read.place)
+}
+
+/// The same for the text with something in another's place.
+fn why_of(old: &str, new: &str) -> (u16, Why, u64, u64) {
+    assert!(TEXT.contains(old), "{old}");
+    why(TEXT.replacen(old, new, 1).as_bytes())
+}
+
+#[test]
+fn nothing_to_say() {
+    assert_eq!(why(TEXT.as_bytes()), (0, Why::Fine, 0, 0));
+    assert_eq!(said(TEXT), "");
+    assert_eq!(said_of("clash cong g true e - - - -\n", ""), "");
+    let refuted = check(TEXT.as_bytes()).outcome;
+    assert_eq!((refuted.verdict, refuted.steps, refuted.entries), (1, 1, 2));
+}
+
+#[test]
+fn causes_of_headers() {
+    let marked = [b"\xEF\xBB\xBF", TEXT.as_bytes()].concat();
+    assert_eq!(why(&marked), (31, Why::Mark, 1, 0));
+    let marked = [b"\xEF\xBB\xBFn\r\n", TEXT.as_bytes()].concat();
+    assert_eq!(why(&marked), (31, Why::Mark, 1, 0));
+    let returns = TEXT.replace('\n', "\r\n");
+    assert_eq!(why(returns.as_bytes()), (31, Why::Return, 1, 0));
+    assert_eq!(
+        why_of("term value", "term  value"),
+        (31, Why::Header, 14, 0)
+    );
+    assert_eq!(
+        why_of("\nterm head", "\n\nterm head"),
+        (31, Why::Header, 4, 0)
+    );
+    let long = format!("\nterm value{}\r\n", " ".repeat(514));
+    assert_eq!(why_of("\nterm value\n", &long), (31, Why::Return, 14, 0));
+    let long = format!("\nterm value{}\r\n", " ".repeat(515));
+    assert_eq!(why_of("\nterm value\n", &long), (31, Why::Long, 14, 0));
+}
+
+#[test]
+fn causes_of_rows() {
+    assert_eq!(why_of("S - -\n", "S - -\r\n"), (31, Why::Return, 2, 0));
+    assert_eq!(why_of("S - -\n", "S\t- -\r\n"), (31, Why::Return, 2, 0));
+    assert_eq!(why_of("S - -\n\n", "S - -\n\r\n"), (31, Why::Return, 3, 0));
+    assert_eq!(why_of("S - -\n", "S\t- -\n"), (31, Why::Byte, 2, 0));
+    assert_eq!(why_of("S - -\n", "S - - \u{e9}\n"), (31, Why::Byte, 2, 0));
+    assert_eq!(why_of("S - -\n", "S -\n"), (31, Why::Fields, 2, 0));
+    assert_eq!(why_of("S - -\n", "S -  -\n"), (31, Why::Fields, 2, 0));
+    assert_eq!(why_of("S - -\n", " S - -\n"), (31, Why::Fields, 2, 0));
+    assert_eq!(why_of("S - -\n", "S - - \n"), (31, Why::Fields, 2, 0));
+    let many = format!("S{}\n", " -".repeat(12));
+    assert_eq!(why_of("S - -\n", &many), (31, Why::Fields, 2, 0));
+    let long = format!("{} - -\n", "S".repeat(65));
+    assert_eq!(why_of("S - -\n", &long), (31, Why::Name, 2, 1));
+    assert_eq!(why_of("g false", "g 01"), (31, Why::Value, 16, 2));
+    assert_eq!(why_of("g true", "g 65535"), (31, Why::Value, 19, 4));
+    assert_eq!(why_of("g true", "g 65534"), (0, Why::Fine, 0, 0));
+    let value = format!("g {}", "1".repeat(65));
+    assert_eq!(why_of("g true", &value), (31, Why::Value, 19, 4));
+    assert_eq!(why(format!("{TEXT}\n").as_bytes()), (31, Why::Empty, 20, 0));
+    assert_eq!(
+        why(format!("{TEXT}\r\n").as_bytes()),
+        (31, Why::Return, 20, 0)
+    );
+}
+
+#[test]
+fn the_longest_line() {
+    let row = |last: usize| {
+        let name = "n".repeat(64);
+        let names = [name.as_str(); 3].join(" ");
+        let more = [name.as_str(); 4].join(" ");
+        format!("{names} 65534 {more} {}\n", "n".repeat(last))
+    };
+    assert_eq!(row(64).len(), 526);
+    let with = |row: &str| why(format!("{TEXT}{row}").as_bytes());
+    assert_eq!(with(&row(64)), (0, Why::Fine, 0, 0));
+    assert_eq!(with(&row(65)), (31, Why::Long, 20, 0));
+    assert_eq!(
+        with(&row(64).replacen('n', "\r", 1)),
+        (31, Why::Return, 20, 0)
+    );
+    assert_eq!(
+        with(&row(65).replacen('n', "\r", 1)),
+        (31, Why::Long, 20, 0)
+    );
+}
+
+#[test]
+fn causes_of_ends() {
+    assert_eq!(why(b""), (31, Why::Early, 1, 0));
+    assert_eq!(why(b"sort index value\n"), (31, Why::Early, 2, 0));
+    assert_eq!(why(b"sort index value\n\n"), (31, Why::Early, 3, 0));
+    assert_eq!(why(b"sort index value"), (31, Why::Cut, 1, 0));
+    assert_eq!(why(b"\xEF\xBB\xBF"), (31, Why::Cut, 1, 0));
+    assert_eq!(why(&[b'\t'; 600]), (31, Why::Cut, 1, 0));
+    assert_eq!(why(TEXT.trim_end().as_bytes()), (31, Why::Cut, 19, 0));
+    assert_eq!(why(format!("{TEXT}\r").as_bytes()), (31, Why::Cut, 20, 0));
+    let before = TEXT.split("step").next().unwrap();
+    assert_eq!(why(before.as_bytes()), (31, Why::Early, 18, 0));
+    let before = TEXT.split(" rule").next().unwrap();
+    assert_eq!(why(before.as_bytes()), (31, Why::Cut, 18, 0));
+}
+
+#[test]
+fn lines_of_the_reader() {
+    assert_eq!(
+        said_of("b B S", "a B S"),
+        "line 6, field 1: 2 a name is repeated or reserved\n"
+    );
+    assert_eq!(
+        said_of("e true", "e 01"),
+        "line 15, field 2: 31 malformed: neither true, false, - nor a number up to 65534 without leading zeros\n"
+    );
+    assert_eq!(
+        said(TEXT.trim_end()),
+        "line 19: 31 malformed: the last line has no newline\n"
+    );
+    let rows: String = (0..33).map(|at| format!("s{at} - -\n")).collect();
+    assert_eq!(said_of("S - -\n", &rows), "line 34: 30 above a ceiling\n");
+}
+
+#[test]
+fn lines_of_the_run() {
+    let sort = "line 3: 1 a sort row breaks the rule for sorts\n";
+    assert_eq!(said_of("S - -\n", "S - -\nT S prop\n"), sort);
+    let term = "line 6: 3 an argument is no earlier row\n";
+    assert_eq!(said_of("b B S -", "b B S c"), term);
+    let term = "line 9: 4 head, sort and arguments do not fit\n";
+    assert_eq!(said_of("fb F S b", "fb F S e"), term);
+    let term = "line 6: 5 a row with the head and arguments of an earlier one\n";
+    assert_eq!(said_of("b B", "b A"), term);
+    assert_eq!(
+        said_of("e true", "E true"),
+        "line 15: 6 an input row names no term\n"
+    );
+    let input = "line 16: 7 a value that the term cannot have\n";
+    assert_eq!(said_of("g false", "g -"), input);
+    assert_eq!(
+        said_of("g false", "e false"),
+        "line 16: 8 a term given twice\n"
+    );
+    let step = "line 19: 9 a step's columns are wrong\n";
+    assert_eq!(said_of("clash", "crash"), step);
+    let step = "line 20: 14 the value is there already\n";
+    let decide = "decide - a 7 - - - - -\n".repeat(3);
+    assert_eq!(said_of("clash cong g true e - - - -\n", &decide), step);
+}
