@@ -1,4 +1,14 @@
-/* The verified checker of rule logs: the exported calls.
+/* The verified checker of CDSAT logs: its three calls, in libcdsat.a.
+ *
+ *   cdsat_check  a log as text, from its bytes to the verdict
+ *   cdsat_read   a log as text, from its bytes to the four sheets
+ *   cdsat_run    a log as four sheets, to the verdict and the trail
+ *
+ * Link the library behind what calls it; it needs the C library alone:
+ *
+ *   cc -Iinclude program.c target/staticlib/libcdsat.a
+ *
+ * A complete program stands at the end.
  *
  * A problem and its log are four sheets of 16-bit numbers, row after row:
  *
@@ -8,10 +18,13 @@
  *   steps   step, rule, term, value, five premises
  *
  * An empty column is CDSAT_BLANK. Sort 0 is prop, whose values are 0 for false
- * and 1 for true. The calls ask nothing of the numbers in the sheets or of the
- * lengths; every pointer must lead to so many numbers as the length beside it
- * says, those that are written must overlap nothing else, and a pointer with
- * length 0 may be anything but null.
+ * and 1 for true. docs/FORMAT.md has the same four sheets as text, and what every
+ * number means.
+ *
+ * The calls ask nothing of the numbers, the bytes and the lengths. Every pointer
+ * must lead to as many items as the length beside it says, and what is written
+ * must overlap nothing else. With length 0 a pointer may be anything, NULL too.
+ * The calls keep nothing, allocate nothing and may run side by side.
  */
 #ifndef CDSAT_H
 #define CDSAT_H
@@ -91,15 +104,32 @@ enum cdsat_verdict {
     CDSAT_REFUSED = 2  /* see the number */
 };
 
+/* Why a text is malformed. */
+enum cdsat_why {
+    CDSAT_WHY_FINE = 0,   /* it is not: the number is not 31 */
+    CDSAT_WHY_MARK = 1,   /* a byte order mark before the header */
+    CDSAT_WHY_RETURN = 2, /* a carriage return in the line */
+    CDSAT_WHY_LONG = 3,   /* more than 525 bytes */
+    CDSAT_WHY_HEADER = 4, /* not the sheet's header line */
+    CDSAT_WHY_EMPTY = 5,  /* an empty line after the last sheet */
+    CDSAT_WHY_BYTE = 6,   /* a tab or another byte that no field may have */
+    CDSAT_WHY_FIELDS = 7, /* another count of fields, or not single spaces */
+    CDSAT_WHY_NAME = 8,   /* a name of more than 64 bytes */
+    CDSAT_WHY_VALUE = 9,  /* neither true, false, - nor a number to 65534 */
+    CDSAT_WHY_EARLY = 10, /* the text ends before the step sheet's header */
+    CDSAT_WHY_CUT = 11    /* the last line has no newline */
+};
+
 /* The result of a run.
  *
  * The number is 0 for no trouble. 1 to 8: the sort, term and input sheets.
  * 9 to 23: the first step that is not allowed. 30: a sheet with too many rows.
- * 31: a length that is no whole number of rows. 32: a buffer too short.
+ * 31: a length that is no whole number of rows. 32: a buffer too short. From
+ * cdsat_check it can also be a number of cdsat_read.
  */
 typedef struct {
-    uint16_t verdict;
-    uint16_t steps;   /* steps allowed */
+    uint16_t verdict; /* enum cdsat_verdict */
+    uint16_t steps;   /* steps allowed; a refused step is the one after them */
     uint16_t number;
     uint16_t entries; /* entries on the trail */
 } cdsat_outcome;
@@ -129,20 +159,102 @@ cdsat_outcome cdsat_run(const uint16_t *sorts, size_t sorts_len,
 typedef struct {
     uint16_t number;
     uint16_t rows[4]; /* of the sort, term, input and step sheet; 0 with trouble */
+    uint16_t why;     /* enum cdsat_why; not 0 exactly with number 31 */
     uint64_t line;
     uint64_t place;
 } cdsat_read_result;
 
 /* Reads a text into the four sheets, which hold the rows and then zeros, or only
- * zeros if the number is not 0. */
+ * zeros if the number is not 0. Lengths count bytes for the text, numbers for the
+ * sheets. Sheets of CDSAT_MAX_.. * CDSAT_.._COLUMNS numbers hold every text
+ * (CDSAT_MAX_TEXT_STEPS for the steps).
+ *
+ * To run what was read, pass sheet i with the length rows[i] times its columns,
+ * not the length that was lent: the zeros behind the rows would be rows too, and
+ * the answer would be the number 1, a sort row that breaks the rule for sorts.
+ *
+ * Uses about 60 KiB of the stack.
+ */
 cdsat_read_result cdsat_read(const uint8_t *text, size_t text_len,
                              uint16_t *sorts, size_t sorts_len,
                              uint16_t *terms, size_t terms_len,
                              uint16_t *inputs, size_t inputs_len,
                              uint16_t *steps, size_t steps_len);
 
+/* So many bytes hold every line that cdsat_check says, and a zero behind it. */
+#define CDSAT_SAID 256
+
+/* Reads a text and runs its log, with sheets and buffers of its own.
+ *
+ * The result is that of the run. A text that cannot be read is refused with the
+ * reader's number, 0 steps and 0 entries; 32 cannot come.
+ *
+ * For a refusal said gets one line for a person, which ends with a newline: the
+ * line of the text at fault, the field of a line that cannot be read, the number
+ * and what it means, and for 31 why. Two examples:
+ *
+ *   line 12: 13 the rule does not fit
+ *   line 28, field 2: 31 malformed: a name of more than 64 bytes
+ *
+ * Zeros fill the rest, and all of it where nothing is refused. Of a line longer
+ * than said_len the first said_len bytes are there, without a zero behind them.
+ *
+ * Uses about 100 KiB of the stack.
+ */
+cdsat_outcome cdsat_check(const uint8_t *text, size_t text_len,
+                          uint8_t *said, size_t said_len);
+
 #ifdef __cplusplus
 }
 #endif
+
+/* A complete program: it checks the log in a file, then reads and runs it to
+ * print the trail too. `sed -n 's/^ [*]| \{0,1\}//p' cdsat.h` takes it out.
+ *
+ *| #include <stdio.h>
+ *| #include "cdsat.h"
+ *|
+ *| static uint8_t text[1 << 20], said[CDSAT_SAID];
+ *| static uint16_t sorts[CDSAT_MAX_SORTS * CDSAT_SORT_COLUMNS];
+ *| static uint16_t terms[CDSAT_MAX_TERMS * CDSAT_TERM_COLUMNS];
+ *| static uint16_t inputs[CDSAT_MAX_INPUTS * CDSAT_INPUT_COLUMNS];
+ *| static uint16_t steps[CDSAT_MAX_TEXT_STEPS * CDSAT_STEP_COLUMNS];
+ *| static uint64_t work[CDSAT_WORK_WORDS(CDSAT_MAX_TERMS)];
+ *| static uint16_t trail[CDSAT_TRAIL_NUMBERS(CDSAT_MAX_TERMS)];
+ *|
+ *| #define LENGTH(array) (sizeof(array) / sizeof *(array))
+ *|
+ *| int main(int argc, char **argv) {
+ *|     FILE *file = argc == 2 ? fopen(argv[1], "rb") : NULL;
+ *|     size_t length = file ? fread(text, 1, sizeof text, file) : 0;
+ *|     if (!file || ferror(file) || !feof(file)) {
+ *|         fputs("name one file of less than 1 MiB\n", stderr);
+ *|         return 3;
+ *|     }
+ *|     fclose(file);
+ *|
+ *|     cdsat_outcome o = cdsat_check(text, length, said, sizeof said);
+ *|     printf("verdict %u, steps %u, number %u, entries %u\n",
+ *|            o.verdict, o.steps, o.number, o.entries);
+ *|     fputs((const char *)said, stderr);
+ *|
+ *|     cdsat_read_result r = cdsat_read(text, length,
+ *|         sorts, LENGTH(sorts), terms, LENGTH(terms),
+ *|         inputs, LENGTH(inputs), steps, LENGTH(steps));
+ *|     if (r.number != 0)
+ *|         return CDSAT_REFUSED;
+ *|     o = cdsat_run(sorts, r.rows[0] * CDSAT_SORT_COLUMNS,
+ *|         terms, r.rows[1] * CDSAT_TERM_COLUMNS,
+ *|         inputs, r.rows[2] * CDSAT_INPUT_COLUMNS,
+ *|         steps, r.rows[3] * CDSAT_STEP_COLUMNS,
+ *|         work, LENGTH(work), trail, LENGTH(trail));
+ *|     for (size_t i = 0; i < o.entries; i++) {
+ *|         const uint16_t *entry = trail + i * CDSAT_ENTRY_COLUMNS;
+ *|         printf("term %u has value %u at level %u%s\n",
+ *|                entry[0], entry[1], entry[2], entry[3] ? ", decided" : "");
+ *|     }
+ *|     return o.verdict;
+ *| }
+ */
 
 #endif

@@ -1,0 +1,270 @@
+/* Calls the three functions of cdsat.h from C and compares all that they answer and write. */
+#include "cdsat.h"
+
+#include <stdio.h>
+#include <string.h>
+
+_Static_assert(sizeof(cdsat_outcome) == 8, "cdsat_outcome");
+_Static_assert(offsetof(cdsat_outcome, verdict) == 0, "verdict");
+_Static_assert(offsetof(cdsat_outcome, steps) == 2, "steps");
+_Static_assert(offsetof(cdsat_outcome, number) == 4, "number");
+_Static_assert(offsetof(cdsat_outcome, entries) == 6, "entries");
+_Static_assert(sizeof(cdsat_read_result) == 32, "cdsat_read_result");
+_Static_assert(offsetof(cdsat_read_result, number) == 0, "number");
+_Static_assert(offsetof(cdsat_read_result, rows) == 2, "rows");
+_Static_assert(offsetof(cdsat_read_result, why) == 10, "why");
+_Static_assert(offsetof(cdsat_read_result, line) == 16, "line");
+_Static_assert(offsetof(cdsat_read_result, place) == 24, "place");
+
+_Static_assert(CDSAT_BLANK == 65535, "blank");
+_Static_assert(CDSAT_MAX_SORTS == 32 && CDSAT_MAX_TERMS == 256 && CDSAT_MAX_INPUTS == 256, "ceilings");
+_Static_assert(CDSAT_MAX_STEPS == 65535 && CDSAT_MAX_TEXT_STEPS == 1024, "ceilings of steps");
+_Static_assert(CDSAT_SORT_COLUMNS == 2 && CDSAT_TERM_COLUMNS == 6, "columns");
+_Static_assert(CDSAT_INPUT_COLUMNS == 2 && CDSAT_STEP_COLUMNS == 9 && CDSAT_ENTRY_COLUMNS == 4, "columns");
+_Static_assert(CDSAT_WORK_WORDS(256) == 2060 && CDSAT_TRAIL_NUMBERS(256) == 1024, "buffers");
+_Static_assert(CDSAT_EQ == 0 && CDSAT_STORE == 5 && CDSAT_FREE == 16 && CDSAT_LAST_FREE == 65534, "heads");
+_Static_assert(CDSAT_DECIDE == 0 && CDSAT_FLIP == 6 && CDSAT_RULE_SAME == 0 && CDSAT_RULE_SKIP == 12, "steps and rules");
+_Static_assert(CDSAT_OPEN == 0 && CDSAT_REFUTED == 1 && CDSAT_REFUSED == 2, "verdicts");
+_Static_assert(CDSAT_WHY_FINE == 0 && CDSAT_WHY_CUT == 11 && CDSAT_SAID == 256, "causes");
+
+#define LENGTH(array) (sizeof(array) / sizeof *(array))
+#define B CDSAT_BLANK
+
+/* Document 01's listing, in parts. */
+#define SORTS "sort index value\nS - -\n\n"
+#define TERMS \
+    "term head sort a b c d\na A S - - - -\nb B S - - - -\ne eq prop a b - -\n" \
+    "fa F S a - - -\nfb F S b - - -\ng eq prop fa fb - -\n\n"
+#define STEPS "step rule term value p q r s t\n"
+#define LISTING SORTS TERMS "term value\ne true\ng false\n\n" STEPS "clash cong g true e - - - -\n"
+#define HEADERS "sort index value\n\nterm head sort a b c d\n\nterm value\n\n" STEPS
+
+/* The sheets and buffers that are lent, full of old contents. */
+static uint16_t sorts[CDSAT_MAX_SORTS * CDSAT_SORT_COLUMNS];
+static uint16_t terms[CDSAT_MAX_TERMS * CDSAT_TERM_COLUMNS + CDSAT_TERM_COLUMNS];
+static uint16_t inputs[CDSAT_MAX_INPUTS * CDSAT_INPUT_COLUMNS];
+static uint16_t steps[CDSAT_MAX_TEXT_STEPS * CDSAT_STEP_COLUMNS];
+static uint64_t work[CDSAT_WORK_WORDS(CDSAT_MAX_TERMS)];
+static uint16_t trail[CDSAT_TRAIL_NUMBERS(CDSAT_MAX_TERMS)];
+
+static unsigned passed, failed;
+
+/* One comparison of two numbers. */
+static void same(const char *what, const char *part, uint64_t got, uint64_t wanted) {
+    if (got == wanted) {
+        passed++;
+    } else {
+        failed++;
+        printf("differs: %s: %s is %llu, not %llu\n", what, part, (unsigned long long)got, (unsigned long long)wanted);
+    }
+}
+
+/* One comparison of so many bytes. */
+static void same_bytes(const char *what, const void *got, const void *wanted, size_t size) {
+    same(what, "whether the bytes are as expected", size == 0 || memcmp(got, wanted, size) == 0, 1);
+}
+
+/* How many bytes are not b. */
+static size_t others(const void *from, size_t size, unsigned char b) {
+    const unsigned char *bytes = from;
+    size_t count = 0;
+    for (size_t i = 0; i < size; i++)
+        count += bytes[i] != b;
+    return count;
+}
+
+static void same_outcome(const char *what, cdsat_outcome got, unsigned verdict, unsigned count, unsigned number, unsigned entries) {
+    same(what, "verdict", got.verdict, verdict);
+    same(what, "steps", got.steps, count);
+    same(what, "number", got.number, number);
+    same(what, "entries", got.entries, entries);
+}
+
+static void soil(void) {
+    memset(sorts, 0xaa, sizeof sorts);
+    memset(terms, 0xaa, sizeof terms);
+    memset(inputs, 0xaa, sizeof inputs);
+    memset(steps, 0xaa, sizeof steps);
+    memset(work, 0xaa, sizeof work);
+    memset(trail, 0xaa, sizeof trail);
+}
+
+static cdsat_read_result read_text(const char *text, size_t length) {
+    soil();
+    return cdsat_read((const uint8_t *)text, length, sorts, LENGTH(sorts), terms, LENGTH(terms), inputs, LENGTH(inputs), steps, LENGTH(steps));
+}
+
+/* The listing's rows in every sheet, and zeros behind them. */
+static void test_read(void) {
+    static const uint16_t want_sorts[LENGTH(sorts)] = {B, B};
+    static const uint16_t want_terms[LENGTH(terms)] = {
+        CDSAT_FREE, 1, B, B, B, B, CDSAT_FREE + 1, 1, B, B, B, B, CDSAT_EQ, 0, 0, 1, B, B,
+        CDSAT_FREE + 2, 1, 0, B, B, B, CDSAT_FREE + 2, 1, 1, B, B, B, CDSAT_EQ, 0, 3, 4, B, B};
+    static const uint16_t want_inputs[LENGTH(inputs)] = {2, 1, 5, 0};
+    static const uint16_t want_steps[LENGTH(steps)] = {CDSAT_CLASH, CDSAT_RULE_CONG, 5, 1, 2, B, B, B, B};
+    static const uint16_t want_rows[4] = {1, 6, 2, 1};
+    cdsat_read_result r = read_text(LISTING, strlen(LISTING));
+    same("listing read", "number", r.number, 0);
+    same("listing read", "why", r.why, CDSAT_WHY_FINE);
+    same("listing read", "line", r.line, 0);
+    same("listing read", "place", r.place, 0);
+    same_bytes("listing read: rows", r.rows, want_rows, sizeof want_rows);
+    same_bytes("listing read: sorts", sorts, want_sorts, sizeof sorts);
+    same_bytes("listing read: terms", terms, want_terms, sizeof terms);
+    same_bytes("listing read: inputs", inputs, want_inputs, sizeof inputs);
+    same_bytes("listing read: steps", steps, want_steps, sizeof steps);
+}
+
+/* The sheets that were read, cut to their rows; then whole, where the zeros are rows. */
+static void test_run(void) {
+    static const uint16_t want_trail[] = {2, 1, 0, 0, 5, 0, 0, 0};
+    cdsat_read_result r = read_text(LISTING, strlen(LISTING));
+    size_t n = r.rows[1];
+    cdsat_outcome o = cdsat_run(
+        sorts, r.rows[0] * CDSAT_SORT_COLUMNS, terms, n * CDSAT_TERM_COLUMNS, inputs, r.rows[2] * CDSAT_INPUT_COLUMNS,
+        steps, r.rows[3] * CDSAT_STEP_COLUMNS, work, CDSAT_WORK_WORDS(n), trail, CDSAT_TRAIL_NUMBERS(n));
+    same_outcome("listing run", o, CDSAT_REFUTED, 1, 0, 2);
+    same_bytes("listing run: trail", trail, want_trail, sizeof want_trail);
+    same("listing run", "trail behind the entries", others(trail + 8, sizeof trail - 16, 0xaa), 0);
+    same("listing run", "workspace", others(work, 8 * CDSAT_WORK_WORDS(n), 0), 0);
+    same("listing run", "what lies behind the workspace", others(work + CDSAT_WORK_WORDS(n), sizeof work - 8 * CDSAT_WORK_WORDS(n), 0xaa), 0);
+    o = cdsat_run(
+        sorts, LENGTH(sorts), terms, CDSAT_MAX_TERMS * CDSAT_TERM_COLUMNS, inputs, LENGTH(inputs), steps, LENGTH(steps),
+        work, LENGTH(work), trail, LENGTH(trail));
+    same_outcome("listing run with whole sheets", o, CDSAT_REFUSED, 0, 1, 0);
+}
+
+/* The numbers of lengths, each at its border, where nothing is written. */
+static void test_lengths(void) {
+    size_t n = 6, w = CDSAT_WORK_WORDS(n), t = CDSAT_TRAIL_NUMBERS(n);
+    read_text(LISTING, strlen(LISTING));
+    same_outcome("31", cdsat_run(sorts, 1, terms, 36, inputs, 4, steps, 9, work, w, trail, t), CDSAT_REFUSED, 0, 31, 0);
+    same_outcome("30 terms", cdsat_run(sorts, 2, terms, 257 * 6, inputs, 4, steps, 9, work, w, trail, t), CDSAT_REFUSED, 0, 30, 0);
+    same_outcome("32 work", cdsat_run(sorts, 2, terms, 36, inputs, 4, steps, 9, work, w - 1, trail, t), CDSAT_REFUSED, 0, 32, 0);
+    same_outcome("32 trail", cdsat_run(sorts, 2, terms, 36, inputs, 4, steps, 9, work, w, trail, t - 1), CDSAT_REFUSED, 0, 32, 0);
+    same("lengths", "workspace", others(work, sizeof work, 0xaa), 0);
+    same("lengths", "trail", others(trail, sizeof trail, 0xaa), 0);
+    same_outcome("no step", cdsat_run(sorts, 2, terms, 36, inputs, 4, steps, 0, work, w, trail, t), CDSAT_OPEN, 0, 0, 2);
+}
+
+/* A text that cannot be read, what cdsat_read says of it and what cdsat_check says. */
+struct bad {
+    const char *what, *text;
+    unsigned number, why, line, place;
+    const char *said;
+};
+
+#define NAME_65 "xxxxxxxxxxxxxxxxxxxxxxxxxxxxxxxxxxxxxxxxxxxxxxxxxxxxxxxxxxxxxxxxx"
+#define TEN_65 NAME_65 NAME_65 NAME_65 NAME_65 NAME_65 NAME_65 NAME_65 NAME_65 NAME_65 NAME_65
+
+static const struct bad bad_texts[] = {
+    {"mark", "\xef\xbb\xbf" LISTING, 31, CDSAT_WHY_MARK, 1, 0, "line 1: 31 malformed: a byte order mark stands before the header\n"},
+    {"return", "sort index value\r\n", 31, CDSAT_WHY_RETURN, 1, 0, "line 1: 31 malformed: a carriage return, where lines end with a newline alone\n"},
+    {"long", SORTS "term head sort a b c d\n" TEN_65 "\n", 31, CDSAT_WHY_LONG, 5, 0, "line 5: 31 malformed: the line has more than 525 bytes\n"},
+    {"header", "sorts\n", 31, CDSAT_WHY_HEADER, 1, 0, "line 1: 31 malformed: this is not the sheet's header line\n"},
+    {"empty", LISTING "\n", 31, CDSAT_WHY_EMPTY, 18, 0, "line 18: 31 malformed: an empty line after the last sheet\n"},
+    {"byte", "sort index value\nS\t- -\n", 31, CDSAT_WHY_BYTE, 2, 0, "line 2: 31 malformed: a tab or another byte that no field may have\n"},
+    {"fields", "sort index value\nS -\n", 31, CDSAT_WHY_FIELDS, 2, 0,
+     "line 2: 31 malformed: not as many fields as the sheet has columns, or not single spaces\n"},
+    {"name", "sort index value\nS - " NAME_65 "\n", 31, CDSAT_WHY_NAME, 2, 3, "line 2, field 3: 31 malformed: a name of more than 64 bytes\n"},
+    {"value", SORTS TERMS "term value\ne 01\n", 31, CDSAT_WHY_VALUE, 13, 2,
+     "line 13, field 2: 31 malformed: neither true, false, - nor a number up to 65534 without leading zeros\n"},
+    {"early", SORTS, 31, CDSAT_WHY_EARLY, 4, 0, "line 4: 31 malformed: the text ends before the header of the step sheet\n"},
+    {"cut", LISTING "decide", 31, CDSAT_WHY_CUT, 18, 0, "line 18: 31 malformed: the last line has no newline\n"},
+    {"a name twice", "sort index value\nS - -\nS - -\n", 2, CDSAT_WHY_FINE, 3, 1, "line 3, field 1: 2 a name is repeated or reserved\n"},
+};
+
+/* The line that cdsat_check says, in buffers of every length to CDSAT_SAID: cut where they are short, zeros behind it. */
+static void test_said(const char *what, const char *text, const char *said, cdsat_outcome o) {
+    for (size_t length = 0; length <= CDSAT_SAID; length++) {
+        uint8_t buffer[CDSAT_SAID + 8], wanted[CDSAT_SAID + 8];
+        memset(buffer, 0xaa, sizeof buffer);
+        memset(wanted, 0xaa, sizeof wanted);
+        for (size_t i = 0; i < length; i++)
+            wanted[i] = i < strlen(said) ? (uint8_t)said[i] : 0;
+        same_outcome(what, cdsat_check((const uint8_t *)text, strlen(text), buffer, length), o.verdict, o.steps, o.number, o.entries);
+        same_bytes(what, buffer, wanted, sizeof buffer);
+    }
+    same(what, "whether the line and a zero fit", strlen(said) < CDSAT_SAID, 1);
+}
+
+static void test_bad_texts(void) {
+    for (size_t i = 0; i < LENGTH(bad_texts); i++) {
+        const struct bad *b = &bad_texts[i];
+        cdsat_read_result r = read_text(b->text, strlen(b->text));
+        same(b->what, "number", r.number, b->number);
+        same(b->what, "why", r.why, b->why);
+        same(b->what, "line", r.line, b->line);
+        same(b->what, "place", r.place, b->place);
+        same(b->what, "rows", others(r.rows, sizeof r.rows, 0), 0);
+        same(b->what, "sheets", others(sorts, sizeof sorts, 0) + others(terms, sizeof terms, 0), 0);
+        same(b->what, "sheets", others(inputs, sizeof inputs, 0) + others(steps, sizeof steps, 0), 0);
+        cdsat_outcome o = {CDSAT_REFUSED, 0, (uint16_t)b->number, 0};
+        test_said(b->what, b->text, b->said, o);
+    }
+}
+
+/* Texts that are read, with every verdict, and a refusal in each sheet. */
+static void test_checks(void) {
+    static const struct {
+        const char *what, *text;
+        cdsat_outcome o;
+        const char *said;
+    } texts[] = {
+        {"the listing", LISTING, {CDSAT_REFUTED, 1, 0, 2}, ""},
+        {"headers alone", HEADERS, {CDSAT_OPEN, 0, 0, 0}, ""},
+        {"a clash too early", SORTS TERMS "term value\ne true\n\n" STEPS "clash cong g true e - - - -\n", {CDSAT_REFUSED, 0, 16, 1},
+         "line 16: 16 the opposite is not there\n"},
+        {"a decision twice", SORTS TERMS "term value\n\n" STEPS "decide - a 7 - - - - -\ndecide - a 7 - - - - -\n", {CDSAT_REFUSED, 1, 14, 1},
+         "line 16: 14 the value is there already\n"},
+        {"a sort row", "sort index value\nS - -\nT S -\n\nterm head sort a b c d\n\nterm value\n\n" STEPS, {CDSAT_REFUSED, 0, 1, 0},
+         "line 3: 1 a sort row breaks the rule for sorts\n"},
+        {"a term row", SORTS "term head sort a b c d\na A S - - - -\ne eq prop a - - -\n\nterm value\n\n" STEPS, {CDSAT_REFUSED, 0, 4, 0},
+         "line 6: 4 head, sort and arguments do not fit\n"},
+        {"an input row", SORTS TERMS "term value\ne true\ne true\n\n" STEPS, {CDSAT_REFUSED, 0, 8, 0}, "line 14: 8 a term given twice\n"},
+    };
+    for (size_t i = 0; i < LENGTH(texts); i++)
+        test_said(texts[i].what, texts[i].text, texts[i].said, texts[i].o);
+}
+
+/* Every pointer as NULL with length 0. */
+static void test_null(void) {
+    const uint8_t *headers = (const uint8_t *)HEADERS, *listing = (const uint8_t *)LISTING;
+    size_t all = strlen(LISTING);
+    same_outcome("no work", cdsat_run(NULL, 0, NULL, 0, NULL, 0, NULL, 0, NULL, 0, NULL, 0), CDSAT_REFUSED, 0, 32, 0);
+    same_outcome("no sheets", cdsat_run(NULL, 0, NULL, 0, NULL, 0, NULL, 0, work, 12, NULL, 0), CDSAT_OPEN, 0, 0, 0);
+    cdsat_read_result r = cdsat_read(NULL, 0, NULL, 0, NULL, 0, NULL, 0, NULL, 0);
+    same("no text", "number", r.number, 31);
+    same("no text", "why", r.why, CDSAT_WHY_EARLY);
+    same("no text", "line", r.line, 1);
+    r = cdsat_read(headers, strlen(HEADERS), NULL, 0, NULL, 0, NULL, 0, NULL, 0);
+    same("headers", "number", r.number, 0);
+    soil();
+    same("no sorts", "number", cdsat_read(listing, all, NULL, 0, terms, 36, inputs, 4, steps, 9).number, 32);
+    same("no terms", "number", cdsat_read(listing, all, sorts, 2, NULL, 0, inputs, 4, steps, 9).number, 32);
+    same("no inputs", "number", cdsat_read(listing, all, sorts, 2, terms, 36, NULL, 0, steps, 9).number, 32);
+    same("no steps", "number", cdsat_read(listing, all, sorts, 2, terms, 36, inputs, 4, NULL, 0).number, 32);
+    r = cdsat_read(listing, all, sorts, 2, terms, 36, inputs, 3, steps, 9);
+    same("short inputs", "number", r.number, 32);
+    same("short inputs", "line", r.line, 0);
+    same("short inputs", "why", r.why, CDSAT_WHY_FINE);
+    same("short inputs", "terms", others(terms, 72, 0), 0);
+    same("short inputs", "what lies behind the terms", others(terms + 36, sizeof terms - 72, 0xaa), 0);
+    same_outcome("no text, nothing said", cdsat_check(NULL, 0, NULL, 0), CDSAT_REFUSED, 0, 31, 0);
+    same_outcome("nothing said", cdsat_check(listing, all, NULL, 0), CDSAT_REFUTED, 1, 0, 2);
+}
+
+int main(void) {
+    test_read();
+    test_run();
+    test_lengths();
+    test_bad_texts();
+    test_checks();
+    test_null();
+    if (failed > 0) {
+        printf("c: %u checks passed, %u failed\n", passed, failed);
+        return 1;
+    }
+    printf("c: %u checks passed\n", passed);
+    return 0;
+}
