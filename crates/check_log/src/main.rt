@@ -148,7 +148,11 @@ fn answer_input(out: &mut [u8; 128], said: &mut [u8; 256]) -> Spell
 fn first(buffer: &[u8], n: usize) -> &[u8]
     ensures { λ r. ⌜ now r ≡ take n (now (buffer .entry)) ⌝ }
 {
-    if n < buffer.len() { &buffer[..n] } else { buffer }
+    if n < buffer.len() {
+        &buffer[..n]
+    } else {
+        buffer
+    }
 }
 
 fn main() {

@@ -146,10 +146,15 @@ module _ (text : List ℕ) {a b c d : List ℕ} (lent : lentOf a b c d ≡ most)
   one-piece : s ≡ fedPieces (freshStream (zeroSheets most)) (text ∷ [])
   one-piece = fed ∙ ap (λ (x : Stream). feedAll x text) (begun-fresh most lent begun line names)
 
-  pub checked : (x : Answer) {line′ names′ a′ b′ c′ d′ : List ℕ}
-      → ((ps : List (List ℕ)) → s ≡ fedPieces (freshStream (zeroSheets most)) ps → Concluded (joined ps) x line′ names′ a′ b′ c′ d′)
-      → (n k : ℕ) {said : List ℕ} → Laid n (complained (x .complaint)) k said → Checked text n (x .outcome) said
-  unfolding answerOf
-  checked x end n k told =
-      let is = end (text ∷ []) one-piece .answer-is ∙ ap answerOf (append-nil text) in
-      record { result = ap (λ (y : Answer). y .outcome) is; told = told .out-is ∙ ap (λ (y : Answer). padTo n (complained (y .complaint))) is }
+  module _ (x : Answer) {line′ names′ a′ b′ c′ d′ : List ℕ}
+      (end : (ps : List (List ℕ)) → s ≡ fedPieces (freshStream (zeroSheets most)) ps → Concluded (joined ps) x line′ names′ a′ b′ c′ d′) where
+    pub answered : x ≡ answerOf text
+    answered = end (text ∷ []) one-piece .answer-is ∙ ap answerOf (append-nil text)
+
+    pub checked : (n k : ℕ) {said : List ℕ} → Laid n (complained (x .complaint)) k said → Checked text n (x .outcome) said
+    unfolding answerOf
+    checked n k told =
+        record {
+          result = ap (λ (y : Answer). y .outcome) answered;
+          told = told .out-is ∙ ap (λ (y : Answer). padTo n (complained (y .complaint))) answered;
+        }
