@@ -3,3 +3,4 @@ pub mod Sizes
 pub mod Whole
 pub mod Final
 pub mod Pieces
+pub mod Places

@@ -29,7 +29,7 @@ abbrev sizesOf : Kept → Sizes
 sizesOf k = record { sorts = length (k .sorts) * 2; terms = length (k .terms) * 6; inputs = k .inputs * 2; steps = k .steps * 9 }
 
 -- so many numbers more in one sheet
-abbrev grown : Sheet → Sizes → ℕ → Sizes
+abbrev pub grown : Sheet → Sizes → ℕ → Sizes
 grown Sorts s n = record { sorts = s .sorts + n; terms = s .terms; inputs = s .inputs; steps = s .steps }
 grown Terms s n = record { sorts = s .sorts; terms = s .terms + n; inputs = s .inputs; steps = s .steps }
 grown Inputs s n = record { sorts = s .sorts; terms = s .terms; inputs = s .inputs + n; steps = s .steps }
