@@ -10,10 +10,10 @@ use Rattle.text_stream.proofs.Bytes.{feed-append}
 use Rattle.text_stream.specs.declared.Progress.{Progress}
 use Rattle.reader.specs.Text.{lentOf}
 use Rattle.reader.specs.Stream.{Begun, fedPieces, joined, zeroSheets}
-use Rattle.buffers.proofs.Room.{length-padTo}
 use Rattle.report.specs.Put.{Laid}
 use Rattle.report.specs.Printed.{printed}
 use Rattle.report.specs.Complaint.{complained}
+use Rattle.report.proofs.Short.{results-are-short, complaints-are-short, laid-whole, laid-length}
 use Rattle.verdict.specs.declared.Answer.{Answer}
 use Rattle.verdict.specs.Verdict.{most}
 use Rattle.verdict.specs.Contract.{answerOf, Concluded}
@@ -55,14 +55,15 @@ module _ {a b c d : List ℕ} (lent : lentOf a b c d ≡ most) {f : Progress} {a
       → (l j : ℕ) {said : List ℕ} → l ≡ 256 → Laid l (complained (x .complaint)) j said → Spoken n k j out said
   unfolding answerOf
   spoken m k {out} m-is laid l j {said} l-is told =
-      let is = answer-is in
+      let laid′ = subst (λ (z : ℕ). Laid z (printed (x .outcome)) k out) m-is laid in
+      let told′ = subst (λ (z : ℕ). Laid z (complained (x .complaint)) j said) l-is told in
       record {
         bytes = fed .bytes;
         size = fed .size;
-        printed-is = subst (λ (y : Answer). Laid 128 (printed (y .outcome)) k out) is (subst (λ (z : ℕ). Laid z (printed (x .outcome)) k out) m-is laid);
-        told-is = subst (λ (y : Answer). Laid 256 (complained (y .complaint)) j said) is (subst (λ (z : ℕ). Laid z (complained (x .complaint)) j said) l-is told);
+        printed-is = laid-whole 128 (printed (x .outcome)) (results-are-short (x .outcome)) laid′ ∙ ap (λ (y : Answer). printed (y .outcome)) answer-is;
+        told-is =
+            laid-whole 256 (complained (x .complaint)) (complaints-are-short (x .complaint)) told′
+            ∙ ap (λ (y : Answer). complained (y .complaint)) answer-is;
+        out-keeps = laid-length 128 (printed (x .outcome)) laid′;
+        said-keeps = laid-length 256 (complained (x .complaint)) told′;
       }
-
--- a buffer that a text was laid into keeps its length
-pub laid-length : {n k : ℕ} {text out : List ℕ} → Laid n text k out → n ≡ length out
-laid-length {n} {k} {text} h = sym (ap length (h .out-is) ∙ length-padTo n text)

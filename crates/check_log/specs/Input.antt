@@ -3,9 +3,8 @@
 use Prim.Native.Nat.{ℕ}
 use mathlib.Core.Path.{_≡_}
 use mathlib.Core.List.{List}
-use lib.ListN.{length}
+use lib.ListN.{length, take}
 use Rattle.text_stream.specs.Stream.{Stream, feedAll}
-use Rattle.report.specs.Put.{Laid}
 use Rattle.report.specs.Printed.{printed}
 use Rattle.report.specs.Complaint.{complained}
 use Rattle.verdict.specs.Verdict.{verdictOf}
@@ -17,9 +16,11 @@ pub record Fed (s : Stream) (n : ℕ) (s′ : Stream) : Type 0 where
   pub size : length bytes ≡ n
   pub all : s′ ≡ feedAll s bytes
 
--- n bytes were read and answered: what is printed has k bytes and stands in one buffer, what is told has j and stands in the other
+-- n bytes were read and answered: the first k bytes of one buffer are what is printed, and the first j of the other what a person is told
 pub record Spoken (n k j : ℕ) (out said : List ℕ) : Type 0 where
   pub bytes : List ℕ
   pub size : length bytes ≡ n
-  pub printed-is : Laid 128 (printed (verdictOf bytes)) k out
-  pub told-is : Laid 256 (complained (complaintOf bytes)) j said
+  pub printed-is : take k out ≡ printed (verdictOf bytes)
+  pub told-is : take j said ≡ complained (complaintOf bytes)
+  pub out-keeps : 128 ≡ length out
+  pub said-keeps : 256 ≡ length said

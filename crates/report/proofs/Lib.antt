@@ -4,3 +4,4 @@ pub mod Digits
 pub mod Printed
 pub mod Words
 pub mod Complaints
+pub mod Short

@@ -1,5 +1,4 @@
 -- The buffers that are written out keep their lengths.
-use Rattle.check_log.proofs.Pieces.{laid-length}
 use borrow.Author.Needs.{needs}
 use Rattle.check_log.proofs.main.Statement.{statement}
 use Rattle.check_log.proofs.main.Tie as tie
@@ -17,7 +16,7 @@ returns : tie.Need-returns
 returns c = search needs
 
 slice-aggregate-first : tie.Need-slice-aggregate-first
-slice-aggregate-first c = laid-length (c .before .before .answer-input .ensures .printed-is)
+slice-aggregate-first c = c .before .before .answer-input .ensures .out-keeps
 
 first-requires : tie.Need-first-requires
 first-requires c κs = search needs
@@ -35,7 +34,7 @@ returns-2 : tie.Need-returns-2
 returns-2 c = search needs
 
 slice-aggregate-first-2 : tie.Need-slice-aggregate-first-2
-slice-aggregate-first-2 c = laid-length (c .before .before .before .before .before .before .answer-input .ensures .told-is)
+slice-aggregate-first-2 c = c .before .before .before .before .before .before .answer-input .ensures .said-keeps
 
 first-requires-2 : tie.Need-first-requires-2
 first-requires-2 c κs = search needs
