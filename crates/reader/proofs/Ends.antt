@@ -47,7 +47,9 @@ module _ (core : Core) (t : List ℕ) (whole : Bool) (n : ℕ) where
 -- what is returned
 pub outcome-counts : (number : ℕ) (f : Fault) (n : Counts) (t : List ℕ) (a b c d w : ℕ)
     → a ≡ counted number (n .sorts) → b ≡ counted number (n .terms) → c ≡ counted number (n .inputs) → d ≡ counted number (n .steps)
-    → w ≡ whyNumber (f .why) → _≡_ {A = ReadOutcome} (record { number = number; sorts = a; terms = b; inputs = c; steps = d; why = w; line = f .line; place = f .place })
+    → w ≡ whyNumber (f .why)
+    → _≡_ {A = ReadOutcome}
+    (record { number = number; sorts = a; terms = b; inputs = c; steps = d; why = w; line = f .line; place = f .place })
     (outcomeOf number f (keptOf n t))
 outcome-counts number f n t a b c d w p q r s v = rw (p, q, r, s, v, length-names t 0 (n .sorts), length-names t 32 (n .terms))
 

@@ -37,7 +37,9 @@ leave-sheet-requires-4 c κs = search needs
 
 -- the places that the answers look back to: the rows asked about, and the entry
 abbrev asked : tie.After-slice-known8 → tie.After-holds-rows
-asked c = c .before .before .before .before .before .before .before .before .before .before .before .before .before .before .before .before .before .before .before .before .before
+asked c =
+    let sorts = c .before .before .before .before .before .before .before .before .before .before .before .before .before in
+    sorts .before .before .before .before .before .before .before .before
 
 abbrev entry : tie.After-holds-rows → tie.Start
 entry c = c .before .before .before .before .before .before .before .before .before .before
