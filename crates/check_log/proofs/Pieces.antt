@@ -1,9 +1,9 @@
 -- Laws of bytes that are read piece by piece.
 use Prim.Native.Nat.{ℕ, _+_}
 use mathlib.Core.Path.{_≡_, refl, ap, sym, subst, _∙_}
-use mathlib.Core.List.{List, [], _∷_, _++_}
+use mathlib.Core.List.{List, [], _++_}
 use native.Mathlib.Omega.{arith}
-use lib.ListN.{length, take, length-append}
+use lib.ListN.{take, length-append}
 use Rattle.io.specs.Counts.{Counts}
 use Rattle.text_stream.specs.Stream.{Stream, feedAll, freshStream, streamOf}
 use Rattle.text_stream.proofs.Bytes.{feed-append}

@@ -19,7 +19,7 @@ use Rattle.text_rows.specs.Rows.{sortAdded, sortRow, termAdded, termRow, inputA
 use Rattle.text_position.specs.Place.{nextLine}
 use Rattle.text_lines.specs.declared.Sheet.{Sheet}
 use Rattle.text_lines.specs.declared.Sheet.the-variants.{Sorts, Terms, Inputs, Steps}
-use Rattle.text_lines.specs.Lines.{Control, Effect, quiet, bad, enter, headerOf, header, nextSheet, rowOf, row, readLine, numbered, lineEffect}
+use Rattle.text_lines.specs.Lines.{Control, Effect, bad, enter, headerOf, header, nextSheet, rowOf, row, readLine, numbered, lineEffect}
 use Rattle.text_lines.proofs.Lines.{effect-late}
 use Rattle.reader.specs.Text.{State, lineStep, linesFold, startState}
 use Rattle.reader.specs.Places.{nextRowLine, afterLines, RowsHaveLines}

@@ -1,6 +1,6 @@
 -- Laws of a complaint that is stored: a, b, .. are what the buffer holds after each part, and r, s, .. the places after them.
 use Prim.Native.Nat.{ℕ}
-use mathlib.Core.Path.{_≡_, sym, _∙_}
+use mathlib.Core.Path.{_≡_}
 use mathlib.Core.List.{List}
 use borrow.Author.Tests.{eq-eqb, ne-eqb}
 use lib.ListN.{replicate}

@@ -1,5 +1,5 @@
 -- How long what is printed can be.
-use Prim.Native.Nat.{ℕ, _≤_}
+use Prim.Native.Nat.{_≤_}
 use lib.ListN.{length}
 use Rattle.calculus.specs.declared.Outcome.{Outcome}
 use Rattle.report.specs.Printed.{printed}

@@ -9,7 +9,6 @@ use lib.ListN.{length, drop, getD, drop-of-length-le}
 use lib.Seq.{drop-cons}
 use Rattle.text_fields.specs.Class.{classOf}
 use Rattle.text_faults.specs.Why.{holds, marked, isPlain, plain, headerWhy, rowWhy}
-use Rattle.text_faults.specs.declared.Why.{Why}
 use Rattle.text_faults.specs.declared.Why.the-variants.{Mark, Return, Header, Byte, Fields, Name, Value}
 
 -- no header

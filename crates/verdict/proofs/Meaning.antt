@@ -1,16 +1,12 @@
 -- From bytes to meaning: what is called refuted is endorsed by no interpretation.
-use Prim.Native.Nat.{ℕ}
 use mathlib.Core.Path.{_≡_, refl, ap, sym, _∙_}
 use mathlib.Core.Bool.{Bool, true, false}
-use mathlib.Core.List.{List}
 use native.Mathlib.Omega.{arith}
 use lib.Dec.{eqb}
 use Rattle.calculus.specs.declared.Outcome.{Outcome}
-use Rattle.calculus.specs.Run.{outcome}
 use Rattle.soundness.proofs.Theorem.{sound}
-use Rattle.text_fields.specs.Split.{pick}
 use Rattle.reader.specs.Text.{textState, textFault}
-use Rattle.verdict.specs.Verdict.{callFrom, unread, verdictOf}
+use Rattle.verdict.specs.Verdict.{callFrom, verdictOf}
 use Rattle.verdict.specs.Meaning.{InputRefuted, TextsSound}
 
 pub texts-sound : TextsSound

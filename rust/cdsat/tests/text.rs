@@ -3,25 +3,7 @@
 use cdsat::{check, check_into, read, Log, Read, Verdict, Why, SAID};
 
 /// The paper's text.
-const TEXT: &str = "\
-sort index value
-S - -
-
-term head sort a b c d
-a A S - - - -
-b B S - - - -
-e eq prop a b - -
-fa F S a - - -
-fb F S b - - -
-g eq prop fa fb - -
-
-term value
-e true
-g false
-
-step rule term value p q r s t
-clash cong g true e - - - -
-";
+const TEXT: &str = include_str!("../../../crates/check_log/stdin");
 
 /// The headers alone.
 const NOTHING: &str = "\

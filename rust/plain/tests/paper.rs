@@ -183,25 +183,7 @@ fn longest_log() {
     assert_eq!((out.verdict, out.number), (REFUSED, 31));
 }
 
-const TEXT: &str = "\
-sort index value
-S - -
-
-term head sort a b c d
-a A S - - - -
-b B S - - - -
-e eq prop a b - -
-fa F S a - - -
-fb F S b - - -
-g eq prop fa fb - -
-
-term value
-e true
-g false
-
-step rule term value p q r s t
-clash cong g true e - - - -
-";
+const TEXT: &str = include_str!("../../../crates/check_log/stdin");
 
 /// Reads into dirty sheets of the given lengths.
 fn read_text(text: &str, lengths: [usize; 4]) -> (Read, [Vec<u16>; 4]) {
