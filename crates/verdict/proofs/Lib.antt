@@ -1,3 +1,4 @@
 pub mod Cuts
 pub mod Answers
 pub mod Meaning
+pub mod Examples

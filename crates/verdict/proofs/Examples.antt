@@ -1,0 +1,85 @@
+-- Worked examples from bytes to bytes: texts, what is printed of them, and what a person is told. One table, and one theorem by computation.
+use Prim.Native.Nat.{ℕ}
+use Prim.Native.String.{String}
+use mathlib.Core.Path.{_≡_, refl}
+use mathlib.Core.List.{List, [], _∷_, _++_, map}
+use Rattle.calculus.specs.Lists
+use Rattle.calculus.specs.Numbers
+use Rattle.calculus.specs.Sheets
+use Rattle.calculus.specs.Sorts
+use Rattle.calculus.specs.Terms
+use Rattle.calculus.specs.Trail
+use Rattle.calculus.specs.Inputs
+use Rattle.calculus.specs.Rules
+use Rattle.calculus.specs.Steps
+use Rattle.calculus.specs.Run
+use Rattle.text_fields.specs.Split.{bytes}
+use Rattle.text_fields.specs.Words.{refOf}
+use Rattle.text_fields.specs.Shape.{shapeOf}
+use Rattle.text_faults.specs.Why.{headerWhy, rowWhy}
+use Rattle.text_rows.specs.Rows.{isTaken, headOf, sortRow, termRow, inputRow, stepRow}
+use Rattle.text_lines.specs.Lines.{readLine, lineEffect}
+use Rattle.reader.specs.Text.{lineStep, textState, textFault}
+use Rattle.report.specs.Printed
+use Rattle.report.specs.Printed.{digitsOf, decimal, verdictWord, numberField}
+use Rattle.report.specs.Words.{meaning, cause}
+use Rattle.report.specs.Complaint.{fieldPart, wherePart, whatPart, whyPart, complained}
+use Rattle.verdict.specs.Verdict.{verdictOf}
+use Rattle.verdict.specs.Fault.{cutRefused, refusedRow, lineOf, complaintOf}
+
+-- what is printed, and what a person is told
+pub record Seen : Type 0 where
+  pub printed : List ℕ
+  pub told : List ℕ
+
+abbrev seen : List ℕ → Seen
+seen bs = record { printed = Printed.printed (verdictOf bs); told = complained (complaintOf bs) }
+
+-- a text, and what has to be seen of it
+pub record Example : Type 0 where
+  pub text : List ℕ
+  pub seen : Seen
+
+-- a text, the second line that is printed, and the line that is told
+example : List ℕ → String → String → Example
+example text result told =
+    record { text = text; seen = record { printed = bytes "verdict steps code trail\n" ++ bytes result; told = bytes told } }
+
+-- the small board of document 01
+board : List ℕ
+board =
+    bytes "sort index value\nS - -\n\nterm head sort a b c d\na A S - - - -\nb B S - - - -\ne eq prop a b - -\n"
+    ++ bytes "fa F S a - - -\nfb F S b - - -\ng eq prop fa fb - -\n\nterm value\n"
+
+-- the end of the input, and the header of the steps
+steps : List ℕ
+steps = bytes "\nstep rule term value p q r s t\n"
+
+-- the board, an input and a log
+log : String → String → List ℕ
+log input rows = board ++ bytes input ++ steps ++ bytes rows
+
+pub table : List Example
+table =
+    -- document 01's listing
+    example (log "e true\ng false\n" "clash cong g true e - - - -\n") "refuted 1 0 2\n" ""
+    -- no steps
+    ∷ example (log "e true\n" "") "open 0 0 1\n" ""
+    -- the second step is refused: there is no conflict to resolve in
+    ∷ example (log "g false\n" "decide - e true - - - - -\nresolve - e - - - - - -\n") "refused 1 10 2\n"
+    "line 17: 10 wrong state for the step\n"
+    -- an input row: a prop has no value 2
+    ∷ example (log "g false\ne 2\n" "") "refused 0 7 0\n" "line 14: 7 a value that the term cannot have\n"
+    -- a term row whose argument stands below, and a sort row that names itself
+    ∷ example (bytes "sort index value\n\nterm head sort a b c d\np P prop - - - -\nq not prop r - - -\nr not prop p - - -\n\nterm value\n" ++ steps)
+    "refused 0 3 0\n" "line 5: 3 an argument is no earlier row\n"
+    ∷ example (bytes "sort index value\nS - -\nT S T\n\nterm head sort a b c d\n\nterm value\n" ++ steps) "refused 0 1 0\n"
+    "line 3: 1 a sort row breaks the rule for sorts\n"
+    -- not read: the last line has no newline
+    ∷ example (log "e true\n" "clash cong g true e - - - -") "refused 0 31 0\n"
+    "line 16: 31 malformed: the last line has no newline\n"
+    ∷ []
+
+pub answers : map (λ (e : Example). seen (e .text)) table ≡ map (λ (e : Example). e .seen) table
+unfolding table example board steps log Lists.firstWhere Numbers.unless Numbers.orElse Numbers.firstRefusal Sheets.lengthRefusal Sorts.isArray Sorts.isPlain Sorts.sortRefusal Sorts.sortsRefusal Terms.cells Terms.args Terms.arg Terms.earlier Terms.sameUse Terms.firstUse Terms.suits Terms.twins Terms.fresh Terms.termRefusal Terms.termsRefusal Trail.on Trail.entry Trail.holds Trail.levelOf Trail.keptTo Trail.trailNumbersOf Inputs.inputTrail Inputs.inputRefusal Inputs.inputsRefusal Rules.ruleOf Rules.bare Rules.single Rules.double Rules.leading Rules.unitAt Rules.fits Steps.answer Steps.premises Steps.kindOf Steps.shaped Steps.ready Steps.known Steps.decideRefusal Steps.decide Steps.inferenceRefusal Steps.deduceRefusal Steps.deduce Steps.clashRefusal Steps.clashed Steps.clash Steps.resolveRefusal Steps.resolve Steps.clearRefusal Steps.clear Steps.jumpRefusal Steps.jump Steps.flipRefusal Steps.flip Steps.rowRefusal Steps.stepBy Steps.step Run.follow Run.run Run.sheetsRefusal Run.callRefusal Run.endingOf Run.ending Run.outcome refOf shapeOf isTaken headOf sortRow termRow inputRow stepRow headerWhy rowWhy readLine lineEffect lineStep textState textFault digitsOf decimal verdictWord numberField Printed.printed meaning cause fieldPart wherePart whatPart whyPart complained verdictOf cutRefused refusedRow lineOf complaintOf
+answers = refl
