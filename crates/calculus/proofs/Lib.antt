@@ -13,3 +13,4 @@ pub mod Boards
 pub mod Runs
 pub mod Slips
 pub mod Order
+pub mod Blame

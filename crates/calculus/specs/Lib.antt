@@ -10,3 +10,4 @@ pub mod Rules
 pub mod Steps
 pub mod Run
 pub mod WellFormed
+pub mod Blame

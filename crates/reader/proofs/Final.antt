@@ -36,7 +36,7 @@ module _ (n : Lent) (bs : List ℕ) (s : Stream) (is : s ≡ feedAll (freshStrea
   ran : Follows n s (reached 1 startState (pieces 10 bs))
   ran = rw is (whole-text n bs)
 
-  pub control-is : s .control ≡ textState bs .control
+  control-is : s .control ≡ textState bs .control
   unfolding textState
   control-is = ran .control-is
 

@@ -4,3 +4,4 @@ pub mod Whole
 pub mod Final
 pub mod Pieces
 pub mod Places
+pub mod Ceilings

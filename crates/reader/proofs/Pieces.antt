@@ -2,7 +2,7 @@
 use Prim.Native.Nat.{ℕ}
 use mathlib.Core.Path.{_≡_, refl, ap, sym, _∙_}
 use mathlib.Core.List.{List, [], _∷_}
-use Rattle.reader.specs.Text.{Lent, lentOf, startState, textState}
+use Rattle.reader.specs.Text.{Lent, lentOf, startState}
 use Rattle.text_lines.specs.View.{Sheets}
 use Rattle.text_stream.specs.declared.Progress.{Progress}
 use Rattle.text_stream.specs.Stream.{Stream, feedAll, freshStream, streamOf}
@@ -10,7 +10,7 @@ use Rattle.reader.specs.Stream.{Begun, fedPieces, joined, zeroSheets, Re
 use Rattle.text_stream.proofs.Bytes.{feed-append}
 use Rattle.buffers.proofs.Room.{pad-none}
 use Rattle.reader.proofs.Whole.{padded}
-use Rattle.reader.proofs.Final.{read-is, control-is}
+use Rattle.reader.proofs.Final.{read-is}
 
 pieces-whole : (s : Stream) (ps : List (List ℕ)) → fedPieces s ps ≡ feedAll s (joined ps)
 pieces-whole s [] = refl
@@ -27,10 +27,6 @@ whole-is n ps =
 pub read-in-pieces : ReadInPieces
 read-in-pieces n ps r line′ names′ sorts′ terms′ inputs′ steps′ h =
     read-is n (joined ps) (fedPieces (freshStream (zeroSheets n)) ps) (whole-is n ps) r line′ names′ sorts′ terms′ inputs′ steps′ h
-
--- where the reading stands after all pieces
-pub pieces-control : (n : Lent) (ps : List (List ℕ)) → fedPieces (freshStream (zeroSheets n)) ps .control ≡ textState (joined ps) .control
-pieces-control n ps = control-is n (joined ps) (fedPieces (freshStream (zeroSheets n)) ps) (whole-is n ps)
 
 -- a text that begins
 pub begun-fresh : (n : Lent) {a b c d : List ℕ} → lentOf a b c d ≡ n → {f : Progress} {a′ b′ c′ d′ : List ℕ} → Begun a b c d f a′ b′ c′ d′

@@ -12,35 +12,37 @@ use Rattle.buffers.proofs.Room.{append-nil, take-pad}
 use Rattle.report.specs.Put.{Laid}
 use Rattle.report.specs.Complaint.{complained}
 use Rattle.text_fields.specs.Split.{pick}
-use Rattle.text_rows.specs.View.{keptOf, Bounded}
-use Rattle.text_names.proofs.Table.{length-names}
-use Rattle.text_rows.specs.declared.Counts.{Counts}
 use Rattle.reader.specs.declared.ReadOutcome.{ReadOutcome}
 use Rattle.reader.specs.Text.{State, lentOf, fits, textState, textFault, textNumber, outcomeOf, textOutcome, textSheet, TextRead}
-use Rattle.text_lines.specs.Lines.{Control}
 use Rattle.text_stream.specs.declared.Progress.{Progress}
 use Rattle.text_stream.specs.Stream.{Stream, feedAll, streamOf, freshStream}
 use Rattle.reader.specs.Stream.{Begun, Finished, fedPieces, joined, zeroSheets}
-use Rattle.reader.proofs.Pieces.{read-in-pieces, pieces-control, begun-fresh}
-use Rattle.reader.proofs.Sizes.{Sized, sized-sorts, sized-terms, sized-inputs, sized-steps}
+use Rattle.reader.proofs.Pieces.{read-in-pieces, begun-fresh}
+use Rattle.reader.proofs.Ceilings.{texts-within}
+use Rattle.reader.proofs.Sizes.{sized-sorts, sized-terms, sized-inputs, sized-steps}
 use Rattle.reader.proofs.Final.{text-sized}
 use Rattle.verdict.specs.declared.Answer.{Answer}
 use Rattle.verdict.specs.Verdict.{most, verdictOf}
 use Rattle.verdict.specs.Fault.{complaintOf}
-use Rattle.verdict.specs.Contract.{Held, unreadAnswer, runAnswer, answerOf, Concluded, Checked}
+use Rattle.verdict.specs.Contract.{unreadAnswer, runAnswer, answerOf, Concluded, Checked}
 
--- the greatest sheets hold the rows of every text
-pub held-all : (s : State) → Sized s → (n : Counts) (t : List ℕ) → s .control .kept ≡ keptOf n t → Bounded n → Held s
-held-all s sized n t kept bounded =
-    let a : length (s .control .kept .sorts) ≡ n .sorts = rw kept (length-names t 0 (n .sorts)) in
-    let b : length (s .control .kept .terms) ≡ n .terms = rw kept (length-names t 32 (n .terms)) in
-    let c : s .control .kept .inputs ≡ n .inputs = rw kept in
-    let d : s .control .kept .steps ≡ n .steps = rw kept in
+-- rows that the greatest sheets hold, as those of every text
+record Held (s : State) : Type 0 where
+  sorts : length (s .sorts) ≤ 64
+  terms : length (s .terms) ≤ 1536
+  inputs : length (s .inputs) ≤ 512
+  steps : length (s .steps) ≤ 9216
+
+held-all : (bs : List ℕ) → Held (textState bs)
+held-all bs =
+    let s = textState bs in
+    let sized = text-sized bs in
+    let within = texts-within bs in
     record {
-      sorts = omega (arith, sized-sorts s sized, bounded .0, a);
-      terms = omega (arith, sized-terms s sized, bounded .1, b);
-      inputs = omega (arith, sized-inputs s sized, bounded .3, c);
-      steps = omega (arith, sized-steps s sized, bounded .4, d);
+      sorts = omega (arith, sized-sorts s sized, within .0);
+      terms = omega (arith, sized-terms s sized, within .1);
+      inputs = omega (arith, sized-inputs s sized, within .2);
+      steps = omega (arith, sized-steps s sized, within .3);
     }
 
 fits-most : (s : State) → Held s → fits most s ≡ true
@@ -58,7 +60,10 @@ rows-back : (n count w : ℕ) (rows sheet : List ℕ) → length rows ≤ n → 
 unfolding textSheet
 rows-back n count w rows sheet h e is = rw (is, ← e) (take-pad n rows h)
 
-module _ (bs : List ℕ) (held : Held (textState bs)) where
+module _ (bs : List ℕ) where
+  held : Held (textState bs)
+  held = held-all bs
+
   -- a text's number is its fault's
   number-is : textNumber most bs ≡ textFault bs .number
   unfolding textNumber
@@ -117,21 +122,16 @@ module _ (bs : List ℕ) (held : Held (textState bs)) where
           is ∙ rw (p ∙ sorts-back, q ∙ terms-back, u ∙ inputs-back, v ∙ steps-back, counts-are, e)
 
 -- a text that came in pieces, finished and judged
-module _ (ps : List (List ℕ)) (f : Progress) (line t a b c d : List ℕ) (bounded : Bounded (f .core .counts))
+module _ (ps : List (List ℕ)) (f : Progress) (line t a b c d : List ℕ)
     (is : streamOf f line t a b c d ≡ fedPieces (freshStream (zeroSheets most)) ps) where
-  held-pieces : Held (textState (joined ps))
-  held-pieces =
-      let control = sym (pieces-control most ps) ∙ ap (λ (x : Stream). x .control) (sym is) in
-      held-all (textState (joined ps)) (text-sized (joined ps)) (f .core .counts) t (ap (λ (x : Control). x .kept) control) bounded
-
   pub concluded : {r : ReadOutcome} {line′ names′ a′ b′ c′ d′ : List ℕ} → Finished (streamOf f line t a b c d) r line′ names′ a′ b′ c′ d′
-      → {x : Answer} → ((bs : List ℕ) → Held (textState bs) → TextRead bs most r a′ b′ c′ d′ → x ≡ answerOf bs)
+      → {x : Answer} → ((bs : List ℕ) → TextRead bs most r a′ b′ c′ d′ → x ≡ answerOf bs)
       → Concluded (joined ps) x line′ names′ a′ b′ c′ d′
   concluded {r} {line′} {names′} {a′} {b′} {c′} {d′} end judged =
       let whole = subst (λ (s : Stream). Finished s r line′ names′ a′ b′ c′ d′) is end in
       let read = read-in-pieces most ps r line′ names′ a′ b′ c′ d′ whole in
       record {
-        answer-is = judged (joined ps) held-pieces read;
+        answer-is = judged (joined ps) read;
         line-is = end .line-is;
         names-is = end .names-is;
         sorts-is = read .sorts-is;

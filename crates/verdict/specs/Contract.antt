@@ -1,24 +1,17 @@
 -- What is stated of a text: the result, the line for a person, and every lent buffer.
-use Prim.Native.Nat.{ℕ, _≤_}
+use Prim.Native.Nat.{ℕ}
 use mathlib.Core.Path.{_≡_}
 use mathlib.Core.List.{List}
-use lib.ListN.{length, replicate}
+use lib.ListN.{replicate}
 use Rattle.buffers.specs.Room.{padTo}
 use Rattle.calculus.specs.declared.Outcome.{Outcome}
 use Rattle.calculus.specs.Run.{outcome}
 use Rattle.report.specs.Complaint.{complained}
-use Rattle.reader.specs.Text.{State, textState, textNumber, textSheet}
+use Rattle.reader.specs.Text.{textState, textNumber, textSheet}
 use Rattle.reader.specs.declared.ReadOutcome.{ReadOutcome}
 use Rattle.verdict.specs.declared.Answer.{Answer}
 use Rattle.verdict.specs.Verdict.{most, callWith, unread, verdictOf}
 use Rattle.verdict.specs.Fault.{lineOf, complaintOf}
-
--- rows that the greatest sheets hold, as those of every text
-pub record Held (s : State) : Type 0 where
-  pub sorts : length (s .sorts) ≤ 64
-  pub terms : length (s .terms) ≤ 1536
-  pub inputs : length (s .inputs) ≤ 512
-  pub steps : length (s .steps) ≤ 9216
 
 -- of a text that is not read, by what the reader returns
 abbrev pub unreadAnswer : ReadOutcome → Answer

@@ -6,12 +6,12 @@ ghost use lib.ListN.{length, take};
 ghost use Rattle.calculus.specs.Run.{outcome};
 ghost use Rattle.text_rows.specs.View.{Bounded};
 ghost use Rattle.text_stream.specs.Stream.{streamOf, freshStream};
-ghost use Rattle.reader.specs.Text.{textState, TextRead};
+ghost use Rattle.reader.specs.Text.{TextRead};
 ghost use Rattle.reader.specs.Stream.{fedPieces, joined, zeroSheets};
 ghost use Rattle.reader.specs.Places.{rowLine};
 ghost use Rattle.verdict.specs.Verdict.{most, callWith, unread};
 ghost use Rattle.verdict.specs.Fault.{sheetOf, cutCall, cutRefused, refusedRow, rowIn, lineOf};
-ghost use Rattle.verdict.specs.Contract.{Held, unreadAnswer, runAnswer, answerOf, Concluded, Checked};
+ghost use Rattle.verdict.specs.Contract.{unreadAnswer, runAnswer, answerOf, Concluded, Checked};
 use calculus::Outcome;
 use reader::ReadOutcome;
 use report::Complaint;
@@ -182,7 +182,7 @@ fn run_answer(r: ReadOutcome, sorts: &[u16], terms: &[u16], inputs: &[u16], step
 
 // What a text gets, by what the reader returned and the sheets that it left.
 fn judge(r: ReadOutcome, sorts: &[u16], terms: &[u16], inputs: &[u16], steps: &[u16]) -> Answer
-    ensures { λ a. ⌜ ((bs : List ℕ) → Held (textState bs)
+    ensures { λ a. ⌜ ((bs : List ℕ)
         → TextRead bs most r (now (sorts .entry)) (now (terms .entry)) (now (inputs .entry)) (now (steps .entry)) → a ≡ answerOf bs) ⌝ }
 {
     if r.number != 0 {

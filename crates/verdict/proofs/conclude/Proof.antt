@@ -14,7 +14,7 @@ returns : tie.Need-returns
 returns c =
     let ended = c .before .before .before .before .before .before .before .before .before in
     let start = ended .before .before .before .before .before .before .before in
-    λ ps is. concluded ps (start .args .f) _ _ _ _ _ _ (start .pre) is (ended .finish .ensures) (c .judge .ensures)
+    λ ps is. concluded ps (start .args .f) _ _ _ _ _ _ is (ended .finish .ensures) (c .judge .ensures)
 
 pub conclude-spec : {M : Type 1} → statement M
 conclude-spec = tie.close (tie.spec finish-requires judge-requires returns)

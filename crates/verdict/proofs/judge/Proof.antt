@@ -8,7 +8,7 @@ unread-answer-requires : tie.Need-unread-answer-requires
 unread-answer-requires c κs = search needs
 
 returns : tie.Need-returns
-returns c = λ bs held read. judged-unread bs held _ _ _ _ _ read (c .before .if1 .taken) (c .unread-answer .ensures)
+returns c = λ bs read. judged-unread bs _ _ _ _ _ read (c .before .if1 .taken) (c .unread-answer .ensures)
 
 cast-first : tie.Need-cast-first
 cast-first c = search needs
@@ -55,7 +55,7 @@ returns-2 c =
     let inputs = steps .before .before in
     let terms = inputs .before .before in
     let sorts = terms .before .before in
-    λ bs held read. judged-run bs held _ _ _ _ _ read (sorts .before .before .if1 .left) _ _ _ _
+    λ bs read. judged-run bs _ _ _ _ _ read (sorts .before .before .if1 .left) _ _ _ _
     (sorts .first .ensures) (terms .first2 .ensures) (inputs .first3 .ensures) (steps .first4 .ensures) (c .run-answer .ensures)
 
 pub judge-spec : {M : Type 1} → statement M
