@@ -1,4 +1,5 @@
 pub mod Cuts
 pub mod Answers
+pub mod Found
 pub mod Meaning
 pub mod Examples

@@ -1,5 +1,6 @@
 -- What a person is told of a text that is refused: the line of the first bad row or step.
-use Prim.Native.Nat.{ℕ, zero, suc, _+_, _*_}
+use Prim.Native.Nat.{ℕ, zero, suc, _+_, _*_, _<_}
+use mathlib.Core.Path.{_≡_}
 use mathlib.Core.Bool.{Bool, not}
 use mathlib.Core.List.{List, []}
 use lib.Dec.{eqb, ltb}
@@ -12,7 +13,7 @@ use Rattle.text_faults.specs.Why.{whyNumber}
 use Rattle.text_lines.specs.declared.Sheet.{Sheet}
 use Rattle.text_lines.specs.declared.Sheet.the-variants.{Sorts, Terms, Inputs, Steps}
 use Rattle.reader.specs.Text.{State, textState, textFault}
-use Rattle.reader.specs.Places.{rowLine}
+use Rattle.reader.specs.Places.{rowLine, rowsIn}
 use Rattle.report.specs.declared.Complaint.{Complaint}
 use Rattle.verdict.specs.Verdict.{callWith, callFrom}
 
@@ -70,3 +71,13 @@ readComplaint bs =
 unfoldable pub complaintOf : List ℕ → Complaint
 complaintOf bs =
     pick (eqb (textFault bs .number) 0) (runComplaint (outcome (callFrom (textState bs))) (textState bs)) (readComplaint bs)
+
+-- the claim: where a text that was read is refused, the row at fault is a row of its sheet; by `RowsHaveLines` (crate `reader`) the line is that row's
+abbrev pub FaultsAreRows : Type 0
+FaultsAreRows = (bs : List ℕ)
+    → let s = textState bs in
+    let k = s .control .kept in
+    let o = outcome (callFrom s) in
+    (o .number ≡ 0 → ⊥)
+    → rowIn (sheetOf (o .number)) o (length (k .sorts)) (length (k .terms)) (k .inputs) (s .sorts) (s .terms) (s .inputs)
+    < rowsIn (sheetOf (o .number)) k
