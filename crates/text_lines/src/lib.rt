@@ -23,11 +23,11 @@ pub enum Sheet {
 // Where the reading of lines stands.
 pub struct Core {
     pub number: u16,
-    pub place: usize,
-    pub line: usize,
     pub why: Why,
     pub sheet: Sheet,
     pub headed: bool,
+    pub place: usize,
+    pub line: usize,
     pub counts: Counts,
 }
 
