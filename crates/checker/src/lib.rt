@@ -38,7 +38,7 @@ fn verdict_number(v: Verdict) -> u16
 }
 
 // Refused before any step: no steps and no entries.
-fn turned_away(number: u16) -> Outcome
+pub fn turned_away(number: u16) -> Outcome
     ensures { λ r. ⌜ r ≡ outcomeOf (turnedAway number) ⌝ }
 {
     Outcome {

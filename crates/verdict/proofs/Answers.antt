@@ -6,7 +6,7 @@ use mathlib.Core.List.{List, [], _∷_}
 use native.Mathlib.Omega.{arith}
 use borrow.Author.Tests.{eq-eqb, ne-eqb, le-leb, eqb-true}
 use lib.Dec.{eqb}
-use lib.ListN.{length, take}
+use lib.ListN.{length, take, replicate, length-replicate}
 use Rattle.buffers.specs.Room.{padTo}
 use Rattle.buffers.proofs.Room.{append-nil, take-pad}
 use Rattle.report.specs.Put.{Laid}
@@ -139,6 +139,12 @@ module _ (ps : List (List ℕ)) (f : Progress) (line t a b c d : List ℕ)
         inputs-is = read .inputs-is;
         steps-is = read .steps-is;
       }
+
+-- cleared arrays of these lengths are the greatest sheets
+pub arrays-are-most : lentOf (replicate 64 0) (replicate 1536 0) (replicate 512 0) (replicate 9216 0) ≡ most
+arrays-are-most =
+    let long = length-replicate {A = ℕ} in
+    rw (long 64 0, long 1536 0, long 512 0, long 9216 0)
 
 -- a text in memory: one piece
 module _ (text : List ℕ) {a b c d : List ℕ} (lent : lentOf a b c d ≡ most) {f : Progress} {a₀ b₀ c₀ d₀ : List ℕ} (begun : Begun a b c d f a₀ b₀ c₀ d₀)

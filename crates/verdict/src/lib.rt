@@ -9,7 +9,7 @@ ghost use Rattle.text_stream.specs.Stream.{streamOf, freshStream};
 ghost use Rattle.reader.specs.Text.{TextRead};
 ghost use Rattle.reader.specs.Stream.{fedPieces, joined, zeroSheets};
 ghost use Rattle.reader.specs.Places.{rowLine};
-ghost use Rattle.verdict.specs.Verdict.{most, callWith, unread};
+ghost use Rattle.verdict.specs.Verdict.{most, callWith};
 ghost use Rattle.verdict.specs.Fault.{sheetOf, cutCall, cutRefused, refusedRow, rowIn, lineOf};
 ghost use Rattle.verdict.specs.Contract.{unreadAnswer, runAnswer, answerOf, Concluded, Checked};
 use calculus::Outcome;
@@ -22,18 +22,6 @@ use text_stream::Progress;
 pub struct Answer {
     pub outcome: Outcome,
     pub complaint: Complaint,
-}
-
-// Refused by the reader: no steps and no entries.
-fn unread_text(number: u16) -> Outcome
-    ensures { λ r. ⌜ r ≡ unread number ⌝ }
-{
-    Outcome {
-        verdict: 2,
-        steps: 0,
-        number: number,
-        entries: 0,
-    }
 }
 
 // The first n numbers of a sheet, or all of it where it has no more.
@@ -152,7 +140,7 @@ fn unread_answer(r: ReadOutcome) -> Answer
     ensures { λ a. ⌜ a ≡ unreadAnswer r ⌝ }
 {
     Answer {
-        outcome: unread_text(r.number),
+        outcome: checker::turned_away(r.number),
         complaint: Complaint {
             number: r.number,
             line: r.line,

@@ -1,10 +1,8 @@
 -- All of standard input, read and answered.
-use Prim.Native.Nat.{ℕ}
 use mathlib.Core.Path.{_≡_}
 use native.Mathlib.Omega.{arith}
-use lib.ListN.{length, replicate, length-replicate}
-use Rattle.reader.specs.Text.{lentOf}
-use Rattle.verdict.specs.Verdict.{most}
+use lib.ListN.{length}
+use Rattle.verdict.proofs.Answers.{arrays-are-most}
 use Rattle.check_log.proofs.Pieces.{spoken}
 use borrow.Author.Needs.{needs}
 use Rattle.check_log.proofs.answer_input.Statement.{statement}
@@ -37,12 +35,6 @@ spell-requires c κs = search needs
 tell-requires : tie.Need-tell-requires
 tell-requires c κs = search needs
 
--- the arrays are as long as the greatest sheets
-lengths : lentOf (replicate 64 0) (replicate 1536 0) (replicate 512 0) (replicate 9216 0) ≡ most
-lengths =
-    let long = length-replicate {A = ℕ} in
-    rw (long 64 0, long 1536 0, long 512 0, long 9216 0)
-
 returns : tie.Need-returns
 returns c =
     let spelled = c .before .before in
@@ -52,7 +44,7 @@ returns c =
     let start = first .before .before .before .before .before in
     let out : length (start .args .out .now) ≡ 128 = omega (arith, spelled .before .spell-arg) in
     let said : length (start .args .said .now) ≡ 256 = omega (arith, c .before .tell-arg) in
-    spoken lengths (first .begin .ensures .0) _ _ _ _ (read .read-all .ensures .1) _ (ended .conclude .ensures)
+    spoken arrays-are-most (first .begin .ensures .0) _ _ _ _ (read .read-all .ensures .1) _ (ended .conclude .ensures)
     _ _ out (spelled .spell .ensures) _ _ said (c .tell .ensures)
 
 pub answer-input-spec : {M : Type 1} → statement M

@@ -1,10 +1,5 @@
 -- A text in memory.
-use Prim.Native.Nat.{ℕ}
-use mathlib.Core.Path.{_≡_}
-use lib.ListN.{replicate, length-replicate}
-use Rattle.reader.specs.Text.{lentOf}
-use Rattle.verdict.specs.Verdict.{most}
-use Rattle.verdict.proofs.Answers.{checked}
+use Rattle.verdict.proofs.Answers.{arrays-are-most, checked}
 use borrow.Author.Needs.{needs}
 use Rattle.verdict.proofs.check_text.Statement.{statement}
 use Rattle.verdict.proofs.check_text.Tie as tie
@@ -48,12 +43,6 @@ tell-requires c κs = search needs
 same-length : tie.Need-same-length
 same-length c = search needs
 
--- the arrays are as long as the greatest sheets
-lengths : lentOf (replicate 64 0) (replicate 1536 0) (replicate 512 0) (replicate 9216 0) ≡ most
-lengths =
-    let long = length-replicate {A = ℕ} in
-    rw (long 64 0, long 1536 0, long 512 0, long 9216 0)
-
 returns : tie.Need-returns
 returns c =
     let told = c .before .before .before in
@@ -61,7 +50,7 @@ returns c =
     let fed = ended .before .before .before .before .before .before .before .before .before .before .before in
     let first = fed .before .before .before .before .before .before .before .before .before .before .before in
     let start = first .before .before .before .before .before .before .before in
-    checked (start .args .text .now) lengths (first .begin .ensures .0) _ _ _ (fed .feed .ensures .0) _ (ended .conclude .ensures) _ _ (told .tell .ensures)
+    checked (start .args .text .now) arrays-are-most (first .begin .ensures .0) _ _ _ (fed .feed .ensures .0) _ (ended .conclude .ensures) _ _ (told .tell .ensures)
 
 pub check-text-spec : {M : Type 1} → statement M
 check-text-spec =
