@@ -50,7 +50,8 @@ returns c =
     let fed = ended .before .before .before .before .before .before .before .before .before .before .before in
     let first = fed .before .before .before .before .before .before .before .before .before .before .before in
     let start = first .before .before .before .before .before .before .before in
-    checked (start .args .text .now) arrays-are-most (first .begin .ensures .0) _ _ _ (fed .feed .ensures .0) _ (ended .conclude .ensures) _ _ (told .tell .ensures)
+    checked (start .args .text .now) arrays-are-most (first .begin .ensures .0) _ _ _ (fed .feed .ensures .0) _
+    (ended .conclude .ensures) _ _ (told .tell .ensures)
 
 pub check-text-spec : {M : Type 1} → statement M
 check-text-spec =
