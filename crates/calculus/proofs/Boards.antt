@@ -71,6 +71,9 @@ deduce r l v ps = 1 ∷ r ∷ l ∷ v ∷ ps ++ nothing (5 - length ps)
 abbrev pub clash : ℕ → ℕ → ℕ → List ℕ → List ℕ
 clash r l v ps = 2 ∷ r ∷ l ∷ v ∷ ps ++ nothing (5 - length ps)
 
+abbrev pub fail : ℕ → ℕ → ℕ → List ℕ → List ℕ
+fail r l v ps = 7 ∷ r ∷ l ∷ v ∷ ps ++ nothing (5 - length ps)
+
 abbrev pub resolve : ℕ → List ℕ
 resolve t = 3 ∷ 65535 ∷ t ∷ nothing 6
 
@@ -169,3 +172,6 @@ e-or-g = 7
 
 abbrev pub clash-g : List ℕ
 clash-g = clash cong g 1 (e ∷ [])
+
+abbrev pub fail-g : List ℕ
+fail-g = fail cong g 1 (e ∷ [])

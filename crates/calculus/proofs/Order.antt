@@ -19,7 +19,7 @@ use Rattle.calculus.specs.Run
 use Rattle.calculus.specs.Run.{outcome}
 use Rattle.calculus.specs.declared.Premise.{Premise}
 use Rattle.calculus.specs.declared.Rule.the-variants.{Congruence, Predicate}
-use Rattle.calculus.proofs.Boards.{Case, lent, sheets, given, asked, away, nothing, plain, row, same, differ, refl-rule, neg, unit, eval, cong, pred, decide, deduce, clash, resolve, clear, jump, flip, remains, refutes, refuses}
+use Rattle.calculus.proofs.Boards.{Case, lent, sheets, given, asked, away, nothing, plain, row, same, differ, refl-rule, neg, unit, eval, cong, pred, decide, deduce, clash, fail, resolve, clear, jump, flip, remains, refutes, refuses}
 
 -- ---- 31, 30, 32, in this order
 
@@ -226,7 +226,7 @@ in-conflict log n = steps (e ∷ 1 ∷ []) (unlike ++ log) (refuses 4 n 4)
 abbrev columns : List Case
 columns =
     -- 9: a step or a rule that is not listed
-    steps [] (7 ∷ 65535 ∷ a ∷ 7 ∷ nothing 5) (away 9)
+    steps [] (8 ∷ 65535 ∷ a ∷ 7 ∷ nothing 5) (away 9)
     ∷ steps [] (deduce 13 e 1 []) (away 9)
     -- a needed column is blank
     ∷ steps [] (decide 65535 1) (away 9)
@@ -251,6 +251,9 @@ columns =
     ∷ steps [] (1 ∷ same ∷ e ∷ 1 ∷ a ∷ 65535 ∷ b ∷ nothing 2) (away 9)
     ∷ steps [] (deduce refl-rule e 2 []) (away 9)
     ∷ steps [] (clash refl-rule e 2 []) (away 9)
+    ∷ steps [] (fail refl-rule e 2 []) (away 9)
+    ∷ steps [] (fail refl-rule e 65535 []) (away 9)
+    ∷ in-conflict (fail refl-rule e 2 []) 9
     -- before 10
     ∷ steps [] (resolve 65535) (away 9)
     ∷ in-conflict (decide a 65535) 9
@@ -262,6 +265,8 @@ columns =
     ∷ in-conflict (decide not-e 1) 10
     ∷ in-conflict (deduce neg e 1 (not-e ∷ [])) 10
     ∷ in-conflict (clash neg e 1 (not-e ∷ [])) 10
+    ∷ in-conflict (fail neg e 1 (not-e ∷ [])) 10
+    ∷ in-conflict (fail neg e 1 (no-row ∷ [])) 10
     ∷ steps [] (resolve no-row) (away 10)
     ∷ in-conflict (decide no-row 1) 10
     -- 11: the term, a premise or p is no row; before 22, 12 and 17
@@ -269,11 +274,12 @@ columns =
     ∷ steps [] (deduce same no-row 1 (a ∷ b ∷ [])) (away 11)
     ∷ steps [] (deduce same a 1 (b ∷ no-row ∷ [])) (away 11)
     ∷ steps [] (clash same a 1 (no-row ∷ [])) (away 11)
+    ∷ steps [] (fail same a 1 (no-row ∷ [])) (away 11)
     ∷ in-conflict (resolve no-row) 11
     ∷ in-conflict (flip e no-row) 11
     ∷ []
 
--- ---- decide 22, 14; deduce 22, 12, 13, 14, 15; clash 22, 12, 13, 16
+-- ---- decide 22, 14; deduce 22, 12, 13, 14, 15; clash and fail 22, 12, 13, 16, 26
 
 abbrev equal : List ℕ
 equal = a ∷ 7 ∷ b ∷ 7 ∷ []
@@ -286,6 +292,13 @@ same-e = deduce same e 1 (a ∷ b ∷ [])
 
 abbrev clash-e : List ℕ
 clash-e = clash same e 1 (a ∷ b ∷ [])
+
+abbrev fail-e : List ℕ
+fail-e = fail same e 1 (a ∷ b ∷ [])
+
+-- a and b as decisions, with these values
+abbrev decided : ℕ → ℕ → List ℕ
+decided v w = decide a v ++ decide b w
 
 abbrev search-steps : List Case
 search-steps =
@@ -305,14 +318,31 @@ search-steps =
     ∷ steps (equal ++ (e ∷ 1 ∷ [])) same-e (refuses 0 14 3)
     ∷ steps (equal ++ (e ∷ 0 ∷ [])) same-e (refuses 0 15 3)
     ∷ steps equal same-e (remains 1 3)
-    -- clash
+    -- clash; before 26, at level 0
     ∷ steps [] (clash same a 1 (b ∷ c ∷ [])) (away 22)
     ∷ steps [] (clash same e 1 (b ∷ c ∷ [])) (away 12)
     ∷ steps unequal clash-e (refuses 0 13 2)
+    ∷ steps (unequal ++ (e ∷ 0 ∷ [])) clash-e (refuses 0 13 3)
     ∷ steps equal clash-e (refuses 0 16 2)
     ∷ steps (equal ++ (e ∷ 1 ∷ [])) clash-e (refuses 0 16 3)
+    ∷ steps (equal ++ (e ∷ 0 ∷ [])) clash-e (refuses 0 26 3)
+    ∷ steps (e ∷ 0 ∷ []) (decided 7 7 ++ clash-e) (remains 3 3)
+    -- fail; before 26, above level 0
+    ∷ steps [] (fail same a 1 (b ∷ c ∷ [])) (away 22)
+    ∷ steps [] (fail same e 1 (b ∷ c ∷ [])) (away 12)
+    ∷ steps [] (decided 7 8 ++ fail-e) (refuses 2 13 2)
+    ∷ steps (e ∷ 0 ∷ []) (decided 7 8 ++ fail-e) (refuses 2 13 3)
+    ∷ steps [] (decided 7 7 ++ fail-e) (refuses 2 16 2)
+    ∷ steps (e ∷ 1 ∷ []) (decided 7 7 ++ fail-e) (refuses 2 16 3)
+    ∷ steps (e ∷ 0 ∷ []) (decided 7 7 ++ fail-e) (refuses 2 26 3)
+    -- one premise above level 0, the opposite alone, and none of them with a decision beside
+    ∷ steps (e ∷ 0 ∷ a ∷ 7 ∷ []) (decide b 7 ++ fail-e) (refuses 1 26 3)
+    ∷ steps equal (decide e 0 ++ fail-e) (refuses 1 26 3)
+    ∷ steps equal (decide e 0 ++ clash-e) (remains 2 3)
+    ∷ steps (equal ++ (e ∷ 0 ∷ [])) (decide c 9 ++ clash-e) (refuses 1 26 4)
     -- a refutation ends the run, and the row after it is unread
-    ∷ steps (equal ++ (e ∷ 0 ∷ [])) (clash-e ++ nothing 9) (refutes 1 3)
+    ∷ steps (equal ++ (e ∷ 0 ∷ [])) (decide c 9 ++ fail-e) (refutes 2 4)
+    ∷ steps (equal ++ (e ∷ 0 ∷ [])) (fail-e ++ nothing 9) (refutes 1 3)
     ∷ []
 
 -- ---- resolve 17, 18, 19; clear 17, 20, 21; jump 17, 22, 21; flip 17, 22, 18, 23
@@ -431,7 +461,7 @@ units =
     -- an argument at two positions is asked for at each, and either may be the one that is left
     ∷ unit-of (5 ∷ 1 ∷ 0 ∷ 0 ∷ []) (deduce unit 1 1 (5 ∷ 0 ∷ 0 ∷ [])) (remains 1 3)
     ∷ unit-of (5 ∷ 1 ∷ 0 ∷ 0 ∷ []) (deduce unit 1 1 (5 ∷ 0 ∷ [])) (refuses 0 13 2)
-    ∷ unit-of (5 ∷ 1 ∷ 0 ∷ 0 ∷ 1 ∷ 0 ∷ []) (clash unit 0 1 (5 ∷ 0 ∷ 1 ∷ [])) (refutes 1 3)
+    ∷ unit-of (5 ∷ 1 ∷ 0 ∷ 0 ∷ 1 ∷ 0 ∷ []) (fail unit 0 1 (5 ∷ 0 ∷ 1 ∷ [])) (refutes 1 3)
     ∷ []
 
 -- ---- cong on select, store and free heads; pred on free ones
@@ -487,7 +517,7 @@ table =
     lengths ++ sort-rows ++ term-rows ++ input-rows ++ columns ++ search-steps ++ conflict-steps ++ units ++ congs
 
 pub ordered : map given table ≡ map asked table
-unfolding Lists.firstWhere Numbers.unless Numbers.orElse Numbers.firstRefusal Sheets.lengthRefusal Sorts.isArray Sorts.isPlain Sorts.sortRefusal Sorts.sortsRefusal Terms.cells Terms.args Terms.arg Terms.earlier Terms.sameUse Terms.firstUse Terms.suits Terms.twins Terms.fresh Terms.termRefusal Terms.termsRefusal Trail.on Trail.entry Trail.holds Trail.levelOf Trail.keptTo Inputs.inputTrail Inputs.inputRefusal Inputs.inputsRefusal Rules.ruleOf Rules.bare Rules.single Rules.double Rules.leading Rules.unitAt Rules.fits Steps.answer Steps.premises Steps.kindOf Steps.shaped Steps.ready Steps.known Steps.decideRefusal Steps.decide Steps.inferenceRefusal Steps.deduceRefusal Steps.deduce Steps.clashRefusal Steps.clashed Steps.clash Steps.resolveRefusal Steps.resolve Steps.clearRefusal Steps.clear Steps.jumpRefusal Steps.jump Steps.flipRefusal Steps.flip Steps.rowRefusal Steps.stepBy Steps.step Run.follow Run.run Run.sheetsRefusal Run.callRefusal Run.endingOf Run.ending Run.outcome
+unfolding Lists.firstWhere Numbers.unless Numbers.orElse Numbers.firstRefusal Sheets.lengthRefusal Sorts.isArray Sorts.isPlain Sorts.sortRefusal Sorts.sortsRefusal Terms.cells Terms.args Terms.arg Terms.earlier Terms.sameUse Terms.firstUse Terms.suits Terms.twins Terms.fresh Terms.termRefusal Terms.termsRefusal Trail.on Trail.entry Trail.holds Trail.levelOf Trail.keptTo Inputs.inputTrail Inputs.inputRefusal Inputs.inputsRefusal Rules.ruleOf Rules.bare Rules.single Rules.double Rules.leading Rules.unitAt Rules.fits Steps.answer Steps.premises Steps.kindOf Steps.shaped Steps.ready Steps.known Steps.decideRefusal Steps.decide Steps.inferenceRefusal Steps.deduceRefusal Steps.deduce Steps.contradictionRefusal Steps.clashRefusal Steps.clash Steps.failRefusal Steps.fail Steps.resolveRefusal Steps.resolve Steps.clearRefusal Steps.clear Steps.jumpRefusal Steps.jump Steps.flipRefusal Steps.flip Steps.rowRefusal Steps.stepBy Steps.step Run.follow Run.run Run.sheetsRefusal Run.callRefusal Run.endingOf Run.ending Run.outcome
 ordered = refl
 
 -- ---- the ceiling of the step sheet: 65,535 rows pass, and get the number of the sort row; one more is too many

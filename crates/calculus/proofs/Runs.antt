@@ -1,4 +1,4 @@
--- The starred runs of document 01 on the small board, as one table and one statement.
+-- The starred runs of document 01 on the small board, and runs of document 02, as one table and one statement.
 use mathlib.Core.Path.{_≡_, refl}
 use mathlib.Core.List.{List, [], _∷_, _++_, map}
 use Prim.Native.Nat.{ℕ, _-_, _/_, _%_, _≤_}
@@ -16,7 +16,7 @@ use Rattle.calculus.specs.Rules
 use Rattle.calculus.specs.Steps
 use Rattle.calculus.specs.Run
 use Rattle.calculus.specs.Run.{callRefusal, outcome, trailAfter, workAfter}
-use Rattle.calculus.proofs.Boards.{same, neg, unit, decide, deduce, clash, resolve, clear, jump, remains, refutes, refuses, shown, sorts, terms, a, b, e, g, not-e, e-or-g, clash-g}
+use Rattle.calculus.proofs.Boards.{same, neg, unit, decide, deduce, clash, fail, resolve, clear, jump, remains, refutes, refuses, shown, sorts, terms, a, b, e, g, not-e, e-or-g, clash-g, fail-g}
 
 -- ---- logs
 
@@ -42,8 +42,8 @@ entry t v m d = t ∷ v ∷ m ∷ d ∷ []
 abbrev table : List Example
 table =
     example [] [] (remains 0 0) []
-    ∷ example (e ∷ 1 ∷ g ∷ 0 ∷ []) clash-g (refutes 1 2) (entry e 1 0 0 ++ entry g 0 0 0)
-    ∷ example (e ∷ 1 ∷ []) clash-g (refuses 0 16 1) (entry e 1 0 0)
+    ∷ example (e ∷ 1 ∷ g ∷ 0 ∷ []) fail-g (refutes 1 2) (entry e 1 0 0 ++ entry g 0 0 0)
+    ∷ example (e ∷ 1 ∷ []) fail-g (refuses 0 16 1) (entry e 1 0 0)
     ∷ example (g ∷ 0 ∷ []) (decide e 1 ++ clash-g ++ jump e) (remains 3 2) (entry g 0 0 0 ++ entry e 0 0 0)
     ∷ example [] (decide a 7 ++ decide a 7) (refuses 1 14 1) (entry a 7 1 1)
     ∷ example [] (resolve a) (refuses 0 10 0) []
@@ -53,6 +53,13 @@ table =
     ∷ example (not-e ∷ 1 ∷ []) (neg-e ++ clear a) (refuses 4 21 4) (entry not-e 1 0 0 ++ entry a 7 1 1 ++ entry b 7 2 1 ++ entry e 0 0 0)
     ∷ example (e-or-g ∷ 1 ∷ e ∷ 0 ∷ []) (deduce unit g 1 (e-or-g ∷ e ∷ [])) (remains 1 3) (entry e-or-g 1 0 0 ++ entry e 0 0 0 ++ entry g 1 0 0)
     ∷ example (e ∷ 2 ∷ []) (decide a 7) (refuses 0 7 0) []
+    -- clash at level 0 and fail above it: each is the other's line
+    ∷ example (e ∷ 1 ∷ g ∷ 0 ∷ []) clash-g (refuses 0 26 2) (entry e 1 0 0 ++ entry g 0 0 0)
+    ∷ example (g ∷ 0 ∷ []) (decide e 1 ++ fail-g) (refuses 1 26 2) (entry g 0 0 0 ++ entry e 1 1 1)
+    ∷ example (e ∷ 1 ∷ []) (decide g 0 ++ fail-g) (refuses 1 26 2) (entry e 1 0 0 ++ entry g 0 1 1)
+    -- a conflict, back to level 0, and the input is refuted there; the row after it is unread
+    ∷ example (g ∷ 0 ∷ not-e ∷ 0 ∷ []) (decide e 1 ++ clash-g ++ jump e ++ fail neg e 1 (not-e ∷ []) ++ clash-g) (refutes 4 3)
+    (entry g 0 0 0 ++ entry not-e 0 0 0 ++ entry e 0 0 0)
     ∷ []
 
 -- the call: workspace and trail buffer just long enough, full of old numbers
@@ -77,7 +84,7 @@ asked result left = result ++ (left ++ replicate (32 - length left) 9) ++ replic
 
 -- each run gives what the table asks
 pub starred : map (λ (r : Example). seen (call (r .input) (r .log))) table ≡ map (λ (r : Example). asked (r .result) (r .left)) table
-unfolding Lists.firstWhere Numbers.unless Numbers.orElse Numbers.firstRefusal Sheets.lengthRefusal Sorts.isArray Sorts.isPlain Sorts.sortRefusal Sorts.sortsRefusal Terms.cells Terms.args Terms.arg Terms.earlier Terms.sameUse Terms.firstUse Terms.suits Terms.twins Terms.fresh Terms.termRefusal Terms.termsRefusal Trail.on Trail.entry Trail.holds Trail.levelOf Trail.keptTo Trail.trailNumbersOf Inputs.inputTrail Inputs.inputRefusal Inputs.inputsRefusal Rules.ruleOf Rules.bare Rules.single Rules.double Rules.leading Rules.unitAt Rules.fits Steps.answer Steps.premises Steps.kindOf Steps.shaped Steps.ready Steps.known Steps.decideRefusal Steps.decide Steps.inferenceRefusal Steps.deduceRefusal Steps.deduce Steps.clashRefusal Steps.clashed Steps.clash Steps.resolveRefusal Steps.resolve Steps.clearRefusal Steps.clear Steps.jumpRefusal Steps.jump Steps.flipRefusal Steps.flip Steps.rowRefusal Steps.stepBy Steps.step Run.follow Run.run Run.sheetsRefusal Run.callRefusal Run.endingOf Run.ending Run.outcome Run.trailAfter Run.workAfter
+unfolding Lists.firstWhere Numbers.unless Numbers.orElse Numbers.firstRefusal Sheets.lengthRefusal Sorts.isArray Sorts.isPlain Sorts.sortRefusal Sorts.sortsRefusal Terms.cells Terms.args Terms.arg Terms.earlier Terms.sameUse Terms.firstUse Terms.suits Terms.twins Terms.fresh Terms.termRefusal Terms.termsRefusal Trail.on Trail.entry Trail.holds Trail.levelOf Trail.keptTo Trail.trailNumbersOf Inputs.inputTrail Inputs.inputRefusal Inputs.inputsRefusal Rules.ruleOf Rules.bare Rules.single Rules.double Rules.leading Rules.unitAt Rules.fits Steps.answer Steps.premises Steps.kindOf Steps.shaped Steps.ready Steps.known Steps.decideRefusal Steps.decide Steps.inferenceRefusal Steps.deduceRefusal Steps.deduce Steps.contradictionRefusal Steps.clashRefusal Steps.clash Steps.failRefusal Steps.fail Steps.resolveRefusal Steps.resolve Steps.clearRefusal Steps.clear Steps.jumpRefusal Steps.jump Steps.flipRefusal Steps.flip Steps.rowRefusal Steps.stepBy Steps.step Run.follow Run.run Run.sheetsRefusal Run.callRefusal Run.endingOf Run.ending Run.outcome Run.trailAfter Run.workAfter
 starred = refl
 
 -- ---- the last starred run: e 2, and any log

@@ -8,12 +8,12 @@ use native.Mathlib.Omega.{arith}
 use lib.Dec.{T, eqb, leb, leb→le, T-not}
 use Rattle.calculus.specs.declared.Step.{Step}
 use Rattle.calculus.specs.declared.Kind.{Kind}
-use Rattle.calculus.specs.declared.Kind.the-variants.{Decide, Deduce, Clash, Resolve, Clear, Jump, Flip, Unlisted}
+use Rattle.calculus.specs.declared.Kind.the-variants.{Decide, Deduce, Clash, Resolve, Clear, Jump, Flip, Fail, Unlisted}
 use Rattle.calculus.specs.Sheets.{blank, inputRows}
 use Rattle.calculus.specs.Terms.{sort, prop}
 use Rattle.calculus.specs.Trail.{Trail, Entry, levelOf, keptTo, decision}
 use Rattle.calculus.specs.Inputs.{given, inputTerm, inputValue, inputTrail, valueSuits, inputRefusal, inputsRefusal}
-use Rattle.calculus.specs.Steps.{State, searching, conflict, trailOf, Answer, allowed, refuted, refused, answer, stepAt, premises, kindOf, shaped, decideRefusal, decide, deduce, clashed, clashSet, clash, resolve, clear, jump, flip, rowRefusal, stepBy, step}
+use Rattle.calculus.specs.Steps.{State, searching, conflict, trailOf, Answer, allowed, refuted, refused, answer, stepAt, premises, kindOf, shaped, decideRefusal, decide, deduce, clash, fail, resolve, clear, jump, flip, rowRefusal, stepBy, step}
 use Rattle.calculus.specs.WellFormed.{WellFormedState, Truthful, Coherent}
 use Rattle.calculus.specs.Run.{follow, run}
 use Rattle.calculus.proofs.Facts.{eqb-of, and-r, or-cases, facts, cond-case, unless-ok, first-ok, answer-case}
@@ -55,20 +55,18 @@ module _ (ts : List ℕ) where
   inferred-value x h = search facts
 
   step-by-truthful : (k : Kind) (s : State) (x : Step) → Truthful ts (trailOf s) → T (shaped x k) → After (stepBy ts k s x)
-  unfolding stepBy decide decideRefusal deduce clash clashed resolve clear jump flip shaped
+  unfolding stepBy decide decideRefusal deduce clash fail resolve clear jump flip shaped
   step-by-truthful Decide s x h p =
       after _ _ (λ e.
       push-truthful (decision (trailOf s) (x .term) (x .value)) (trailOf s)
       (value-suits (x .term) (x .value) (unless-ok _ 22 _ (omega arith) e .0)) h)
   step-by-truthful Deduce s x h p = after _ _ (λ e. push-truthful _ (trailOf s) (λ q. inferred-value x p) h)
-  step-by-truthful Clash s x h p =
-      after _ _ (λ e.
-      let E = clashSet (x .term) (premises x) in
-      cond-case After (eqb (levelOf (trailOf s) E) 0) refuted (allowed (conflict (trailOf s) E)) (λ q. tt) (λ q. h))
+  step-by-truthful Clash s x h p = after _ _ (λ e. h)
   step-by-truthful Resolve s x h p = after _ _ (λ e. h)
   step-by-truthful Clear s x h p = after _ _ (λ e. kept-truthful _ (trailOf s) h)
   step-by-truthful Jump s x h p = after _ _ (λ e. push-truthful _ _ (λ q. omega arith) (kept-truthful _ (trailOf s) h))
   step-by-truthful Flip s x h p = after _ _ (λ e. push-truthful _ _ (λ q. omega arith) (kept-truthful _ (trailOf s) h))
+  step-by-truthful Fail s x h p = after _ _ (λ e. tt)
   step-by-truthful Unlisted s x h p = tt
 
   step-truthful : (s : State) (x : Step) → Truthful ts (trailOf s) → After (step ts s x)

@@ -9,14 +9,14 @@ use lib.ListN.{length}
 use lib.Dec.{T, eqb, leb, ltb, eqb→eq, leb→le, ltb→lt}
 use Rattle.calculus.specs.declared.Step.{Step}
 use Rattle.calculus.specs.declared.Kind.{Kind}
-use Rattle.calculus.specs.declared.Kind.the-variants.{Decide, Deduce, Clash, Resolve, Clear, Jump, Flip, Unlisted}
+use Rattle.calculus.specs.declared.Kind.the-variants.{Decide, Deduce, Clash, Resolve, Clear, Jump, Flip, Fail, Unlisted}
 use Rattle.calculus.specs.Lists.{has}
 use Rattle.calculus.specs.Sheets.{Call, termRows, inputRows, stepRows, lengthRefusal}
 use Rattle.calculus.specs.Sorts.{sortsRefusal}
 use Rattle.calculus.specs.Terms.{prop, termsRefusal}
 use Rattle.calculus.specs.Trail.{Set, Trail, Entry, remove, intersection, on, entry, levelAt, whyAt, holds, firstOrder, levelOf, topLevel, keptTo, decision, justified}
 use Rattle.calculus.specs.Inputs.{given, inputTerm, inputValue, inputTrail, inputRefusal, inputsRefusal}
-use Rattle.calculus.specs.Steps.{State, searching, conflict, trailOf, conflictOf, Answer, allowed, refuted, refused, answer, stepAt, premises, known, kindOf, decideRefusal, decide, inferenceRefusal, deduceRefusal, deduce, clashRefusal, clashSet, clashed, clash, resolve, clear, jumpRefusal, jump, flipRefusal, flip, rowRefusal, stepBy, step}
+use Rattle.calculus.specs.Steps.{State, searching, conflict, trailOf, conflictOf, Answer, allowed, refuted, refused, answer, stepAt, premises, known, kindOf, decideRefusal, decide, inferenceRefusal, deduceRefusal, deduce, contradictionRefusal, clashRefusal, clashSet, clash, fail, resolve, clear, jumpRefusal, jump, flipRefusal, flip, rowRefusal, stepBy, step}
 use Rattle.calculus.specs.Run.{follow, run, sheetsRefusal, callRefusal, start, endingOf, ending}
 use Rattle.calculus.specs.WellFormed.{Within, Distinct, Below, Grounded, relevelled, WellFormed, WellFormedState}
 use Rattle.calculus.proofs.Facts.{and-l, and-r, T-true, T-false, true-T, is-or-not, true-or-false, both-true, one-true, cond-case, all-at, has-at, unless-ok, orElse-ok, first-ok, answer-case}
@@ -240,19 +240,28 @@ module _ (ts : List ℕ) where
       let c = unless-ok _ 15 _ (omega arith) (b .1) in
       justified-well-formed tr l v (has ps) i k (T-false _ (c .0)) (a .0))
 
-  clash-kept : (tr : Trail) (r l v : ℕ) (ps : List ℕ) → WellFormed rows tr → Kept rows (clash ts tr r l v ps)
-  unfolding clash clashRefusal clashed WellFormedState
-  clash-kept tr r l v ps i =
-      kept-answer rows _ _ (λ e.
+  -- premises and opposite of a contradiction stand on the trail, and its level suits
+  pub contradiction-ok : (tr : Trail) (r l v : ℕ) (ps : List ℕ) (levelSuits : Bool) → contradictionRefusal ts tr r l v ps levelSuits ≡ 0
+      → Within (has ps) tr × (on tr l ≡ true) × (levelSuits ≡ true)
+  unfolding contradictionRefusal
+  contradiction-ok tr r l v ps levelSuits e =
       let a = inference-ok tr r l v ps _ e in
       let b = unless-ok _ 16 _ (omega arith) (a .1) in
-      cond-case (Kept rows) (eqb (levelOf tr (clashSet l ps)) 0) refuted (allowed (conflict tr (clashSet l ps))) (λ _. tt)
-      (λ _. (
+      let c = unless-ok _ 26 _ (omega arith) (b .1) in
+      (a .0, T-true _ (and-l (on tr l) _ (b .0)), T-true _ (c .0))
+
+  clash-kept : (tr : Trail) (r l v : ℕ) (ps : List ℕ) → WellFormed rows tr → Kept rows (clash ts tr r l v ps)
+  unfolding clash clashRefusal WellFormedState
+  clash-kept tr r l v ps i =
+      kept-answer rows _ _ (λ e.
+      let a = contradiction-ok tr r l v ps _ e in (
         i,
-        λ t h.
-            ⊎-elim (λ q. ap (on tr) (eqb→eq _ _ (true-T _ q)) ∙ T-true _ (and-l (on tr l) _ (b .0))) (λ q. a .0 t q)
-            (one-true (eqb t l) (has ps t) h),
-      )))
+        λ t h. ⊎-elim (λ q. ap (on tr) (eqb→eq _ _ (true-T _ q)) ∙ a .1) (λ q. a .0 t q) (one-true (eqb t l) (has ps t) h),
+      ))
+
+  fail-kept : (tr : Trail) (r l v : ℕ) (ps : List ℕ) → Kept rows (fail ts tr r l v ps)
+  unfolding fail
+  fail-kept tr r l v ps = kept-answer rows _ _ (λ e. tt)
 
   module _ (tr : Trail) (E : Set) (i : WellFormed rows tr) (inside : Within E tr) where
     resolve-kept : (a : ℕ) → Kept rows (resolve ts tr E a)
@@ -311,6 +320,7 @@ module _ (ts : List ℕ) where
   step-by-kept Clear s x r l = clear-kept (trailOf s) (conflictOf s) (trail-well-formed rows s r) (conflict-within rows s r) (x .term)
   step-by-kept Jump s x r l = jump-kept (trailOf s) (conflictOf s) (trail-well-formed rows s r) (conflict-within rows s r) (x .term) l
   step-by-kept Flip s x r l = flip-kept (trailOf s) (conflictOf s) (trail-well-formed rows s r) (conflict-within rows s r) (x .term) (x .p) l
+  step-by-kept Fail s x r l = fail-kept (trailOf s) (x .rule) (x .term) (x .value) (premises x)
   step-by-kept Unlisted s x r l = tt
 
   step-kept : (s : State) (x : Step) → WellFormedState rows s → Kept rows (step ts s x)

@@ -1,4 +1,4 @@
--- The seven steps: the numbers 9 to 23 in their order, and what an allowed step makes of trail and conflict.
+-- The eight steps: the numbers 9 to 23 and 26 in their order, and what an allowed step makes of trail and conflict.
 -- Beside each step stands the name of its transition in figure 3 of the CADE 2017 paper.
 use mathlib.Core.Bool.{Bool, true, false, not, _&&_, cond}
 use mathlib.Core.List.{List, [], _∷_}
@@ -7,7 +7,7 @@ use lib.ListN.{getD}
 use lib.Dec.{eqb, leb, ltb}
 use Rattle.calculus.specs.declared.Step.{Step}
 use Rattle.calculus.specs.declared.Kind.{Kind}
-use Rattle.calculus.specs.declared.Kind.the-variants.{Decide, Deduce, Clash, Resolve, Clear, Jump, Flip, Unlisted}
+use Rattle.calculus.specs.declared.Kind.the-variants.{Decide, Deduce, Clash, Resolve, Clear, Jump, Flip, Fail, Unlisted}
 use Rattle.calculus.specs.Lists.{all, has, opposite}
 use Rattle.calculus.specs.Numbers.{unless}
 use Rattle.calculus.specs.Sheets.{blank, termRows}
@@ -68,9 +68,9 @@ premiseCells x = x .p ∷ x .q ∷ x .r ∷ x .s ∷ x .t ∷ []
 unfoldable pub premises : Step → List ℕ
 premises x = filled (premiseCells x)
 
--- decide, deduce, clash, resolve, clear, jump, flip
+-- decide, deduce, clash, resolve, clear, jump, flip, fail
 abbrev pub kinds : List Kind
-kinds = Decide ∷ Deduce ∷ Clash ∷ Resolve ∷ Clear ∷ Jump ∷ Flip ∷ []
+kinds = Decide ∷ Deduce ∷ Clash ∷ Resolve ∷ Clear ∷ Jump ∷ Flip ∷ Fail ∷ []
 
 unfoldable pub kindOf : ℕ → Kind
 kindOf n = getD kinds n Unlisted
@@ -111,9 +111,10 @@ shaped x Resolve = termShaped x
 shaped x Clear = termShaped x
 shaped x Jump = termShaped x
 shaped x Flip = pairShaped x
+shaped x Fail = inferenceShaped x
 shaped x Unlisted = false
 
--- ---- number 10: the first three steps need a search state, the others a conflict
+-- ---- number 10: decide, deduce, clash and fail need a search state, the others a conflict
 
 abbrev pub needsConflict : Kind → Bool
 needsConflict Decide = false
@@ -123,6 +124,7 @@ needsConflict Resolve = true
 needsConflict Clear = true
 needsConflict Jump = true
 needsConflict Flip = true
+needsConflict Fail = false
 needsConflict Unlisted = false
 
 unfoldable pub ready : State → Kind → Bool
@@ -130,13 +132,13 @@ ready s k = cond (needsConflict k) (inConflict s) (not (inConflict s))
 
 -- ---- what steps make of the trail
 
--- premises and opposite of a clash
+-- premises and opposite of a clash or a fail
 abbrev pub clashSet : ℕ → List ℕ → Set
 clashSet l ps = has (l ∷ ps)
 
--- at level 0 they refute the input (Fail); above it they are the conflict (ConflictSolve opens)
-unfoldable pub clashed : Trail → Set → Answer
-clashed tr E = cond (eqb (levelOf tr E) 0) refuted (allowed (conflict tr E))
+-- all of them at level 0
+abbrev pub atBase : Trail → Set → Bool
+atBase tr E = eqb (levelOf tr E) 0
 
 -- the trail kept to m, then l with the opposite of its value, which s justifies
 abbrev pub jumped : Trail → Set → ℕ → ℕ → Trail
@@ -180,14 +182,26 @@ module _ (ts : List ℕ) where
   unfoldable pub deduce : Trail → ℕ → ℕ → ℕ → List ℕ → Answer
   deduce tr r l v ps = answer (deduceRefusal tr r l v ps) (allowed (searching (justified tr l v (has ps) ∷ tr)))
 
-  -- clash (Fail, and the opening of ConflictSolve): the opposite is there
-  unfoldable pub clashRefusal : Trail → ℕ → ℕ → ℕ → List ℕ → ℕ
-  clashRefusal tr r l v ps =
+  -- a contradiction, which clash and fail share: the opposite is there; whether the level suits is the step's own
+  unfoldable pub contradictionRefusal : Trail → ℕ → ℕ → ℕ → List ℕ → Bool → ℕ
+  contradictionRefusal tr r l v ps levelSuits =
       inferenceRefusal tr r l v ps (
-      unless (assigned tr l (opposite v)) 16 0)
+      unless (assigned tr l (opposite v)) 16 (
+      unless levelSuits 26 0))
+
+  -- clash (the opening of ConflictSolve): above level 0, premises and opposite are the conflict
+  unfoldable pub clashRefusal : Trail → ℕ → ℕ → ℕ → List ℕ → ℕ
+  clashRefusal tr r l v ps = contradictionRefusal tr r l v ps (not (atBase tr (clashSet l ps)))
 
   unfoldable pub clash : Trail → ℕ → ℕ → ℕ → List ℕ → Answer
-  clash tr r l v ps = answer (clashRefusal tr r l v ps) (clashed tr (clashSet l ps))
+  clash tr r l v ps = answer (clashRefusal tr r l v ps) (allowed (conflict tr (clashSet l ps)))
+
+  -- fail (Fail): at level 0 they refute the input
+  unfoldable pub failRefusal : Trail → ℕ → ℕ → ℕ → List ℕ → ℕ
+  failRefusal tr r l v ps = contradictionRefusal tr r l v ps (atBase tr (clashSet l ps))
+
+  unfoldable pub fail : Trail → ℕ → ℕ → ℕ → List ℕ → Answer
+  fail tr r l v ps = answer (failRefusal tr r l v ps) refuted
 
   -- ---- steps of a conflict E
 
@@ -248,6 +262,7 @@ module _ (ts : List ℕ) where
   stepBy Clear s x = clear (trailOf s) (conflictOf s) (x .term)
   stepBy Jump s x = jump (trailOf s) (conflictOf s) (x .term)
   stepBy Flip s x = flip (trailOf s) (conflictOf s) (x .term) (x .p)
+  stepBy Fail s x = fail (trailOf s) (x .rule) (x .term) (x .value) (premises x)
   stepBy Unlisted s x = refused 9
 
   unfoldable pub step : State → Step → Answer

@@ -72,6 +72,7 @@ pub enum Kind {
     Clear,
     Jump,
     Flip,
+    Fail,
     Unlisted,
 }
 

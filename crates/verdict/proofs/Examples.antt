@@ -81,5 +81,5 @@ table =
     ∷ []
 
 pub answers : map (λ (e : Example). seen (e .text)) table ≡ map (λ (e : Example). e .seen) table
-unfolding table example board steps log Lists.firstWhere Numbers.unless Numbers.orElse Numbers.firstRefusal Sheets.lengthRefusal Sorts.isArray Sorts.isPlain Sorts.sortRefusal Sorts.sortsRefusal Terms.cells Terms.args Terms.arg Terms.earlier Terms.sameUse Terms.firstUse Terms.suits Terms.twins Terms.fresh Terms.termRefusal Terms.termsRefusal Trail.on Trail.entry Trail.holds Trail.levelOf Trail.keptTo Trail.trailNumbersOf Inputs.inputTrail Inputs.inputRefusal Inputs.inputsRefusal Rules.ruleOf Rules.bare Rules.single Rules.double Rules.leading Rules.unitAt Rules.fits Steps.answer Steps.premises Steps.kindOf Steps.shaped Steps.ready Steps.known Steps.decideRefusal Steps.decide Steps.inferenceRefusal Steps.deduceRefusal Steps.deduce Steps.clashRefusal Steps.clashed Steps.clash Steps.resolveRefusal Steps.resolve Steps.clearRefusal Steps.clear Steps.jumpRefusal Steps.jump Steps.flipRefusal Steps.flip Steps.rowRefusal Steps.stepBy Steps.step Run.follow Run.run Run.sheetsRefusal Run.callRefusal Run.endingOf Run.ending Run.outcome refOf shapeOf isTaken headOf sortRow termRow inputRow stepRow headerWhy rowWhy readLine lineEffect lineStep textState textFault digitsOf decimal verdictWord numberField Printed.printed meaning cause fieldPart wherePart whatPart whyPart complained verdictOf cutRefused refusedRow lineOf complaintOf
+unfolding table example board steps log Lists.firstWhere Numbers.unless Numbers.orElse Numbers.firstRefusal Sheets.lengthRefusal Sorts.isArray Sorts.isPlain Sorts.sortRefusal Sorts.sortsRefusal Terms.cells Terms.args Terms.arg Terms.earlier Terms.sameUse Terms.firstUse Terms.suits Terms.twins Terms.fresh Terms.termRefusal Terms.termsRefusal Trail.on Trail.entry Trail.holds Trail.levelOf Trail.keptTo Trail.trailNumbersOf Inputs.inputTrail Inputs.inputRefusal Inputs.inputsRefusal Rules.ruleOf Rules.bare Rules.single Rules.double Rules.leading Rules.unitAt Rules.fits Steps.answer Steps.premises Steps.kindOf Steps.shaped Steps.ready Steps.known Steps.decideRefusal Steps.decide Steps.inferenceRefusal Steps.deduceRefusal Steps.deduce Steps.contradictionRefusal Steps.clashRefusal Steps.clash Steps.failRefusal Steps.fail Steps.resolveRefusal Steps.resolve Steps.clearRefusal Steps.clear Steps.jumpRefusal Steps.jump Steps.flipRefusal Steps.flip Steps.rowRefusal Steps.stepBy Steps.step Run.follow Run.run Run.sheetsRefusal Run.callRefusal Run.endingOf Run.ending Run.outcome refOf shapeOf isTaken headOf sortRow termRow inputRow stepRow headerWhy rowWhy readLine lineEffect lineStep textState textFault digitsOf decimal verdictWord numberField Printed.printed meaning cause fieldPart wherePart whatPart whyPart complained verdictOf cutRefused refusedRow lineOf complaintOf
 answers = refl
