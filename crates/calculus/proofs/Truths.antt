@@ -11,12 +11,12 @@ use Rattle.calculus.specs.declared.Kind.{Kind}
 use Rattle.calculus.specs.declared.Kind.the-variants.{Decide, Deduce, Clash, Resolve, Clear, Jump, Flip, Fail, Unlisted}
 use Rattle.calculus.specs.Sheets.{blank, inputRows}
 use Rattle.calculus.specs.Terms.{sort, prop}
-use Rattle.calculus.specs.Trail.{Trail, Entry, levelOf, keptTo, decision}
+use Rattle.calculus.specs.Trail.{Trail, Entry, keptTo, decision}
 use Rattle.calculus.specs.Inputs.{given, inputTerm, inputValue, inputTrail, valueSuits, inputRefusal, inputsRefusal}
-use Rattle.calculus.specs.Steps.{State, searching, conflict, trailOf, Answer, allowed, refuted, refused, answer, stepAt, premises, kindOf, shaped, decideRefusal, decide, deduce, clash, fail, resolve, clear, jump, flip, rowRefusal, stepBy, step}
+use Rattle.calculus.specs.Steps.{State, searching, trailOf, Answer, allowed, refuted, refused, answer, stepAt, kindOf, shaped, decideRefusal, decide, deduce, clash, fail, resolve, clear, jump, flip, rowRefusal, stepBy, step}
 use Rattle.calculus.specs.WellFormed.{WellFormedState, Truthful, Coherent}
 use Rattle.calculus.specs.Run.{follow, run}
-use Rattle.calculus.proofs.Facts.{eqb-of, and-r, or-cases, facts, cond-case, unless-ok, first-ok, answer-case}
+use Rattle.calculus.proofs.Facts.{eqb-of, and-r, or-cases, facts, unless-ok, first-ok, answer-case}
 use Rattle.calculus.proofs.Entries.{kept-out}
 use Rattle.calculus.proofs.WellFormed.{input-well-formed, step-well-formed}
 

@@ -16,7 +16,7 @@ use Rattle.calculus.specs.Sorts.{sortsRefusal}
 use Rattle.calculus.specs.Terms.{prop, termsRefusal}
 use Rattle.calculus.specs.Trail.{Set, Trail, Entry, remove, intersection, on, entry, levelAt, whyAt, holds, firstOrder, levelOf, topLevel, keptTo, decision, justified}
 use Rattle.calculus.specs.Inputs.{given, inputTerm, inputValue, inputTrail, inputRefusal, inputsRefusal}
-use Rattle.calculus.specs.Steps.{State, searching, conflict, trailOf, conflictOf, Answer, allowed, refuted, refused, answer, stepAt, premises, known, kindOf, decideRefusal, decide, inferenceRefusal, deduceRefusal, deduce, contradictionRefusal, clashRefusal, clashSet, clash, fail, resolve, clear, jumpRefusal, jump, flipRefusal, flip, rowRefusal, stepBy, step}
+use Rattle.calculus.specs.Steps.{State, searching, conflict, trailOf, conflictOf, Answer, allowed, refuted, refused, answer, stepAt, premises, known, kindOf, decideRefusal, decide, inferenceRefusal, deduceRefusal, deduce, contradictionRefusal, clashRefusal, clash, fail, resolve, clear, jumpRefusal, jump, flipRefusal, flip, rowRefusal, stepBy, step}
 use Rattle.calculus.specs.Run.{follow, run, sheetsRefusal, callRefusal, start, endingOf, ending}
 use Rattle.calculus.specs.WellFormed.{Within, Distinct, Below, Grounded, relevelled, WellFormed, WellFormedState}
 use Rattle.calculus.proofs.Facts.{and-l, and-r, T-true, T-false, true-T, is-or-not, true-or-false, both-true, one-true, cond-case, all-at, has-at, unless-ok, orElse-ok, first-ok, answer-case}

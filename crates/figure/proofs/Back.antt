@@ -1,11 +1,11 @@
 -- A row that is answered with a result spells an action with a transition to it.
 use mathlib.Core.Path.{_≡_, refl, sym, ap, subst, _∙_}
 use mathlib.Core.Logic.{_≢_}
-use mathlib.Core.Bool.{true, not, cond}
+use mathlib.Core.Bool.{Bool, true, not}
 use mathlib.Core.List.{List, [], _∷_, map}
 use Prim.Native.Nat.{ℕ, zero, suc, _+_, _-_, _≤_, _<_}
 use native.Mathlib.Omega.{arith}
-use lib.Dec.{T, eqb, ltb, eqb→eq, ltb→lt, eqb·suc-zero, T-not}
+use lib.Dec.{T, eqb, ltb, eqb→eq, ltb→lt, T-not}
 use Rattle.calculus.specs.declared.Step.{Step}
 use Rattle.calculus.specs.declared.Kind.{Kind}
 use Rattle.calculus.specs.declared.Kind.the-variants as kinds
@@ -16,13 +16,13 @@ use Rattle.calculus.specs.Trail.{Set, Trail, Entry, everything, remove, union, 
 use Rattle.calculus.specs.Rules.{rowOf, ruleOf}
 use Rattle.calculus.specs.WellFormed.{Within, WellFormed, WellFormedState, Truthful, Coherent}
 use Rattle.calculus.specs.Steps as steps
-use Rattle.calculus.specs.Steps.{State, searching, conflict, Answer, allowed, refuted, refused, answer, premiseCells, premises, kindOf, isBlank, isFilled, inferenceShaped, termShaped, pairShaped, shaped, ready, known, clashed, inferenceRefusal, rowRefusal, stepBy, step}
+use Rattle.calculus.specs.Steps.{State, searching, conflict, Answer, allowed, refuted, refused, answer, premiseCells, premises, kindOf, isBlank, isFilled, inferenceShaped, termShaped, pairShaped, shaped, ready, known, inferenceRefusal, contradictionRefusal, rowRefusal, stepBy, step}
 use Rattle.calculus.proofs.Facts.{and-l, and-r, T-true, T-false, true-T, neq, facts, unless-ok}
 use Rattle.calculus.proofs.Entries.{entry-in, level-kept, holds-at}
 use Rattle.calculus.proofs.WellFormed.{decided-high}
 use Rattle.calculus.proofs.Truths.{value-suits}
 use Rattle.figure.specs.Inferences.{Opposite, oppositeOfTrue, oppositeOfFalse}
-use Rattle.figure.specs.Transitions.{_∈_, Boolean, Assigned, justifiedAt, Level, Inferred, Action, decide, deduce, clash, resolve, clear, jump, flip, Result, next, unsat, Transition, Decide, Deduce, Fail, Conflict, Resolve, Undo, Backjump, UndoDecide}
+use Rattle.figure.specs.Transitions.{_∈_, Boolean, Assigned, justifiedAt, Level, Inferred, Action, decide, deduce, clash, resolve, clear, jump, flip, fail, Result, next, unsat, Transition, Decide, Deduce, Fail, Conflict, Resolve, Undo, Backjump, UndoDecide}
 use Rattle.figure.specs.Spelling.{Filled, Blank, FromLeft, noColumn, blankColumn, filledColumn, Columns, Spells}
 use Rattle.figure.specs.Faithful.{answerOf}
 use Rattle.calculus.proofs.WellSorted.{WellSorted}
@@ -107,34 +107,39 @@ module _ (ts : List ℕ) where
         (premises-rows tr ps)
         (Deduce k (b .0 (λ y. off (y .0) (y .1) (y .2))) (λ y. off (y .0) (y .1) (y .2)) (level-is tr (has (map rowOf (premisesAt tr ps))))))
 
-    -- the rows xs refute, or are the conflict
-    abbrev opened : List ℕ → Answer
-    opened xs = cond (eqb (levelOf tr (has xs)) 0) refuted (allowed (conflict tr (has xs)))
+    -- the guards of clash and fail
+    contradiction-is : (n l v : ℕ) (ps : List ℕ) (levelSuits : Bool) → l < termRows ts → v ≤ 1 → contradictionRefusal ts tr n l v ps levelSuits ≡ 0
+        → Inferred ts tr (ruleOf n) (premisesAt tr ps) l v (opposite v) × Assigned tr l (opposite v) × T levelSuits
+    unfolding contradictionRefusal
+    contradiction-is n l v ps levelSuits k small h =
+        let b = inferred-is n l v ps _ k small h in
+        let c = unless-ok _ 16 _ (omega arith) (b .1) in
+        let there = assigned-is tr l (opposite v) (c .0) in
+        let new : Assigned tr l v → ⊥ = λ y. let q : v ≡ opposite v = one-value R l v (opposite v) y there in omega arith in
+        (b .0 new, there, unless-ok _ 26 _ (omega arith) (c .1) .0)
 
     clash-back : (n l v : ℕ) (ps : List ℕ) → l < termRows ts → v ≤ 1 → steps.clash ts tr n l v ps ≡ answerOf r
         → Transition ts (searching tr) (clash (ruleOf n) l v ps) r
-    unfolding steps.clash steps.clashRefusal clashed
+    unfolding steps.clash steps.clashRefusal
     clash-back n l v ps k small h =
         let a = answer-ok _ _ r h in
-        let b = inferred-is n l v ps _ k small (a .0) in
-        let c = unless-ok _ 16 _ (omega arith) (b .1) in
-        let there = assigned-is tr l (opposite v) (c .0) in
-        let i = b .0 (λ y. let q : v ≡ opposite v = one-value R l v (opposite v) y there in omega arith) in
-        subst (λ qs. opened (l ∷ qs) ≡ answerOf r → Transition ts (searching tr) (clash (ruleOf n) l v qs) r)
-        (premises-rows tr ps) (go i there) (a .1)
-      where
-        go : Inferred ts tr (ruleOf n) (premisesAt tr ps) l v (opposite v) → Assigned tr l (opposite v)
-            → opened (l ∷ map rowOf (premisesAt tr ps)) ≡ answerOf r
-            → Transition ts (searching tr) (clash (ruleOf n) l v (map rowOf (premisesAt tr ps))) r
-        go i there e = pick (levelOf tr E) (level-is tr E) e
-          where
-            E : Set
-            E = has (l ∷ map rowOf (premisesAt tr ps))
+        let b = contradiction-is n l v ps _ k small (a .0) in
+        let above : levelOf tr (has (l ∷ ps)) ≢ 0 = neq _ _ (b .2) in
+        settle _ r (a .1)
+        (subst (λ qs. levelOf tr (has (l ∷ qs)) ≢ 0 → Transition ts (searching tr) (clash (ruleOf n) l v qs) (next (conflict tr (has (l ∷ qs)))))
+        (premises-rows tr ps)
+        (λ z. Conflict (b .0) (b .1) (level-is tr (has (l ∷ map rowOf (premisesAt tr ps)))) (omega arith)) above)
 
-            pick : (m : ℕ) → Level tr E m → cond (eqb m 0) refuted (allowed (conflict tr E)) ≡ answerOf r
-                → Transition ts (searching tr) (clash (ruleOf n) l v (map rowOf (premisesAt tr ps))) r
-            pick zero z e = refute r e (Fail i there z)
-            pick (suc m) z e = settle _ r (rw (eqb·suc-zero m) at e) (Conflict i there z (omega arith))
+    fail-back : (n l v : ℕ) (ps : List ℕ) → l < termRows ts → v ≤ 1 → steps.fail ts tr n l v ps ≡ answerOf r
+        → Transition ts (searching tr) (fail (ruleOf n) l v ps) r
+    unfolding steps.fail steps.failRefusal
+    fail-back n l v ps k small h =
+        let a = answer-ok _ _ r h in
+        let b = contradiction-is n l v ps _ k small (a .0) in
+        refute r (a .1)
+        (subst (λ qs. levelOf tr (has (l ∷ qs)) ≡ 0 → Transition ts (searching tr) (fail (ruleOf n) l v qs) unsat) (premises-rows tr ps)
+        (λ z. let E = has (l ∷ map rowOf (premisesAt tr ps)) in Fail (b .0) (b .1) (subst (Level tr E) z (level-is tr E)))
+        (eqb→eq _ _ (b .2)))
 
     -- ---- conflict resolution rules
 
@@ -350,6 +355,13 @@ module _ (ts : List ℕ) {ss : List ℕ} (W : WellSorted ss ts) (x : Step) (r : 
   by-kind kinds.Flip (searching tr) e h p g l z = absurd g
   by-kind kinds.Flip (conflict tr E) e h p g l z =
       (flip (x .term) (x .p), pair-spelled x kinds.Flip e p, flip-at ts W (h .wellFormed .0) (h .truths) r E (h .wellFormed .1) (x .term) (x .p) z)
+  by-kind kinds.Fail (searching tr) e h p g l z =
+      let i = inference-spelled x kinds.Fail e p in (
+        fail (ruleOf (x .rule)) (x .term) (x .value) (premises x),
+        (i .cols, refl, i .full),
+        fail-back ts W (h .wellFormed) (h .truths) r (x .rule) (x .term) (x .value) (premises x) l (i .small) z,
+      )
+  by-kind kinds.Fail (conflict tr E) e h p g l z = absurd g
   by-kind kinds.Unlisted s e h p g l z = absurd p
 
   pub back : (s : State) → Coherent ts s → step ts s x ≡ answerOf r → Spelled s

@@ -20,8 +20,8 @@ use Rattle.calculus.specs.Inputs.{valueSuits}
 use Rattle.calculus.specs.Rules.{rowOf, ruleOf, ruleListed, fits}
 use Rattle.calculus.specs.WellFormed.{WellFormed, WellFormedState, Truthful, Coherent}
 use Rattle.calculus.specs.Steps as steps
-use Rattle.calculus.specs.Steps.{State, searching, conflict, Answer, allowed, refuted, answer, premiseCells, premises, kindOf, isBlank, isFilled, inferenceShaped, termShaped, pairShaped, shaped, ready, known, clashed, inferenceRefusal, rowRefusal, stepBy, step}
-use Rattle.calculus.proofs.Facts.{eqb-of, neqb-of, and-both, T-true, T-false, true-T, false-T, all-of}
+use Rattle.calculus.specs.Steps.{State, searching, conflict, Answer, allowed, refuted, answer, premiseCells, premises, kindOf, isBlank, isFilled, inferenceShaped, termShaped, pairShaped, shaped, ready, known, inferenceRefusal, contradictionRefusal, rowRefusal, stepBy, step}
+use Rattle.calculus.proofs.Facts.{eqb-of, neqb-of, and-both, T-true, true-T, false-T, all-of}
 use Rattle.calculus.proofs.Entries.{level-kept, holds-at}
 use Rattle.figure.specs.Inferences.{Opposite, oppositeOfTrue, oppositeOfFalse}
 use Rattle.figure.specs.Transitions.{Boolean, Suits, Among, Assigned, Absent, FirstOrder, decisionAt, justifiedAt, Level, Restricted, Inferred, Action, Result, Transition, Decide, Deduce, Fail, Conflict, Resolve, Undo, Backjump, UndoDecide}
@@ -152,20 +152,25 @@ module _ (ts : List ℕ) where
         (unless-of _ 15 _ (off-of tr l (neither i o)) refl)))
         ∙ (λ j. allowed (searching (justifiedAt l v (level-of z j) (has (map rowOf ps)) ∷ tr)))
 
-    clash-answer : {r : Rule} {J : List Premise} {l v w : ℕ} (n : ℕ) → Inferred ts tr r J l v w → ruleOf n ≡ r → Assigned tr l w
-        → steps.clash ts tr n l v (map rowOf J) ≡ clashed tr (has (l ∷ map rowOf J))
+    -- the guards of clash and fail
+    contradiction-of : {r : Rule} {J : List Premise} {l v w : ℕ} (n : ℕ) (levelSuits : Bool) → Inferred ts tr r J l v w → ruleOf n ≡ r
+        → Assigned tr l w → T levelSuits → contradictionRefusal ts tr n l v (map rowOf J) levelSuits ≡ 0
+    unfolding contradictionRefusal
+    contradiction-of {l = l} {v} {w} n levelSuits i e a s =
+        inference-of n _ i e
+        (unless-of _ 16 _ (subst (λ u. T (assigned tr l u)) (sym (opposite-is (i .other))) (assigned-of R l w a)) (unless-of _ 26 _ s refl))
+
+    clash-answer : {r : Rule} {J : List Premise} {l v w m : ℕ} (n : ℕ) → Inferred ts tr r J l v w → ruleOf n ≡ r → Assigned tr l w
+        → Level tr (has (l ∷ map rowOf J)) m → 0 < m → steps.clash ts tr n l v (map rowOf J) ≡ allowed (conflict tr (has (l ∷ map rowOf J)))
     unfolding steps.clash steps.clashRefusal
-    clash-answer {l = l} {v} {w} n i e a =
-        answer-of _ _
-        (inference-of n _ i e (unless-of _ 16 _ (subst (λ u. T (assigned tr l u)) (sym (opposite-is (i .other))) (assigned-of R l w a)) refl))
+    clash-answer {J = ps} {l} n i e a z above =
+        let q = level-of z in
+        answer-of _ _ (contradiction-of n _ i e a (neqb-of (λ (y : levelOf tr (has (l ∷ map rowOf ps)) ≡ 0). omega arith)))
 
-    clash-fails : {E : Set} → Level tr E 0 → clashed tr E ≡ refuted
-    unfolding clashed
-    clash-fails {E} z = rw (level-of z)
-
-    clash-opens : {E : Set} {m : ℕ} → Level tr E m → 0 < m → clashed tr E ≡ allowed (conflict tr E)
-    unfolding clashed
-    clash-opens {E} {m} z l = rw (level-of z, T-false (eqb m 0) (neqb-of {m = m} {n = 0} (λ q. omega arith)))
+    fail-answer : {r : Rule} {J : List Premise} {l v w : ℕ} (n : ℕ) → Inferred ts tr r J l v w → ruleOf n ≡ r → Assigned tr l w
+        → Level tr (has (l ∷ map rowOf J)) 0 → steps.fail ts tr n l v (map rowOf J) ≡ refuted
+    unfolding steps.fail steps.failRefusal
+    fail-answer n i e a z = answer-of _ _ (contradiction-of n _ i e a (eqb-of (level-of z)))
 
     -- ---- conflict resolution rules
 
@@ -295,18 +300,16 @@ module _ (ts : List ℕ) where
       ∙ deduce-answer (h .wellFormed) (h .truths) (x .rule) i (p .1) (search) (search)
   forth h (Fail {tr} i a z) x (p) =
       let c = p .0 in
-      step-of (searching tr) x kinds.Clash (c .kind) (inference-shaped x i c (p .1) (p .2)) tt
+      step-of (searching tr) x kinds.Fail (c .kind) (inference-shaped x i c (p .1) (p .2)) tt
       (known-of c (assigned-row (h .wellFormed) a) (premise-rows (h .wellFormed) i))
-      ∙ (λ j. steps.clash ts tr (x .rule) (c .subject .0 j) (p .2 .0 j) (premises-as c j))
-      ∙ clash-answer (h .wellFormed) (h .truths) (x .rule) i (p .1) (search)
-      ∙ clash-fails (h .wellFormed) (h .truths) (search)
+      ∙ (λ j. steps.fail ts tr (x .rule) (c .subject .0 j) (p .2 .0 j) (premises-as c j))
+      ∙ fail-answer (h .wellFormed) (h .truths) (x .rule) i (p .1) (search) z
   forth h (Conflict {tr} i a z m) x (p) =
       let c = p .0 in
       step-of (searching tr) x kinds.Clash (c .kind) (inference-shaped x i c (p .1) (p .2)) tt
       (known-of c (assigned-row (h .wellFormed) a) (premise-rows (h .wellFormed) i))
       ∙ (λ j. steps.clash ts tr (x .rule) (c .subject .0 j) (p .2 .0 j) (premises-as c j))
-      ∙ clash-answer (h .wellFormed) (h .truths) (x .rule) i (p .1) (search)
-      ∙ clash-opens (h .wellFormed) (h .truths) z (omega arith)
+      ∙ clash-answer (h .wellFormed) (h .truths) (x .rule) i (p .1) (search) z (omega arith)
   forth h (Resolve {tr} {E} a j z f) x (p) =
       let c = p .0 in
       let R = h .wellFormed .0 in

@@ -62,7 +62,7 @@ record Written (k : Kind) (n t v : ℕ) (ps : List ℕ) : Type 0 where
   pub rule : row .rule ≡ n
   pub value : row .value ≡ v
 
-write : (k : ℕ) (n t v : ℕ) (ps : List ℕ) → k ≤ 6 → n ≤ blank → t < blank → v ≤ blank → length ps ≤ 5 → Small ps → Written (kindOf k) n t v ps
+write : (k : ℕ) (n t v : ℕ) (ps : List ℕ) → k ≤ 7 → n ≤ blank → t < blank → v ≤ blank → length ps ≤ 5 → Small ps → Written (kindOf k) n t v ps
 write k n t v ps i j l m f s =
     let cell : ℕ → ℕ = λ i. getD ps i blank in
     record {
@@ -91,10 +91,10 @@ module _ (ts : List ℕ) (short : termRows ts ≤ 256) where
   no-premises p m = absurd (List·Memᴰ·not-nil m)
 
   -- the term alone
-  alone : (k t : ℕ) → k ≤ 6 → t < termRows ts → Written (kindOf k) blank t blank []
+  alone : (k t : ℕ) → k ≤ 7 → t < termRows ts → Written (kindOf k) blank t blank []
   alone k t i l = write k blank t blank [] i (omega arith) (omega arith) (omega arith) (omega arith) no-premises
 
-  inference-row : {tr : Trail} {r : Rule} {J : List Premise} {l v w : ℕ} (k : ℕ) → k ≤ 6 → WellFormed (termRows ts) tr → l < termRows ts
+  inference-row : {tr : Trail} {r : Rule} {J : List Premise} {l v w : ℕ} (k : ℕ) → k ≤ 7 → WellFormed (termRows ts) tr → l < termRows ts
       → Inferred ts tr r J l v w
       → Written (kindOf k) (rule-number r .0) l v (map rowOf J)
   inference-row {r = r} {J = ps} {l} {v} k i R b h =
@@ -114,7 +114,7 @@ module _ (ts : List ℕ) (short : termRows ts ≤ 256) where
       let y = inference-row 1 (omega arith) (h .wellFormed) b i in
       (y .row, y .sheet, (y .cols, ap ruleOf (y .rule) ∙ rule-number r .1, (y .value, λ q. let o = opposite-sum (i .other) in omega arith)))
   row-of h w (Fail {r = r} i a z) =
-      let y = inference-row 2 (omega arith) (h .wellFormed) (assigned-row ts (h .wellFormed) a) i in
+      let y = inference-row 7 (omega arith) (h .wellFormed) (assigned-row ts (h .wellFormed) a) i in
       (y .row, y .sheet, (y .cols, ap ruleOf (y .rule) ∙ rule-number r .1, (y .value, λ q. let o = opposite-sum (i .other) in omega arith)))
   row-of h w (Conflict {r = r} i a z m) =
       let y = inference-row 2 (omega arith) (h .wellFormed) (assigned-row ts (h .wellFormed) a) i in

@@ -87,6 +87,7 @@ pub data Action : Type 0 where
   clear : ℕ → Action
   jump : ℕ → Action
   flip : ℕ → ℕ → Action
+  fail : Rule → ℕ → ℕ → List ℕ → Action
 
 pub data Result : Type 0 where
   next : State → Result
@@ -120,7 +121,7 @@ pub data Transition (ts : List ℕ) : State → Action → Result → Type 0 whe
   Fail : {tr : Trail} {r : Rule} {J : List Premise} {l v w : ℕ}
       → Inferred ts tr r J l v w → Assigned tr l w
       → Level tr (has (l ∷ map rowOf J)) 0
-      → Transition ts (searching tr) (clash r l v (map rowOf J)) unsat
+      → Transition ts (searching tr) (fail r l v (map rowOf J)) unsat
   -- the opening of ConflictSolve: premises and opposite, not all at level 0, become the conflict
   Conflict : {tr : Trail} {r : Rule} {J : List Premise} {l v w m : ℕ}
       → Inferred ts tr r J l v w → Assigned tr l w
