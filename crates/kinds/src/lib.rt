@@ -63,6 +63,7 @@ pub fn kind_of(n: u16) -> Kind
         4 => Kind::Clear,
         5 => Kind::Jump,
         6 => Kind::Flip,
+        7 => Kind::Fail,
         _ => Kind::Unlisted,
     }
 }

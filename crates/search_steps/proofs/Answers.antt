@@ -10,9 +10,9 @@ use Rattle.calculus.specs.Lists.{all, has}
 use Rattle.calculus.specs.Trail.{Trail, on, levelOf, decision, justified}
 use Rattle.calculus.specs.WellFormed.{Within}
 use Rattle.calculus.specs.Steps as calculus
-use Rattle.calculus.specs.Steps.{premises, clashSet, decideRefusal, inferenceRefusal, deduceRefusal, clashRefusal}
+use Rattle.calculus.specs.Steps.{premises, clashSet, decideRefusal, inferenceRefusal, deduceRefusal, contradictionRefusal, clashRefusal, failRefusal}
 use Rattle.calculus.proofs.Facts.{T-false, T-true, and-l, unless-ok}
-use Rattle.calculus.proofs.WellFormed.{top-length, inference-ok}
+use Rattle.calculus.proofs.WellFormed.{top-length, inference-ok, contradiction-ok}
 use Rattle.trail.specs.Words.{trailIn, Laid}
 use Rattle.calculus.proofs.Trails.{room-more}
 use Rattle.trail.proofs.Laws.{trail-length}
@@ -39,6 +39,16 @@ inference-on ts tr r l v ps rest e =
     let a = unless-ok _ 22 _ (omega arith) e in
     let b = unless-ok _ 12 _ (omega arith) (a .1) in
     T-true _ (b .0)
+
+-- premises and opposite of a contradiction stand on the trail
+module _ (w n : ℕ) (ts ws : List ℕ) (count : ℕ) (x : Step) {c : ℕ}
+    (c-is : c ≡ contradictionRefusal ts (trailIn w n ws count) (x .rule) (x .term) (x .value) (premises x) true) (c-no : c ≡ 0) where
+  pub contradiction-premised : Laid w n ws count → Premised w n ws count x
+  unfolding contradictionRefusal
+  contradiction-premised l = record { laid = l; stand = inference-on ts _ (x .rule) (x .term) (x .value) (premises x) _ (sym c-is ∙ c-no) }
+
+  pub contradiction-on : on (trailIn w n ws count) (x .term) ≡ true
+  contradiction-on = contradiction-ok ts _ (x .rule) (x .term) (x .value) (premises x) true (sym c-is ∙ c-no) .1
 
 -- ---- the steps
 
@@ -118,32 +128,23 @@ module _ (w n : ℕ) (ts ws : List ℕ) (st : Status) where
       clash-refused h = (refused-by _ c-is h, refl)
 
       module _ (c-no : c ≡ 0) where
-        clash-0 : clashRefusal ts here (x .rule) (x .term) (x .value) (premises x) ≡ 0
-        clash-0 = sym c-is ∙ c-no
-
-        pub clash-premised : Laid w n ws (st .count) → Premised w n ws (st .count) x
-        unfolding clashRefusal
-        clash-premised l = record { laid = l; stand = inference-on ts here (x .rule) (x .term) (x .value) (premises x) _ clash-0 }
-
         pub clash-within : Within (has (premises x)) here
         unfolding clashRefusal
-        clash-within = inference-ok ts here (x .rule) (x .term) (x .value) (premises x) _ clash-0 .0
+        clash-within = contradiction-ok ts here (x .rule) (x .term) (x .value) (premises x) _ (sym c-is ∙ c-no) .0
 
-        pub clash-on : on here (x .term) ≡ true
-        unfolding clashRefusal
-        clash-on =
-            let a = inference-ok ts here (x .rule) (x .term) (x .value) (premises x) _ clash-0 in
-            T-true _ (and-l (on here (x .term)) _ (unless-ok _ 16 _ (omega arith) (a .1) .0))
+        pub clash-opens : Searching w n ts ws st (x .term) → (vs : List ℕ) → Conflicts w n vs (st .count) here (clashSet (x .term) (premises x))
+            → Answers w n ts ws vs the-clash (Allowed (record { count = st .count; top = st .top; conflict = true }))
+        unfolding calculus.clash
+        clash-opens g vs s = opened w n ts ws vs _ refl (g .standing .held .rows) (g .standing .held .top) s (passed-by _ c-is c-no)
 
-        -- the level decides: at level 0 the input is refuted, above it there is a conflict
-        module _ {m : ℕ} (m-is : m ≡ levelOf here (clashSet (x .term) (premises x))) where
-          pub clash-refutes : m ≡ 0 → Answers w n ts ws ws the-clash Refuted
-          unfolding Answers calculus.clash calculus.clashed
-          clash-refutes z = (passed-by _ c-is c-no ∙ rw (sym m-is ∙ z), refl)
+    module _ {c : ℕ} (c-is : c ≡ failRefusal ts here (x .rule) (x .term) (x .value) (premises x)) where
+      abbrev the-fail : calculus.Answer
+      the-fail = calculus.fail ts here (x .rule) (x .term) (x .value) (premises x)
 
-          pub clash-opens : (m ≡ 0 → ⊥) → Searching w n ts ws st (x .term) → (vs : List ℕ) → Conflicts w n vs (st .count) here (clashSet (x .term) (premises x))
-              → Answers w n ts ws vs the-clash (Allowed (record { count = st .count; top = st .top; conflict = true }))
-          unfolding calculus.clash calculus.clashed
-          clash-opens h g vs s =
-              opened w n ts ws vs _ refl (g .standing .held .rows) (g .standing .held .top) s
-              (passed-by _ c-is c-no ∙ rw (ne-eqb _ _ (λ z. h (m-is ∙ z))))
+      pub fail-refused : (c ≡ 0 → ⊥) → Answers w n ts ws ws the-fail (Refused c)
+      unfolding Answers calculus.fail
+      fail-refused h = (refused-by _ c-is h, refl)
+
+      pub fail-refutes : c ≡ 0 → Answers w n ts ws ws the-fail Refuted
+      unfolding Answers calculus.fail
+      fail-refutes z = (passed-by _ c-is z, refl)

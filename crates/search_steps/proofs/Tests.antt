@@ -4,6 +4,7 @@ use Prim.Native.Nat.{ℕ, zero, suc}
 use mathlib.Core.Path.{_≡_, refl, sym, ap, _∙_}
 use mathlib.Core.Bool.{Bool, true, false, not}
 use mathlib.Core.List.{List}
+use borrow.Author.Tests.{eq-eqb, ne-eqb}
 use Rattle.calculus.specs.declared.Fit.{Fit}
 use Rattle.calculus.specs.declared.Fit.the-variants.{Fits, Unfit}
 use Rattle.calculus.specs.declared.Rule.{Rule}
@@ -11,10 +12,10 @@ use Rattle.calculus.specs.declared.Step.{Step}
 use Rattle.calculus.specs.Lists.{all, opposite}
 use Rattle.calculus.specs.Numbers.{unless, orElse}
 use Rattle.calculus.specs.Terms.{prop}
-use Rattle.calculus.specs.Trail.{Trail, on, assigned, premisesAt}
+use Rattle.calculus.specs.Trail.{Trail, on, assigned, premisesAt, levelOf}
 use Rattle.calculus.specs.Inputs.{valueSuits}
 use Rattle.calculus.specs.Rules.{fits, fitOf, ruleOf}
-use Rattle.calculus.specs.Steps.{premises, decideRefusal, inferenceRefusal, deduceRefusal, clashRefusal}
+use Rattle.calculus.specs.Steps.{premises, clashSet, atBase, decideRefusal, inferenceRefusal, deduceRefusal, contradictionRefusal, clashRefusal, failRefusal}
 use Rattle.rule_claims.specs.declared.Claim.{Claim}
 use Rattle.rule_claims.specs.Claims.{premisesOf}
 use Rattle.state.proofs.Tests.{told, told-not, told-yes, past, stops}
@@ -38,7 +39,7 @@ module _ (ts : List ℕ) (tr : Trail) (t v : ℕ) where
       unfolding decideRefusal
       decide-0 h = past _ _ (told-yes a-is a-in) (past _ _ (ap not (told b-is h)) refl)
 
--- ---- what deduce and clash share
+-- ---- what deduce, clash and fail share
 
 module _ (ts : List ℕ) (tr : Trail) (x : Step) where
   abbrev the-inference : ℕ → ℕ
@@ -67,44 +68,56 @@ module _ (ts : List ℕ) (tr : Trail) (x : Step) where
         unfolding inferenceRefusal
         inference-0 h = past _ _ (told-yes a-is a-in) (past _ _ (told-yes b-is b-in) (past _ _ (fits-true (sym fit-is ∙ h)) refl))
 
--- ---- deduce and clash
+-- ---- a number in two parts: that of the first tests, or else that of the rest
+
+-- the rest comes after four tests
+after-tests : (a b c d : Bool) (rest : ℕ)
+    → unless a 22 (unless b 12 (unless c 13 (unless d 16 rest))) ≡ orElse (unless a 22 (unless b 12 (unless c 13 (unless d 16 0)))) rest
+unfolding unless orElse
+after-tests false b c d rest = refl
+after-tests true false c d rest = refl
+after-tests true true false d rest = refl
+after-tests true true true false rest = refl
+after-tests true true true true rest = refl
+
+module _ {whole start c : ℕ} (rest : ℕ) (parts : whole ≡ orElse start rest) (c-is : c ≡ start) where
+  first-part : (c ≡ 0 → ⊥) → c ≡ whole
+  unfolding orElse
+  first-part h = go start c-is ∙ sym parts
+    where
+      go : (j : ℕ) → c ≡ j → c ≡ orElse j rest
+      go zero q = absurd (h q)
+      go (suc j) q = q
+
+  second-part : c ≡ 0 → {n : ℕ} → n ≡ rest → n ≡ whole
+  unfolding orElse
+  second-part z e = e ∙ sym (parts ∙ rw (sym c-is ∙ z))
+
+-- ---- deduce, and what clash and fail share
 
 module _ (ts : List ℕ) (tr : Trail) (r l v : ℕ) (ps : List ℕ) where
   abbrev shared : ℕ → ℕ
   shared rest = inferenceRefusal ts tr r l v ps rest
 
-  -- what is not the tests' own comes after them
-  after-shared : (rest : ℕ) → shared rest ≡ orElse (shared 0) rest
-  unfolding inferenceRefusal unless orElse
-  after-shared rest = go (prop ts l) (all (on tr) ps) (fits ts (ruleOf r) l v (premisesAt tr ps))
-    where
-      go : (a b c : Bool) → unless a 22 (unless b 12 (unless c 13 rest)) ≡ orElse (unless a 22 (unless b 12 (unless c 13 0))) rest
-      go false b c = refl
-      go true false c = refl
-      go true true false = refl
-      go true true true = refl
+  abbrev contradiction : Bool → ℕ
+  contradiction levelSuits = contradictionRefusal ts tr r l v ps levelSuits
+
+  shared-parts : (rest : ℕ) → shared rest ≡ orElse (shared 0) rest
+  unfolding inferenceRefusal unless
+  shared-parts rest = after-tests (prop ts l) (all (on tr) ps) (fits ts (ruleOf r) l v (premisesAt tr ps)) true rest
 
   module _ {c : ℕ} (c-is : c ≡ shared 0) where
-    first : (c ≡ 0 → ⊥) → (rest : ℕ) → c ≡ shared rest
-    unfolding orElse
-    first h rest = go (shared 0) c-is ∙ sym (after-shared rest)
-      where
-        go : (j : ℕ) → c ≡ j → c ≡ orElse j rest
-        go zero q = absurd (h q)
-        go (suc j) q = q
-
     pub deduce-first : (c ≡ 0 → ⊥) → c ≡ deduceRefusal ts tr r l v ps
     unfolding deduceRefusal
-    deduce-first h = first h _
+    deduce-first h = first-part _ (shared-parts _) c-is h
 
-    pub clash-first : (c ≡ 0 → ⊥) → c ≡ clashRefusal ts tr r l v ps
-    unfolding clashRefusal
-    clash-first h = first h _
+    pub contradiction-first : (c ≡ 0 → ⊥) → c ≡ contradiction true
+    unfolding contradictionRefusal
+    contradiction-first h = first-part _ (shared-parts _) c-is h
 
     module _ (c-no : c ≡ 0) where
       then-rest : {n : ℕ} (rest : ℕ) → n ≡ rest → n ≡ shared rest
-      unfolding orElse
-      then-rest rest e = e ∙ sym (after-shared rest ∙ rw (sym c-is ∙ c-no))
+      then-rest rest e = second-part rest (shared-parts rest) c-is c-no e
 
       module _ {a : Bool} (a-is : a ≡ assigned tr l v) where
         pub deduce-14 : a ≡ true → 14 ≡ deduceRefusal ts tr r l v ps
@@ -124,10 +137,52 @@ module _ (ts : List ℕ) (tr : Trail) (r l v : ℕ) (ps : List ℕ) where
         held : {b : Bool} → a ≡ b → assigned tr l (opposite v) ≡ b
         held h = rw (sym o-is) (told a-is h)
 
-        pub clash-16 : not a ≡ true → 16 ≡ clashRefusal ts tr r l v ps
-        unfolding clashRefusal
-        clash-16 h = then-rest _ (stops _ _ (told-not (sym (held refl)) h))
+        pub contradiction-16 : not a ≡ true → 16 ≡ contradiction true
+        unfolding contradictionRefusal
+        contradiction-16 h = then-rest _ (stops _ _ (told-not (sym (held refl)) h))
 
-        pub clash-0 : not a ≡ false → 0 ≡ clashRefusal ts tr r l v ps
-        unfolding clashRefusal
-        clash-0 h = then-rest _ (past _ _ (told-yes (sym (held refl)) h) refl)
+        pub contradiction-0 : not a ≡ false → 0 ≡ contradiction true
+        unfolding contradictionRefusal
+        contradiction-0 h = then-rest _ (past _ _ (told-yes (sym (held refl)) h) (past _ _ refl refl))
+
+  -- ---- clash and fail: the level
+
+  level-last : (levelSuits : Bool) → contradiction levelSuits ≡ orElse (contradiction true) (unless levelSuits 26 0)
+  unfolding contradictionRefusal inferenceRefusal unless
+  level-last levelSuits =
+      after-tests (prop ts l) (all (on tr) ps) (fits ts (ruleOf r) l v (premisesAt tr ps)) (assigned tr l (opposite v)) (unless levelSuits 26 0)
+
+  module _ {c : ℕ} (c-is : c ≡ contradiction true) where
+    pub clash-first : (c ≡ 0 → ⊥) → c ≡ clashRefusal ts tr r l v ps
+    unfolding clashRefusal
+    clash-first h = first-part _ (level-last _) c-is h
+
+    pub fail-first : (c ≡ 0 → ⊥) → c ≡ failRefusal ts tr r l v ps
+    unfolding failRefusal
+    fail-first h = first-part _ (level-last _) c-is h
+
+    module _ (c-no : c ≡ 0) {m : ℕ} (m-is : m ≡ levelOf tr (clashSet l ps)) where
+      then-level : {n : ℕ} (levelSuits : Bool) → n ≡ unless levelSuits 26 0 → n ≡ contradiction levelSuits
+      then-level levelSuits e = second-part _ (level-last levelSuits) c-is c-no e
+
+      at-base : m ≡ 0 → atBase tr (clashSet l ps) ≡ true
+      at-base z = eq-eqb _ _ (sym m-is ∙ z)
+
+      above-base : (m ≡ 0 → ⊥) → atBase tr (clashSet l ps) ≡ false
+      above-base h = ne-eqb _ _ (λ z. h (m-is ∙ z))
+
+      pub clash-26 : m ≡ 0 → 26 ≡ clashRefusal ts tr r l v ps
+      unfolding clashRefusal
+      clash-26 z = then-level _ (stops _ _ (ap not (at-base z)))
+
+      pub clash-0 : (m ≡ 0 → ⊥) → 0 ≡ clashRefusal ts tr r l v ps
+      unfolding clashRefusal
+      clash-0 h = then-level _ (past _ _ (ap not (above-base h)) refl)
+
+      pub fail-26 : (m ≡ 0 → ⊥) → 26 ≡ failRefusal ts tr r l v ps
+      unfolding failRefusal
+      fail-26 h = then-level _ (stops _ _ (above-base h))
+
+      pub fail-0 : m ≡ 0 → 0 ≡ failRefusal ts tr r l v ps
+      unfolding failRefusal
+      fail-0 z = then-level _ (past _ _ (at-base z) refl)

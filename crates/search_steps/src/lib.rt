@@ -1,4 +1,4 @@
-// The steps of the search: decide, deduce, clash. Each has its number, found by reading alone, and then what it does.
+// The steps of the search: decide, deduce, clash, fail. Each has its number, found by reading alone, and then what it does.
 ghost use mathlib.Core.Path.{_≡_};
 ghost use mathlib.Core.Bool.{true};
 ghost use mathlib.Core.List.{[], _∷_};
@@ -6,7 +6,8 @@ ghost use Rattle.calculus.specs.Lists.{all, has};
 ghost use Rattle.calculus.specs.Terms.{filled};
 ghost use Rattle.calculus.specs.Inputs.{valueSuits};
 ghost use Rattle.calculus.specs.Trail.{on, valueAt, levelOf};
-ghost use Rattle.calculus.specs.Steps.{premises, decideRefusal, inferenceRefusal, deduceRefusal, clashRefusal, clashSet, decide, deduce, clash};
+ghost use Rattle.calculus.specs.Steps.{premises, clashSet, decideRefusal, inferenceRefusal, deduceRefusal};
+ghost use Rattle.calculus.specs.Steps.{contradictionRefusal, clashRefusal, failRefusal, decide, deduce, clash, fail};
 ghost use Rattle.rule_claims.specs.Claims.{Looked};
 ghost use Rattle.trail.specs.Words.{trailIn, Laid};
 ghost use Rattle.state.specs.States.{Answers};
@@ -162,7 +163,7 @@ fn decide_refusal(
     0
 }
 
-// Numbers 22, 12, 13, which deduce and clash share.
+// Numbers 22, 12, 13, which deduce, clash and fail share.
 fn inference_refusal(terms: &[u16], work: &[u64], w: usize, n: usize, count: usize, x: Step) -> u16
     requires { ⌜ Laid w n (now work) count ⌝ }
     ensures { λ r. ⌜ r ≡ inferenceRefusal (now (terms .entry)) (trailIn w n (now (work .entry)) count) (x .rule) (x .term) (x .value) (premises x) 0 ⌝ }
@@ -198,10 +199,18 @@ fn deduce_refusal(terms: &[u16], work: &[u64], w: usize, n: usize, count: usize,
     0
 }
 
-// Numbers 22, 12, 13, 16.
-fn clash_refusal(terms: &[u16], work: &[u64], w: usize, n: usize, count: usize, x: Step) -> u16
+// Numbers 22, 12, 13, 16, which clash and fail share.
+fn contradiction_refusal(
+    terms: &[u16],
+    work: &[u64],
+    w: usize,
+    n: usize,
+    count: usize,
+    x: Step,
+) -> u16
     requires { ⌜ Laid w n (now work) count ⌝ }
-    ensures { λ r. ⌜ r ≡ clashRefusal (now (terms .entry)) (trailIn w n (now (work .entry)) count) (x .rule) (x .term) (x .value) (premises x) ⌝ }
+    ensures { λ r. ⌜ r ≡ contradictionRefusal (now (terms .entry)) (trailIn w n (now (work .entry)) count)
+        (x .rule) (x .term) (x .value) (premises x) true ⌝ }
 {
     let c = inference_refusal(terms, work, w, n, count, x);
     if c != 0 {
@@ -209,6 +218,38 @@ fn clash_refusal(terms: &[u16], work: &[u64], w: usize, n: usize, count: usize, 
     }
     if !state::has_value(work, w, n, count, Row(x.term), moves::other(x.value)) {
         return 16;
+    }
+    0
+}
+
+// Numbers 22, 12, 13, 16, and 26 at level 0.
+fn clash_refusal(terms: &[u16], work: &[u64], w: usize, n: usize, count: usize, x: Step) -> u16
+    requires { ⌜ Laid w n (now work) count ⌝ }
+    ensures { λ r. ⌜ r ≡ clashRefusal (now (terms .entry)) (trailIn w n (now (work .entry)) count) (x .rule) (x .term) (x .value) (premises x) ⌝ }
+{
+    let c = contradiction_refusal(terms, work, w, n, count, x);
+    if c != 0 {
+        return c;
+    }
+    let level = clash_level(work, w, n, count, x);
+    if level.0 == 0 {
+        return 26;
+    }
+    0
+}
+
+// Numbers 22, 12, 13, 16, and 26 above level 0.
+fn fail_refusal(terms: &[u16], work: &[u64], w: usize, n: usize, count: usize, x: Step) -> u16
+    requires { ⌜ Laid w n (now work) count ⌝ }
+    ensures { λ r. ⌜ r ≡ failRefusal (now (terms .entry)) (trailIn w n (now (work .entry)) count) (x .rule) (x .term) (x .value) (premises x) ⌝ }
+{
+    let c = contradiction_refusal(terms, work, w, n, count, x);
+    if c != 0 {
+        return c;
+    }
+    let level = clash_level(work, w, n, count, x);
+    if level.0 != 0 {
+        return 26;
     }
     0
 }
@@ -273,7 +314,7 @@ pub fn deduce(terms: &[u16], work: &mut [u64], w: usize, n: usize, st: Status, x
     })
 }
 
-// clash: premises and opposite refute the input at level 0, and are the conflict above it.
+// clash: premises and opposite, not all at level 0, are the conflict.
 pub fn clash(terms: &[u16], work: &mut [u64], w: usize, n: usize, st: Status, x: Step) -> Answer
     requires { ⌜ Searching w n (now terms) (now work) st (x .term) ⌝ }
     ensures { λ r. ⌜ Answers w n (now (terms .entry)) (now (work .entry)) (now (work .exit))
@@ -283,10 +324,6 @@ pub fn clash(terms: &[u16], work: &mut [u64], w: usize, n: usize, st: Status, x:
     if c != 0 {
         return Answer::Refused(c);
     }
-    let level = clash_level(work, w, n, st.count, x);
-    if level.0 == 0 {
-        return Answer::Refuted;
-    }
     let ps = [x.p, x.q, x.r, x.s, x.t];
     moves::conflict(work, w, n, st.count, Row(x.term), &ps);
     let top = st.top;
@@ -295,4 +332,17 @@ pub fn clash(terms: &[u16], work: &mut [u64], w: usize, n: usize, st: Status, x:
         top: top,
         conflict: true,
     })
+}
+
+// fail: premises and opposite, all at level 0, refute the input. Nothing is written.
+pub fn fail(terms: &[u16], work: &[u64], w: usize, n: usize, st: Status, x: Step) -> Answer
+    requires { ⌜ Searching w n (now terms) (now work) st (x .term) ⌝ }
+    ensures { λ r. ⌜ Answers w n (now (terms .entry)) (now (work .entry)) (now (work .entry))
+        (fail (now (terms .entry)) (trailIn w n (now (work .entry)) (st .count)) (x .rule) (x .term) (x .value) (premises x)) r ⌝ }
+{
+    let c = fail_refusal(terms, work, w, n, st.count, x);
+    if c != 0 {
+        return Answer::Refused(c);
+    }
+    Answer::Refuted
 }

@@ -46,7 +46,7 @@ fn decision_shaped(x: Step) -> bool
     (x.rule == BLANK) & (!(x.term == BLANK) & (!(x.value == BLANK) & e))
 }
 
-// The columns of deduce and clash: rule, term, a truth value, and premises from the left.
+// The columns of deduce, clash and fail: rule, term, a truth value, and premises from the left.
 fn inference_shaped(x: Step) -> bool
     ensures { λ r. ⌜ r ≡ inferenceShaped x ⌝ }
 {
@@ -89,6 +89,7 @@ pub fn shaped(x: Step, k: Kind) -> bool
         Kind::Clear => term_shaped(x),
         Kind::Jump => term_shaped(x),
         Kind::Flip => pair_shaped(x),
+        Kind::Fail => inference_shaped(x),
         Kind::Unlisted => false,
     }
 }

@@ -8,7 +8,7 @@ use borrow.Author.Tests.{not-true, not-false}
 use lib.Dec.{T, eqb, ltb, ltb→lt}
 use Rattle.calculus.specs.declared.Step.{Step}
 use Rattle.calculus.specs.declared.Kind.{Kind}
-use Rattle.calculus.specs.declared.Kind.the-variants.{Decide, Deduce, Clash, Resolve, Clear, Jump, Flip, Unlisted}
+use Rattle.calculus.specs.declared.Kind.the-variants.{Decide, Deduce, Clash, Resolve, Clear, Jump, Flip, Fail, Unlisted}
 use Rattle.calculus.specs.Lists.{all}
 use Rattle.calculus.specs.Sheets.{blank, termRows}
 use Rattle.calculus.specs.Trail.{Set, Trail}
@@ -107,6 +107,10 @@ module _ (w n : ℕ) (ts ws : List ℕ) (st : Status) (x : Step) (k : Kind) (g :
     pub clash-by : k ≡ Clash → Answered (calculus.clash ts here (x .rule) (x .term) (x .value) (premises x)) → Answered its-step
     unfolding stepBy
     clash-by e h = by (rw (e, trail-there w n ws st)) h
+
+    pub fail-by : k ≡ Fail → Answered (calculus.fail ts here (x .rule) (x .term) (x .value) (premises x)) → Answered its-step
+    unfolding stepBy
+    fail-by e h = by (rw (e, trail-there w n ws st)) h
 
     -- a step that needs a conflict finds one
     in-a-conflict : (j : Kind) → needsConflict j ≡ true → k ≡ j → stateIn w n ws st ≡ calculus.conflict here set

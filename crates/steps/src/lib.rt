@@ -22,11 +22,12 @@ fn needs_conflict(k: Kind) -> bool
         Kind::Clear => true,
         Kind::Jump => true,
         Kind::Flip => true,
+        Kind::Fail => false,
         Kind::Unlisted => false,
     }
 }
 
-// The first three steps need a search, the others a conflict.
+// Decide, deduce, clash and fail need a search, the others a conflict.
 fn is_ready(k: Kind, conflict: bool) -> bool
     ensures { λ r. ⌜ r ≡ cond (needsConflict k) conflict (not conflict) ⌝ }
 {
@@ -59,6 +60,7 @@ fn step_by(
         Kind::Clear => conflict_steps::clear(terms, work, w, n, st, Row(x.term)),
         Kind::Jump => conflict_steps::jump(terms, work, w, n, st, Row(x.term)),
         Kind::Flip => conflict_steps::flip(terms, work, w, n, st, Row(x.term), Row(x.p)),
+        Kind::Fail => search_steps::fail(terms, work, w, n, st, x),
         Kind::Unlisted => Answer::Refused(9),
     }
 }

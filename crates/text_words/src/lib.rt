@@ -52,6 +52,9 @@ fn late_step(f: &[u8]) -> u16
     if text_fields::same(b"flip", f) {
         return 6;
     }
+    if text_fields::same(b"fail", f) {
+        return 7;
+    }
     65534
 }
 

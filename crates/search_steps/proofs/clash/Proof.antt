@@ -1,5 +1,5 @@
 -- `search_steps::clash` meets its contract.
-use Rattle.search_steps.proofs.Answers.{clash-refused, clash-premised, clash-on, clash-within, clash-refutes, clash-opens}
+use Rattle.search_steps.proofs.Answers.{clash-refused, clash-within, clash-opens}
 use Rattle.calculus.specs.Steps.{premises}
 use borrow.Author.Needs.{needs}
 use Rattle.search_steps.proofs.clash.Statement.{statement}
@@ -14,15 +14,6 @@ same-length c = search needs
 returns : tie.Need-returns
 returns c = search clash-refused
 
-clash-level-requires : tie.Need-clash-level-requires
-clash-level-requires c κs = (search clash-premised, search clash-on)
-
-same-length-2 : tie.Need-same-length-2
-same-length-2 c = search needs
-
-returns-2 : tie.Need-returns-2
-returns-2 c = search clash-refutes
-
 slice-aggregate-conflict : tie.Need-slice-aggregate-conflict
 slice-aggregate-conflict c = search needs
 
@@ -30,12 +21,12 @@ conflict-requires : tie.Need-conflict-requires
 unfolding premises
 conflict-requires c κs = search (needs, clash-within)
 
-same-length-3 : tie.Need-same-length-3
-same-length-3 c = search needs
+same-length-2 : tie.Need-same-length-2
+same-length-2 c = search needs
 
-returns-3 : tie.Need-returns-3
+returns-2 : tie.Need-returns-2
 unfolding premises
-returns-3 c = search clash-opens
+returns-2 c = search clash-opens
 
 pub clash-spec : {M : Type 1} → statement M
 clash-spec =
@@ -44,10 +35,7 @@ clash-spec =
     clash-refusal-requires
     same-length
     returns
-    clash-level-requires
-    same-length-2
-    returns-2
     slice-aggregate-conflict
     conflict-requires
-    same-length-3
-    returns-3)
+    same-length-2
+    returns-2)

@@ -49,6 +49,12 @@ pair-shaped-requires c κs = search needs
 enum-told-8 : tie.Need-enum-told-8
 enum-told-8 c = search needs
 
+inference-shaped-requires-3 : tie.Need-inference-shaped-requires-3
+inference-shaped-requires-3 c κs = search needs
+
+enum-told-9 : tie.Need-enum-told-9
+enum-told-9 c = search needs
+
 returns : tie.Need-returns
 unfolding shaped
 returns c = rw (c .before .enum-told .given .1, c .decision-shaped .ensures)
@@ -79,7 +85,11 @@ returns-7 c = rw (c .before .enum-told7 .given .1, c .pair-shaped .ensures)
 
 returns-8 : tie.Need-returns-8
 unfolding shaped
-returns-8 c = rw (c .enum-told8 .given .1)
+returns-8 c = rw (c .before .enum-told8 .given .1, c .inference-shaped3 .ensures)
+
+returns-9 : tie.Need-returns-9
+unfolding shaped
+returns-9 c = rw (c .enum-told9 .given .1)
 
 pub shaped-spec : {M : Type 1} → statement M
 shaped-spec =
@@ -100,6 +110,8 @@ shaped-spec =
     enum-told-7
     pair-shaped-requires
     enum-told-8
+    inference-shaped-requires-3
+    enum-told-9
     returns
     returns-2
     returns-3
@@ -107,4 +119,5 @@ shaped-spec =
     returns-5
     returns-6
     returns-7
-    returns-8)
+    returns-8
+    returns-9)

@@ -1,5 +1,5 @@
 -- `steps::step_by` meets its contract.
-use Rattle.steps.proofs.Laws.{asked-search, asked-conflict, asked-p, decide-by, deduce-by, clash-by, resolve-by, clear-by, jump-by, flip-by, unlisted-by}
+use Rattle.steps.proofs.Laws.{asked-search, asked-conflict, asked-p, decide-by, deduce-by, clash-by, resolve-by, clear-by, jump-by, flip-by, fail-by, unlisted-by}
 use borrow.Author.Needs.{needs}
 use Rattle.steps.proofs.step_by.Statement.{statement}
 use Rattle.steps.proofs.step_by.Tie as tie
@@ -49,6 +49,12 @@ flip-requires c κs = (search asked-conflict, search asked-p)
 enum-told-8 : tie.Need-enum-told-8
 enum-told-8 c = search needs
 
+fail-requires : tie.Need-fail-requires
+fail-requires c κs = search asked-search
+
+enum-told-9 : tie.Need-enum-told-9
+enum-told-9 c = search needs
+
 same-length : tie.Need-same-length
 same-length c = search needs
 
@@ -91,8 +97,14 @@ same-length-7 c = search needs
 returns-7 : tie.Need-returns-7
 returns-7 c = search flip-by
 
+same-length-8 : tie.Need-same-length-8
+same-length-8 c = search needs
+
 returns-8 : tie.Need-returns-8
-returns-8 c = search unlisted-by
+returns-8 c = search fail-by
+
+returns-9 : tie.Need-returns-9
+returns-9 c = search unlisted-by
 
 pub step-by-spec : {M : Type 1} → statement M
 step-by-spec =
@@ -113,6 +125,8 @@ step-by-spec =
     enum-told-7
     flip-requires
     enum-told-8
+    fail-requires
+    enum-told-9
     same-length
     returns
     same-length-2
@@ -127,4 +141,6 @@ step-by-spec =
     returns-6
     same-length-7
     returns-7
-    returns-8)
+    same-length-8
+    returns-8
+    returns-9)

@@ -40,8 +40,17 @@ same-requires-4 c κs = search needs
 returns-4 : tie.Need-returns-4
 returns-4 c = search (number-at, miss, hit) depth 12
 
+slice-aggregate-same-5 : tie.Need-slice-aggregate-same-5
+slice-aggregate-same-5 c = search needs
+
+same-requires-5 : tie.Need-same-requires-5
+same-requires-5 c κs = search needs
+
 returns-5 : tie.Need-returns-5
-returns-5 c = search (number-none, miss) depth 12
+returns-5 c = search (number-at, miss, hit) depth 12
+
+returns-6 : tie.Need-returns-6
+returns-6 c = search (number-none, miss) depth 12
 
 pub late-step-spec : {M : Type 1} → statement M
 late-step-spec =
@@ -59,4 +68,7 @@ late-step-spec =
     slice-aggregate-same-4
     same-requires-4
     returns-4
-    returns-5)
+    slice-aggregate-same-5
+    same-requires-5
+    returns-5
+    returns-6)
