@@ -69,7 +69,12 @@ enum cdsat_head {
     CDSAT_LAST_FREE = 65534
 };
 
-/* Steps. */
+/* Steps. clash and fail have the same columns: a rule gives a term one value,
+ * and the trail has the other. fail is for premises and opposite that are all at
+ * level 0, where nothing they rest on was decided: it refutes the input and ends
+ * the run. clash is for those above level 0: it opens a conflict, which resolve,
+ * clear, jump and flip work on. Either in the other's place is refused with 26.
+ */
 enum cdsat_step {
     CDSAT_DECIDE = 0,
     CDSAT_DEDUCE = 1,
@@ -77,10 +82,11 @@ enum cdsat_step {
     CDSAT_RESOLVE = 3,
     CDSAT_CLEAR = 4,
     CDSAT_JUMP = 5,
-    CDSAT_FLIP = 6
+    CDSAT_FLIP = 6,
+    CDSAT_FAIL = 7
 };
 
-/* Rules of deduce and clash. */
+/* Rules of deduce, clash and fail. */
 enum cdsat_rule {
     CDSAT_RULE_SAME = 0,
     CDSAT_RULE_DIFFER = 1,
@@ -123,9 +129,10 @@ enum cdsat_why {
 /* The result of a run.
  *
  * The number is 0 for no trouble. 1 to 8: the sort, term and input sheets.
- * 9 to 23: the first step that is not allowed. 30: a sheet with too many rows.
- * 31: a length that is no whole number of rows. 32: a buffer too short. From
- * cdsat_check it can also be a number of cdsat_read.
+ * 9 to 23 and 26: the first step that is not allowed; 26 is a clash at level 0,
+ * where fail was meant, or a fail above it, where clash was meant. 30: a sheet
+ * with too many rows. 31: a length that is no whole number of rows. 32: a buffer
+ * too short. From cdsat_check it can also be a number of cdsat_read.
  */
 typedef struct {
     uint16_t verdict; /* enum cdsat_verdict */
@@ -191,9 +198,10 @@ cdsat_read_result cdsat_read(const uint8_t *text, size_t text_len,
  *
  * For a refusal said gets one line for a person, which ends with a newline: the
  * line of the text at fault, the field of a line that cannot be read, the number
- * and what it means, and for 31 why. Two examples:
+ * and what it means, for 26 which line was meant, and for 31 why. Three examples:
  *
  *   line 12: 13 the rule does not fit
+ *   line 17: 26 fail is the line at level 0, clash the one above it: fail was meant
  *   line 28, field 2: 31 malformed: a name of more than 64 bytes
  *
  * Zeros fill the rest, and all of it where nothing is refused. Of a line longer

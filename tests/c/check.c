@@ -23,7 +23,8 @@ _Static_assert(CDSAT_SORT_COLUMNS == 2 && CDSAT_TERM_COLUMNS == 6, "columns");
 _Static_assert(CDSAT_INPUT_COLUMNS == 2 && CDSAT_STEP_COLUMNS == 9 && CDSAT_ENTRY_COLUMNS == 4, "columns");
 _Static_assert(CDSAT_WORK_WORDS(256) == 2060 && CDSAT_TRAIL_NUMBERS(256) == 1024, "buffers");
 _Static_assert(CDSAT_EQ == 0 && CDSAT_STORE == 5 && CDSAT_FREE == 16 && CDSAT_LAST_FREE == 65534, "heads");
-_Static_assert(CDSAT_DECIDE == 0 && CDSAT_FLIP == 6 && CDSAT_RULE_SAME == 0 && CDSAT_RULE_SKIP == 12, "steps and rules");
+_Static_assert(CDSAT_DECIDE == 0 && CDSAT_CLASH == 2 && CDSAT_FLIP == 6 && CDSAT_FAIL == 7, "steps");
+_Static_assert(CDSAT_RULE_SAME == 0 && CDSAT_RULE_SKIP == 12, "rules");
 _Static_assert(CDSAT_OPEN == 0 && CDSAT_REFUTED == 1 && CDSAT_REFUSED == 2, "verdicts");
 _Static_assert(CDSAT_WHY_FINE == 0 && CDSAT_WHY_CUT == 11 && CDSAT_SAID == 256, "causes");
 
@@ -36,7 +37,8 @@ _Static_assert(CDSAT_WHY_FINE == 0 && CDSAT_WHY_CUT == 11 && CDSAT_SAID == 256, 
     "term head sort a b c d\na A S - - - -\nb B S - - - -\ne eq prop a b - -\n" \
     "fa F S a - - -\nfb F S b - - -\ng eq prop fa fb - -\n\n"
 #define STEPS "step rule term value p q r s t\n"
-#define LISTING SORTS TERMS "term value\ne true\ng false\n\n" STEPS "clash cong g true e - - - -\n"
+#define INPUTS "term value\ne true\ng false\n\n"
+#define LISTING SORTS TERMS INPUTS STEPS "fail cong g true e - - - -\n"
 #define HEADERS "sort index value\n\nterm head sort a b c d\n\nterm value\n\n" STEPS
 
 /* The sheets and buffers that are lent, full of old contents. */
@@ -101,7 +103,7 @@ static void test_read(void) {
         CDSAT_FREE, 1, B, B, B, B, CDSAT_FREE + 1, 1, B, B, B, B, CDSAT_EQ, 0, 0, 1, B, B,
         CDSAT_FREE + 2, 1, 0, B, B, B, CDSAT_FREE + 2, 1, 1, B, B, B, CDSAT_EQ, 0, 3, 4, B, B};
     static const uint16_t want_inputs[LENGTH(inputs)] = {2, 1, 5, 0};
-    static const uint16_t want_steps[LENGTH(steps)] = {CDSAT_CLASH, CDSAT_RULE_CONG, 5, 1, 2, B, B, B, B};
+    static const uint16_t want_steps[LENGTH(steps)] = {CDSAT_FAIL, CDSAT_RULE_CONG, 5, 1, 2, B, B, B, B};
     static const uint16_t want_rows[4] = {1, 6, 2, 1};
     cdsat_read_result r = read_text(LISTING, strlen(LISTING));
     same("listing read", "number", r.number, 0);
@@ -132,6 +134,21 @@ static void test_run(void) {
         sorts, LENGTH(sorts), terms, CDSAT_MAX_TERMS * CDSAT_TERM_COLUMNS, inputs, LENGTH(inputs), steps, LENGTH(steps),
         work, LENGTH(work), trail, LENGTH(trail));
     same_outcome("listing run with whole sheets", o, CDSAT_REFUSED, 0, 1, 0);
+}
+
+/* The listing's row with the numbers of other steps: clash at level 0, and the first that no step has. */
+static void test_steps(void) {
+    static const struct {
+        const char *what;
+        unsigned step, number;
+    } rows[] = {{"the listing as a clash", CDSAT_CLASH, 26}, {"the listing as step 8", CDSAT_FAIL + 1, 9}};
+    for (size_t i = 0; i < LENGTH(rows); i++) {
+        read_text(LISTING, strlen(LISTING));
+        steps[0] = (uint16_t)rows[i].step;
+        cdsat_outcome o = cdsat_run(
+            sorts, 2, terms, 36, inputs, 4, steps, CDSAT_STEP_COLUMNS, work, CDSAT_WORK_WORDS(6), trail, CDSAT_TRAIL_NUMBERS(6));
+        same_outcome(rows[i].what, o, CDSAT_REFUSED, 0, rows[i].number, 2);
+    }
 }
 
 /* The numbers of lengths, each at its border, where nothing is written. */
@@ -213,6 +230,14 @@ static void test_checks(void) {
     } texts[] = {
         {"the listing", LISTING, {CDSAT_REFUTED, 1, 0, 2}, ""},
         {"headers alone", HEADERS, {CDSAT_OPEN, 0, 0, 0}, ""},
+        {"the listing as a clash", SORTS TERMS INPUTS STEPS "clash cong g true e - - - -\n", {CDSAT_REFUSED, 0, 26, 2},
+         "line 17: 26 fail is the line at level 0, clash the one above it: fail was meant\n"},
+        {"a fail above level 0", SORTS TERMS "term value\ng false\n\n" STEPS "decide - e true - - - - -\nfail cong g true e - - - -\n",
+         {CDSAT_REFUSED, 1, 26, 2}, "line 17: 26 fail is the line at level 0, clash the one above it: clash was meant\n"},
+        {"a conflict", SORTS TERMS "term value\ng false\n\n" STEPS "decide - e true - - - - -\nclash cong g true e - - - -\n",
+         {CDSAT_OPEN, 2, 0, 2}, ""},
+        {"a fail too early", SORTS TERMS "term value\ne true\n\n" STEPS "fail cong g true e - - - -\n", {CDSAT_REFUSED, 0, 16, 1},
+         "line 16: 16 the opposite is not there\n"},
         {"a clash too early", SORTS TERMS "term value\ne true\n\n" STEPS "clash cong g true e - - - -\n", {CDSAT_REFUSED, 0, 16, 1},
          "line 16: 16 the opposite is not there\n"},
         {"a decision twice", SORTS TERMS "term value\n\n" STEPS "decide - a 7 - - - - -\ndecide - a 7 - - - - -\n", {CDSAT_REFUSED, 1, 14, 1},
@@ -257,6 +282,7 @@ static void test_null(void) {
 int main(void) {
     test_read();
     test_run();
+    test_steps();
     test_lengths();
     test_bad_texts();
     test_checks();
