@@ -1,25 +1,25 @@
 -- Each number comes from its own sheet.
 use mathlib.Core.Path.{_≡_, refl}
-use mathlib.Core.Logic.{inl, inr}
 use mathlib.Core.Bool.{Bool, true, false, _&&_}
 use mathlib.Core.List.{List}
-use Prim.Native.Nat.{ℕ, zero, suc, _+_, _<_}
+use Prim.Native.Nat.{ℕ, zero, suc, _+_, _≤_, _<_}
 use native.Mathlib.Omega.{arith}
 use borrow.Author.Tests.{leb-true}
-use lib.Dec.{leb}
+use lib.Dec.{T, leb, leb→le}
 use Rattle.calculus.specs.declared.Step.{Step}
 use Rattle.calculus.specs.declared.Kind.{Kind}
 use Rattle.calculus.specs.declared.Kind.the-variants.{Decide, Deduce, Clash, Resolve, Clear, Jump, Flip, Fail, Unlisted}
+use Rattle.calculus.specs.Lists.{all}
 use Rattle.calculus.specs.Numbers.{unless, orElse, firstRefusal}
 use Rattle.calculus.specs.Sheets.{Call, inputRows, stepRows, termRows, sortRows, lengthRefusal}
 use Rattle.calculus.specs.Sorts.{sortRefusal, sortsRefusal}
 use Rattle.calculus.specs.Terms.{termRefusal, termsRefusal}
 use Rattle.calculus.specs.Inputs.{inputRefusal, inputsRefusal}
 use Rattle.calculus.specs.Steps as Steps
-use Rattle.calculus.specs.Steps.{State, Answer, allowed, refuted, refused, answer, step, kindOf, stepBy, stepAt}
+use Rattle.calculus.specs.Steps.{State, Answer, allowed, refuted, refused, answer, shaped, ready, known, rowRefusal, step, kindOf, stepBy, stepAt}
 use Rattle.calculus.specs.Run.{Ending, follow, run, start, callRefusal, endingOf, ending, outcome}
-use Rattle.calculus.specs.Blame.{Between, OfStep, NoneOr, Blame}
-use Rattle.calculus.proofs.Facts.{both-true}
+use Rattle.calculus.specs.Blame.{numbersOf, Between, OfStep, NoneOr, Blame}
+use Rattle.calculus.proofs.Facts.{both-true, all-at, has-at}
 
 -- ---- numbers of a group
 
@@ -72,68 +72,92 @@ inputs-blame ts is =
 
 -- ---- the steps
 
--- what a step's answer may be refused with
-abbrev StepBlame : Answer → Type 0
-StepBlame (allowed s) = Unit {0}
-StepBlame refuted = Unit {0}
-StepBlame (refused c) = OfStep c
+-- what a step of a kind may be refused with
+abbrev StepBlame : Kind → Answer → Type 0
+StepBlame k (allowed s) = Unit {0}
+StepBlame k refuted = Unit {0}
+StepBlame k (refused c) = OfStep k c
 
--- a test of the numbers 9 to 23, and that of 26
-ask : (b : Bool) (c : ℕ) {rest : ℕ} → (leb 9 c && leb c 23) ≡ true → NoneOr OfStep rest → NoneOr OfStep (unless b c rest)
-ask b c e r = one-of OfStep b (inl (between 9 23 c e)) r
+module _ (k : Kind) where
+  ask : (b : Bool) (c : ℕ) {rest : ℕ} → OfStep k c → NoneOr (OfStep k) rest → NoneOr (OfStep k) (unless b c rest)
+  ask b c g r = one-of (OfStep k) b g r
 
-ask-26 : (b : Bool) → NoneOr OfStep (unless b 26 0)
-ask-26 b = one-of OfStep b (inr refl) (none OfStep)
+  no-trouble : NoneOr (OfStep k) 0
+  no-trouble = none (OfStep k)
 
-no-trouble : NoneOr OfStep 0
-no-trouble = none OfStep
+  answered : (n : ℕ) (a : Answer) → NoneOr (OfStep k) n → StepBlame k a → StepBlame k (answer n a)
+  unfolding answer
+  answered zero a h b = b
+  answered (suc c) a h b = h (λ z. absurd (omega (arith, z)))
 
-answered : (n : ℕ) (a : Answer) → NoneOr OfStep n → StepBlame a → StepBlame (answer n a)
-unfolding answer
-answered zero a h k = k
-answered (suc c) a h k = h (λ z. absurd (omega (arith, z)))
+  -- the tests that all steps have
+  row-blame : (a b c : Bool) → OfStep k 9 → OfStep k 10 → OfStep k 11 → NoneOr (OfStep k) (unless a 9 (unless b 10 (unless c 11 0)))
+  row-blame a b c nine ten eleven = ask a 9 nine (ask b 10 ten (ask c 11 eleven no-trouble))
 
 module _ (ts : List ℕ) where
-  by-blame : (k : Kind) (s : State) (x : Step) → StepBlame (stepBy ts k s x)
+  by-blame : (k : Kind) (s : State) (x : Step) → StepBlame k (stepBy ts k s x)
   unfolding stepBy Steps.decide Steps.decideRefusal Steps.inferenceRefusal Steps.deduce Steps.deduceRefusal Steps.contradictionRefusal Steps.clash Steps.clashRefusal Steps.fail Steps.failRefusal Steps.resolve Steps.resolveRefusal Steps.clear Steps.clearRefusal Steps.jump Steps.jumpRefusal Steps.flip Steps.flipRefusal
-  by-blame Decide s x = answered _ _ (ask _ 22 refl (ask _ 14 refl no-trouble)) tt
-  by-blame Deduce s x = answered _ _ (ask _ 22 refl (ask _ 12 refl (ask _ 13 refl (ask _ 14 refl (ask _ 15 refl no-trouble))))) tt
-  by-blame Clash s x = answered _ _ (ask _ 22 refl (ask _ 12 refl (ask _ 13 refl (ask _ 16 refl (ask-26 _))))) tt
-  by-blame Resolve s x = answered _ _ (ask _ 17 refl (ask _ 18 refl (ask _ 19 refl no-trouble))) tt
-  by-blame Clear s x = answered _ _ (ask _ 17 refl (ask _ 20 refl (ask _ 21 refl no-trouble))) tt
-  by-blame Jump s x = answered _ _ (ask _ 17 refl (ask _ 22 refl (ask _ 21 refl no-trouble))) tt
-  by-blame Flip s x = answered _ _ (ask _ 17 refl (ask _ 22 refl (ask _ 18 refl (ask _ 23 refl no-trouble)))) tt
-  by-blame Fail s x = answered _ _ (ask _ 22 refl (ask _ 12 refl (ask _ 13 refl (ask _ 16 refl (ask-26 _))))) tt
-  by-blame Unlisted s x = inl (between 9 23 9 refl)
+  by-blame Decide s x = answered Decide _ _ (ask Decide _ 22 tt (ask Decide _ 14 tt (no-trouble Decide))) tt
+  by-blame Deduce s x =
+      answered Deduce _ _
+      (ask Deduce _ 22 tt (ask Deduce _ 12 tt (ask Deduce _ 13 tt (ask Deduce _ 14 tt (ask Deduce _ 15 tt (no-trouble Deduce)))))) tt
+  by-blame Clash s x =
+      answered Clash _ _
+      (ask Clash _ 22 tt (ask Clash _ 12 tt (ask Clash _ 13 tt (ask Clash _ 16 tt (ask Clash _ 26 tt (no-trouble Clash)))))) tt
+  by-blame Resolve s x = answered Resolve _ _ (ask Resolve _ 17 tt (ask Resolve _ 18 tt (ask Resolve _ 19 tt (no-trouble Resolve)))) tt
+  by-blame Clear s x = answered Clear _ _ (ask Clear _ 17 tt (ask Clear _ 20 tt (ask Clear _ 21 tt (no-trouble Clear)))) tt
+  by-blame Jump s x = answered Jump _ _ (ask Jump _ 17 tt (ask Jump _ 22 tt (ask Jump _ 21 tt (no-trouble Jump)))) tt
+  by-blame Flip s x =
+      answered Flip _ _ (ask Flip _ 17 tt (ask Flip _ 22 tt (ask Flip _ 18 tt (ask Flip _ 23 tt (no-trouble Flip))))) tt
+  by-blame Fail s x =
+      answered Fail _ _ (ask Fail _ 22 tt (ask Fail _ 12 tt (ask Fail _ 13 tt (ask Fail _ 16 tt (ask Fail _ 26 tt (no-trouble Fail)))))) tt
+  by-blame Unlisted s x = tt
 
-  step-blame : (s : State) (x : Step) → StepBlame (step ts s x)
-  unfolding step Steps.rowRefusal
-  step-blame s x = answered _ _ (ask _ 9 refl (ask _ 10 refl (ask _ 11 refl no-trouble))) (by-blame (kindOf (x .step)) s x)
+  -- an unlisted step passes no test
+  unlisted-blame : (x : Step) (rest : ℕ) → NoneOr (OfStep Unlisted) (unless (shaped x Unlisted) 9 rest)
+  unfolding unless shaped
+  unlisted-blame x rest = λ z. tt
+
+  guards-blame : (k : Kind) (s : State) (x : Step) → NoneOr (OfStep k) (unless (shaped x k) 9 (unless (ready s k) 10 (unless (known ts x) 11 0)))
+  guards-blame Decide s x = row-blame Decide _ _ _ tt tt tt
+  guards-blame Deduce s x = row-blame Deduce _ _ _ tt tt tt
+  guards-blame Clash s x = row-blame Clash _ _ _ tt tt tt
+  guards-blame Resolve s x = row-blame Resolve _ _ _ tt tt tt
+  guards-blame Clear s x = row-blame Clear _ _ _ tt tt tt
+  guards-blame Jump s x = row-blame Jump _ _ _ tt tt tt
+  guards-blame Flip s x = row-blame Flip _ _ _ tt tt tt
+  guards-blame Fail s x = row-blame Fail _ _ _ tt tt tt
+  guards-blame Unlisted s x = unlisted-blame x _
+
+  step-blame : (s : State) (x : Step) → StepBlame (kindOf (x .step)) (step ts s x)
+  unfolding step rowRefusal
+  step-blame s x = answered _ _ _ (guards-blame (kindOf (x .step)) s x) (by-blame (kindOf (x .step)) s x)
 
 -- ---- the run
 
--- a run's number is a step's, and that step is one of the k ahead of n
-abbrev EndBlame : Ending → ℕ → Type 0
-EndBlame e end = (e .number ≡ 0 → ⊥) → OfStep (e .number) × (e .steps < end)
+module _ (ts log : List ℕ) where
+  -- a run's number is that of the step behind those that were allowed, and that step is one of those before the end
+  abbrev EndBlame : Ending → ℕ → Type 0
+  EndBlame e end = (e .number ≡ 0 → ⊥) → OfStep (kindOf (stepAt log (e .steps) .step)) (e .number) × (e .steps < end)
 
-follow-blame : (go : State → Ending) (s : State) (n end : ℕ) (a : Answer) → StepBlame a → n < end → ((s′ : State) → EndBlame (go s′) end)
-    → EndBlame (follow go s n a) end
-unfolding follow
-follow-blame go s n end (allowed s′) h l k = k s′
-follow-blame go s n end refuted h l k = λ z. absurd (z refl)
-follow-blame go s n end (refused c) h l k = λ z. (h, l)
+  follow-blame : (go : State → Ending) (s : State) (n end : ℕ) (a : Answer) → StepBlame (kindOf (stepAt log n .step)) a → n < end
+      → ((s′ : State) → EndBlame (go s′) end) → EndBlame (follow go s n a) end
+  unfolding follow
+  follow-blame go s n end (allowed s′) h l k = k s′
+  follow-blame go s n end refuted h l k = λ z. absurd (z refl)
+  follow-blame go s n end (refused c) h l k = λ z. (h, l)
 
-run-blame : (ts log : List ℕ) (s : State) (n k : ℕ) → EndBlame (run ts log s n k) (n + k)
-unfolding run
-run-blame ts log s n zero = λ z. absurd (z refl)
-run-blame ts log s n (suc k) =
-    let e : n + suc k ≡ suc n + k = omega arith in
-    follow-blame _ s n (n + suc k) _ (step-blame ts s (stepAt log n)) (omega arith) (λ s′. rw e (run-blame ts log s′ (suc n) k))
+  run-blame : (s : State) (n k : ℕ) → EndBlame (run ts log s n k) (n + k)
+  unfolding run
+  run-blame s n zero = λ z. absurd (z refl)
+  run-blame s n (suc k) =
+      let e : n + suc k ≡ suc n + k = omega arith in
+      follow-blame _ s n (n + suc k) _ (step-blame ts s (stepAt log n)) (omega arith) (λ s′. rw e (run-blame s′ (suc n) k))
 
 -- ---- the call
 
 module _ (x : Call) (ok : callRefusal x ≡ 0) where
-  ended : EndBlame (ending x) (stepRows (x .steps))
+  ended : EndBlame (x .terms) (x .steps) (ending x) (stepRows (x .steps))
   unfolding ending endingOf
   ended =
       let e : 0 + stepRows (x .steps) ≡ stepRows (x .steps) = omega arith in
@@ -150,3 +174,18 @@ blame x =
       log = λ ok z. ended x ok z .0;
       row = λ ok z. ended x ok z .1;
     }
+
+-- a number of a step is 9 or more
+pub from-9 : (k : Kind) (n : ℕ) → OfStep k n → 9 ≤ n
+from-9 k n h = leb→le 9 n (all-at (leb 9) (numbersOf k) (least k) (has-at (numbersOf k) h))
+  where
+    least : (k : Kind) → T (all (leb 9) (numbersOf k))
+    least Decide = tt
+    least Deduce = tt
+    least Clash = tt
+    least Resolve = tt
+    least Clear = tt
+    least Jump = tt
+    least Flip = tt
+    least Fail = tt
+    least Unlisted = tt

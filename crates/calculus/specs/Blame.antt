@@ -1,19 +1,36 @@
--- Who can cause which number: the four groups of document 01.
+-- Who can cause which number: the four groups of document 01, and of the log's author by the step.
 use mathlib.Core.Path.{_≡_}
-use mathlib.Core.Logic.{_⊎_}
+use mathlib.Core.List.{List, [], _∷_}
 use Prim.Native.Nat.{ℕ, _≤_, _<_}
+use lib.Dec.{T}
+use Rattle.calculus.specs.declared.Kind.{Kind}
+use Rattle.calculus.specs.declared.Kind.the-variants.{Decide, Deduce, Clash, Resolve, Clear, Jump, Flip, Fail, Unlisted}
+use Rattle.calculus.specs.Lists.{has}
 use Rattle.calculus.specs.Sheets.{Call, stepRows, lengthRefusal}
 use Rattle.calculus.specs.Sorts.{sortsRefusal}
 use Rattle.calculus.specs.Terms.{termsRefusal}
 use Rattle.calculus.specs.Inputs.{inputsRefusal}
+use Rattle.calculus.specs.Steps.{stepAt, kindOf}
 use Rattle.calculus.specs.Run.{callRefusal, outcome}
 
+-- the numbers that a step can get, in the order of its tests
+abbrev pub numbersOf : Kind → List ℕ
+numbersOf Decide = 9 ∷ 10 ∷ 11 ∷ 22 ∷ 14 ∷ []
+numbersOf Deduce = 9 ∷ 10 ∷ 11 ∷ 22 ∷ 12 ∷ 13 ∷ 14 ∷ 15 ∷ []
+numbersOf Clash = 9 ∷ 10 ∷ 11 ∷ 22 ∷ 12 ∷ 13 ∷ 16 ∷ 26 ∷ []
+numbersOf Resolve = 9 ∷ 10 ∷ 11 ∷ 17 ∷ 18 ∷ 19 ∷ []
+numbersOf Clear = 9 ∷ 10 ∷ 11 ∷ 17 ∷ 20 ∷ 21 ∷ []
+numbersOf Jump = 9 ∷ 10 ∷ 11 ∷ 17 ∷ 22 ∷ 21 ∷ []
+numbersOf Flip = 9 ∷ 10 ∷ 11 ∷ 17 ∷ 22 ∷ 18 ∷ 23 ∷ []
+numbersOf Fail = 9 ∷ 10 ∷ 11 ∷ 22 ∷ 12 ∷ 13 ∷ 16 ∷ 26 ∷ []
+numbersOf Unlisted = 9 ∷ []
+
+-- the groups
 abbrev pub Between : ℕ → ℕ → ℕ → Type 0
 Between low high n = (low ≤ n) × (n ≤ high)
 
--- the numbers of a step row
-abbrev pub OfStep : ℕ → Type 0
-OfStep n = Between 9 23 n ⊎ (n ≡ 26)
+abbrev pub OfStep : Kind → ℕ → Type 0
+OfStep k n = T (has (numbersOf k) n)
 
 -- no trouble, or a number of a group
 abbrev pub NoneOr : (ℕ → Type 0) → ℕ → Type 0
@@ -27,6 +44,6 @@ pub record Blame (x : Call) : Type 0 where
   pub terms : NoneOr (Between 3 5) (termsRefusal (x .sorts) (x .terms))
   -- whoever states the input
   pub inputs : NoneOr (Between 6 8) (inputsRefusal (x .terms) (x .inputs))
-  -- the log's author, by a row of the step sheet
-  pub log : callRefusal x ≡ 0 → NoneOr OfStep (outcome x .number)
+  -- the log's author, by the row behind those that were allowed
+  pub log : callRefusal x ≡ 0 → NoneOr (OfStep (kindOf (stepAt (x .steps) (outcome x .steps) .step))) (outcome x .number)
   pub row : callRefusal x ≡ 0 → (outcome x .number ≡ 0 → ⊥) → outcome x .steps < stepRows (x .steps)
