@@ -165,8 +165,8 @@ fn run(text: &[u8]) {
 // The rows of the table.
 fn table() {
     run(b"nothing given//");
-    run(b"clash at level 0/2150/29512....");
-    run(b"opposite absent/21/29512....");
+    run(b"fail/2150/79512....");
+    run(b"opposite absent/21/79512....");
     run(b"jump over a decision/50/0.21.....29512....5.2......");
     run(b"decided twice//0.07.....0.07.....");
     run(b"resolve in search//3.0......");
@@ -177,6 +177,9 @@ fn table() {
     run(b"unit/7120/175172...");
     run(b"e given 2/22/0.07.....");
     run(b"e given twice/2121/0.07.....");
+    run(b"clash at level 0/2150/29512....");
+    run(b"fail above level 0/50/0.21.....79512....");
+    run(b"fail after a jump/5060/0.21.....29512....5.2......75216....29512....");
 }
 
 // ---- ceilings

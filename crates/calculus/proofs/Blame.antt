@@ -175,8 +175,8 @@ blame x =
       row = λ ok z. ended x ok z .1;
     }
 
--- a number of a step is 9 or more
-pub from-9 : (k : Kind) (n : ℕ) → OfStep k n → 9 ≤ n
+-- a step's number is 9 or more
+from-9 : (k : Kind) (n : ℕ) → OfStep k n → 9 ≤ n
 from-9 k n h = leb→le 9 n (all-at (leb 9) (numbersOf k) (least k) (has-at (numbersOf k) h))
   where
     least : (k : Kind) → T (all (leb 9) (numbersOf k))
@@ -189,3 +189,6 @@ from-9 k n h = leb→le 9 n (all-at (leb 9) (numbersOf k) (least k) (has-at (num
     least Flip = tt
     least Fail = tt
     least Unlisted = tt
+
+pub log-from-9 : (x : Call) → callRefusal x ≡ 0 → (outcome x .number ≡ 0 → ⊥) → 9 ≤ outcome x .number
+log-from-9 x ok bad = from-9 (kindOf (stepAt (x .steps) (outcome x .steps) .step)) (outcome x .number) (blame x .log ok bad)

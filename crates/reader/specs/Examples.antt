@@ -62,7 +62,7 @@ listing : List ℕ
 listing =
     bytes "sort index value\nS - -\n\nterm head sort a b c d\na A S - - - -\nb B S - - - -\ne eq prop a b - -\n"
     ++ bytes "fa F S a - - -\nfb F S b - - -\ng eq prop fa fb - -\n\nterm value\ne true\ng false\n\n"
-    ++ bytes "step rule term value p q r s t\nclash cong g true e - - - -\n"
+    ++ bytes "step rule term value p q r s t\nfail cong g true e - - - -\n"
 
 -- as many sorts as there can be
 sorts32 : List ℕ
@@ -84,7 +84,7 @@ table =
                 16 ∷ 1 ∷ 65535 ∷ 65535 ∷ 65535 ∷ 65535 ∷ 17 ∷ 1 ∷ 65535 ∷ 65535 ∷ 65535 ∷ 65535 ∷ 0 ∷ 0 ∷ 0 ∷ 1 ∷ 65535 ∷ 65535
                 ∷ 18 ∷ 1 ∷ 0 ∷ 65535 ∷ 65535 ∷ 65535 ∷ 18 ∷ 1 ∷ 1 ∷ 65535 ∷ 65535 ∷ 65535 ∷ 0 ∷ 0 ∷ 3 ∷ 4 ∷ 65535 ∷ 65535 ∷ 0 ∷ 0 ∷ [];
             inputs = 2 ∷ 1 ∷ 5 ∷ 0 ∷ [];
-            steps = 2 ∷ 9 ∷ 5 ∷ 1 ∷ 2 ∷ 65535 ∷ 65535 ∷ 65535 ∷ 65535 ∷ [];
+            steps = 7 ∷ 9 ∷ 5 ∷ 1 ∷ 2 ∷ 65535 ∷ 65535 ∷ 65535 ∷ 65535 ∷ [];
           };
     }
     -- the shortest file: four headers, no rows (a good one, so its sheets are zeros too)

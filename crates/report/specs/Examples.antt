@@ -8,7 +8,7 @@ use Rattle.text_faults.specs.Why.{whyNumber}
 use Rattle.text_faults.specs.declared.Why.{Why}
 use Rattle.text_faults.specs.declared.Why.the-variants.{Fine, Mark, Name, Cut}
 use Rattle.report.specs.Printed.{digitsOf, decimal, verdictWord, numberField, printed}
-use Rattle.report.specs.Words.{meaning, cause}
+use Rattle.report.specs.Words.{meaning, failMeant, clashMeant, cause}
 use Rattle.report.specs.Complaint.{fieldPart, wherePart, whatPart, whyPart, complained}
 
 -- what is printed, and what it should be
@@ -21,10 +21,13 @@ result : ℕ → ℕ → ℕ → ℕ → String → Example
 result verdict steps number entries s =
     record { said = printed (record { verdict = verdict; steps = steps; number = number; entries = entries }); text = bytes s }
 
--- a complaint: line, field, number and cause
+-- a complaint: line, field, number and the cause's number
+caused : ℕ → ℕ → ℕ → ℕ → String → Example
+caused line field number why s = record { said = complained (record { number = number; line = line; field = field; why = why }); text = bytes s }
+
+-- the same of a text that is malformed
 complaint : ℕ → ℕ → ℕ → Why → String → Example
-complaint line field number why s =
-    record { said = complained (record { number = number; line = line; field = field; why = whyNumber why }); text = bytes s }
+complaint line field number why s = caused line field number (whyNumber why) s
 
 -- each with its text
 pub table : List Example
@@ -44,6 +47,9 @@ table =
     ∷ complaint 3 1 2 Fine "line 3, field 1: 2 a name is repeated or reserved\n"
     -- a line alone
     ∷ complaint 9 0 13 Fine "line 9: 13 the rule does not fit\n"
+    -- the line that was meant
+    ∷ caused 18 0 26 failMeant "line 18: 26 fail is the line at level 0, clash the one above it: fail was meant\n"
+    ∷ caused 18 0 26 clashMeant "line 18: 26 fail is the line at level 0, clash the one above it: clash was meant\n"
     -- no line, and then no field either
     ∷ complaint 0 0 32 Fine "32 a lent buffer is short\n"
     ∷ complaint 0 7 30 Fine "30 above a ceiling\n"
@@ -56,5 +62,5 @@ table =
 
 -- each is printed as its text
 pub texts : map (λ (e : Example). e .said) table ≡ map (λ (e : Example). e .text) table
-unfolding table result complaint printed verdictWord numberField digitsOf decimal complained fieldPart wherePart whatPart whyPart meaning cause
+unfolding table result caused complaint printed verdictWord numberField digitsOf decimal complained fieldPart wherePart whatPart whyPart meaning cause
 texts = refl

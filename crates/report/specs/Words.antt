@@ -1,4 +1,4 @@
--- The words for a person: what every number of a refusal means, and what makes a text malformed.
+-- The words for a person: what every number of a refusal means, what makes a text malformed, and which line was meant.
 use Prim.Native.Nat.{ℕ}
 use Prim.Native.String.{String}
 use mathlib.Core.List.{List, [], _∷_}
@@ -51,6 +51,7 @@ meanings =
     ∷ means 21 "its level is not above the rest"
     ∷ means 22 "the term's sort is wrong for the step, or the value does not suit it"
     ∷ means 23 "no shared decision"
+    ∷ means 26 "fail is the line at level 0, clash the one above it"
     ∷ means 30 "above a ceiling"
     ∷ means 31 "malformed"
     ∷ means 32 "a lent buffer is short"
@@ -60,7 +61,14 @@ meanings =
 unfoldable pub meaning : ℕ → List ℕ
 meaning n = wordsOf meanings n
 
--- the causes of 31 in a text
+-- the causes of 26, behind those of 31: the line that was meant
+abbrev pub failMeant : ℕ
+failMeant = 12
+
+abbrev pub clashMeant : ℕ
+clashMeant = 13
+
+-- the causes of 31 in a text, and those of 26
 abbrev pub causes : List Meaning
 causes =
     because Mark "a byte order mark stands before the header"
@@ -74,6 +82,8 @@ causes =
     ∷ because Value "neither true, false, - nor a number up to 65534 without leading zeros"
     ∷ because Early "the text ends before the header of the step sheet"
     ∷ because Cut "the last line has no newline"
+    ∷ means failMeant "fail was meant"
+    ∷ means clashMeant "clash was meant"
     ∷ []
 
 -- what the number of a cause means; nothing for that of `Fine`

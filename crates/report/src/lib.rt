@@ -9,8 +9,12 @@ ghost use Rattle.report.specs.Words.{meaning, cause};
 ghost use Rattle.report.specs.Complaint.{fieldPart, wherePart, whatPart, whyPart, complained};
 use calculus::Outcome;
 
+// The causes of 26, behind those that make a text malformed.
+pub const FAIL_MEANT: u16 = 12;
+pub const CLASH_MEANT: u16 = 13;
+
 // What is wrong with a text or a call: the number of the refusal or 0, the line or 0, its field or 0, and the number of the
-// cause that makes a text malformed or 0.
+// cause or 0: what makes a text malformed, or which line was meant.
 pub struct Complaint {
     pub number: u16,
     pub line: u64,
@@ -173,7 +177,9 @@ fn put_meaning(n: u16, at: usize, out: &mut [u8]) -> usize
         its level is not above the rest\n\
         the term's sort is wrong for the step, or the value does not suit it\n\
         no shared decision\n\
-        \n\n\n\n\n\n\
+        \n\n\
+        fail is the line at level 0, clash the one above it\n\
+        \n\n\n\
         above a ceiling\n\
         malformed\n\
         a lent buffer is short";
@@ -206,11 +212,13 @@ fn put_cause(n: u16, at: usize, out: &mut [u8]) -> usize
         a name of more than 64 bytes\n\
         neither true, false, - nor a number up to 65534 without leading zeros\n\
         the text ends before the header of the step sheet\n\
-        the last line has no newline";
+        the last line has no newline\n\
+        fail was meant\n\
+        clash was meant";
     put(line(table, n as usize), at, out)
 }
 
-// Stores why a text is malformed.
+// Stores the cause, where there is one.
 fn put_why(why: u16, at: usize, out: &mut [u8]) -> usize
     requires { ⌜ at ≤ 1536 ⌝ }
     ensures { λ r. ⌜ Put 1026 (whyPart why) at r (now (out .entry)) (now (out .exit)) ⌝ }

@@ -7,14 +7,15 @@ use native.Mathlib.Omega.{arith}
 use native.Mathlib.Numerals.{add-one}
 use lib.Dec.{eqb}
 use borrow.Author.Tests.{eq-eqb, ne-eqb, lt-ltb, le-ltb}
-use lib.ListN.{take}
+use lib.ListN.{take, getD}
 use Rattle.calculus.specs.declared.Outcome.{Outcome}
 use Rattle.calculus.specs.Run.{outcome}
 use Rattle.text_lines.specs.declared.Sheet.{Sheet}
 use Rattle.text_lines.specs.declared.Sheet.the-variants.{Sorts, Terms, Inputs, Steps}
 use Rattle.reader.specs.Places.{rowLine}
+use Rattle.report.specs.Words.{failMeant, clashMeant}
 use Rattle.verdict.specs.Verdict.{callWith}
-use Rattle.verdict.specs.Fault.{sheetOf, cutCall, cutRefused, firstRefused, refusedRow, rowIn, lineOf}
+use Rattle.verdict.specs.Fault.{sheetOf, cutCall, cutRefused, firstRefused, refusedRow, rowIn, lineOf, lineMeant}
 
 -- sheets cut behind the first k rows of one of them
 module _ {sheet : Sheet} (k : ℕ) (a b c : List ℕ) {r : Outcome} (none : List ℕ) (none-is : none ≡ take 0 a) where
@@ -99,3 +100,18 @@ module _ (o : Outcome) (a b c : ℕ) (sorts terms inputs : List ℕ) where
       → (sheet : Sheet) → sheet ≡ sheetOf (o .number) → {l : ℕ} → l ≡ rowLine sheet a b c row → l ≡ lineOf o a b c sorts terms inputs
   unfolding lineOf
   line-some e row is sheet sheet-is l-is = l-is ∙ rw (ne-eqb (o .number) 0 e, sheet-is, is)
+
+-- the line that was meant, by the refused row's step column
+module _ (o : Outcome) (steps : List ℕ) where
+  pub meant-none : (o .number ≡ 26 → ⊥) → 0 ≡ lineMeant o steps
+  unfolding lineMeant
+  meant-none h = rw (ne-eqb (o .number) 26 h)
+
+  module _ (n : o .number ≡ 26) {k : ℕ} (k-is : k ≡ getD steps (o .steps * 9) 0) where
+    pub meant-fail : k ≡ 2 → failMeant ≡ lineMeant o steps
+    unfolding lineMeant
+    meant-fail e = rw (n, sym k-is ∙ e)
+
+    pub meant-clash : (k ≡ 2 → ⊥) → clashMeant ≡ lineMeant o steps
+    unfolding lineMeant
+    meant-clash h = rw (n, ne-eqb _ 2 (λ z. h (k-is ∙ z)))

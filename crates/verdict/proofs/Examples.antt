@@ -25,7 +25,7 @@ use Rattle.report.specs.Printed.{digitsOf, decimal, verdictWord, numberField}
 use Rattle.report.specs.Words.{meaning, cause}
 use Rattle.report.specs.Complaint.{fieldPart, wherePart, whatPart, whyPart, complained}
 use Rattle.verdict.specs.Verdict.{verdictOf}
-use Rattle.verdict.specs.Fault.{cutRefused, refusedRow, lineOf, complaintOf}
+use Rattle.verdict.specs.Fault.{cutRefused, refusedRow, lineOf, lineMeant, complaintOf}
 
 -- what is printed, and what a person is told
 pub record Seen : Type 0 where
@@ -62,12 +62,17 @@ log input rows = board ++ bytes input ++ steps ++ bytes rows
 pub table : List Example
 table =
     -- document 01's listing
-    example (log "e true\ng false\n" "clash cong g true e - - - -\n") "refuted 1 0 2\n" ""
+    example (log "e true\ng false\n" "fail cong g true e - - - -\n") "refuted 1 0 2\n" ""
     -- no steps
     ∷ example (log "e true\n" "") "open 0 0 1\n" ""
     -- the second step is refused: there is no conflict to resolve in
     ∷ example (log "g false\n" "decide - e true - - - - -\nresolve - e - - - - - -\n") "refused 1 10 2\n"
     "line 17: 10 wrong state for the step\n"
+    -- clash at level 0, fail above it
+    ∷ example (log "e true\ng false\n" "clash cong g true e - - - -\n") "refused 0 26 2\n"
+    "line 17: 26 fail is the line at level 0, clash the one above it: fail was meant\n"
+    ∷ example (log "g false\n" "decide - e true - - - - -\nfail cong g true e - - - -\n") "refused 1 26 2\n"
+    "line 17: 26 fail is the line at level 0, clash the one above it: clash was meant\n"
     -- an input row: a prop has no value 2
     ∷ example (log "g false\ne 2\n" "") "refused 0 7 0\n" "line 14: 7 a value that the term cannot have\n"
     -- a term row whose argument stands below, and a sort row that names itself
@@ -76,10 +81,10 @@ table =
     ∷ example (bytes "sort index value\nS - -\nT S T\n\nterm head sort a b c d\n\nterm value\n" ++ steps) "refused 0 1 0\n"
     "line 3: 1 a sort row breaks the rule for sorts\n"
     -- not read: the last line has no newline
-    ∷ example (log "e true\n" "clash cong g true e - - - -") "refused 0 31 0\n"
+    ∷ example (log "e true\n" "fail cong g true e - - - -") "refused 0 31 0\n"
     "line 16: 31 malformed: the last line has no newline\n"
     ∷ []
 
 pub answers : map (λ (e : Example). seen (e .text)) table ≡ map (λ (e : Example). e .seen) table
-unfolding table example board steps log Lists.firstWhere Numbers.unless Numbers.orElse Numbers.firstRefusal Sheets.lengthRefusal Sorts.isArray Sorts.isPlain Sorts.sortRefusal Sorts.sortsRefusal Terms.cells Terms.args Terms.arg Terms.earlier Terms.sameUse Terms.firstUse Terms.suits Terms.twins Terms.fresh Terms.termRefusal Terms.termsRefusal Trail.on Trail.entry Trail.holds Trail.levelOf Trail.keptTo Trail.trailNumbersOf Inputs.inputTrail Inputs.inputRefusal Inputs.inputsRefusal Rules.ruleOf Rules.bare Rules.single Rules.double Rules.leading Rules.unitAt Rules.fits Steps.answer Steps.premises Steps.kindOf Steps.shaped Steps.ready Steps.known Steps.decideRefusal Steps.decide Steps.inferenceRefusal Steps.deduceRefusal Steps.deduce Steps.contradictionRefusal Steps.clashRefusal Steps.clash Steps.failRefusal Steps.fail Steps.resolveRefusal Steps.resolve Steps.clearRefusal Steps.clear Steps.jumpRefusal Steps.jump Steps.flipRefusal Steps.flip Steps.rowRefusal Steps.stepBy Steps.step Run.follow Run.run Run.sheetsRefusal Run.callRefusal Run.endingOf Run.ending Run.outcome refOf shapeOf isTaken headOf sortRow termRow inputRow stepRow headerWhy rowWhy readLine lineEffect lineStep textState textFault digitsOf decimal verdictWord numberField Printed.printed meaning cause fieldPart wherePart whatPart whyPart complained verdictOf cutRefused refusedRow lineOf complaintOf
+unfolding table example board steps log Lists.firstWhere Numbers.unless Numbers.orElse Numbers.firstRefusal Sheets.lengthRefusal Sorts.isArray Sorts.isPlain Sorts.sortRefusal Sorts.sortsRefusal Terms.cells Terms.args Terms.arg Terms.earlier Terms.sameUse Terms.firstUse Terms.suits Terms.twins Terms.fresh Terms.termRefusal Terms.termsRefusal Trail.on Trail.entry Trail.holds Trail.levelOf Trail.keptTo Trail.trailNumbersOf Inputs.inputTrail Inputs.inputRefusal Inputs.inputsRefusal Rules.ruleOf Rules.bare Rules.single Rules.double Rules.leading Rules.unitAt Rules.fits Steps.answer Steps.premises Steps.kindOf Steps.shaped Steps.ready Steps.known Steps.decideRefusal Steps.decide Steps.inferenceRefusal Steps.deduceRefusal Steps.deduce Steps.contradictionRefusal Steps.clashRefusal Steps.clash Steps.failRefusal Steps.fail Steps.resolveRefusal Steps.resolve Steps.clearRefusal Steps.clear Steps.jumpRefusal Steps.jump Steps.flipRefusal Steps.flip Steps.rowRefusal Steps.stepBy Steps.step Run.follow Run.run Run.sheetsRefusal Run.callRefusal Run.endingOf Run.ending Run.outcome refOf shapeOf isTaken headOf sortRow termRow inputRow stepRow headerWhy rowWhy readLine lineEffect lineStep textState textFault digitsOf decimal verdictWord numberField Printed.printed meaning cause fieldPart wherePart whatPart whyPart complained verdictOf cutRefused refusedRow lineOf lineMeant complaintOf
 answers = refl

@@ -14,7 +14,7 @@ use Rattle.calculus.specs.Sorts.{sortRefusal, sortsRefusal}
 use Rattle.calculus.specs.Terms.{termRefusal, termsRefusal}
 use Rattle.calculus.specs.Inputs.{inputRefusal, inputsRefusal}
 use Rattle.calculus.specs.Run.{sheetsRefusal, callRefusal, endingOf, ending, outcome}
-use Rattle.calculus.proofs.Blame.{blame}
+use Rattle.calculus.proofs.Blame.{blame, log-from-9}
 use Rattle.text_fields.specs.Split.{pick}
 use Rattle.text_rows.specs.Rows.{Kept}
 use Rattle.text_lines.specs.declared.Sheet.{Sheet}
@@ -208,9 +208,8 @@ module _ (bs : List ℕ) where
       in-steps : inputsRefusal (s .terms) (s .inputs) ≡ 0 → (o .number ≡ 0 → ⊥) → Found
       in-steps e bad =
           let ok = not-refused (s .sorts) (s .terms) (s .inputs) (s .steps) lengths sorts terms e in
-          let range = blame (callFrom s) .log ok bad in
           let at = blame (callFrom s) .row ok bad in
-          let l = range .0 in
+          let l = log-from-9 (callFrom s) ok bad in
           let sheet = sym (sheet-steps (o .number) (omega (arith, l)) (omega (arith, l)) l) in
           rw sheet (omega (arith, at, steps-are))
 

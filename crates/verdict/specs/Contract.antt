@@ -11,7 +11,7 @@ use Rattle.reader.specs.Text.{textState, textNumber, textSheet}
 use Rattle.reader.specs.declared.ReadOutcome.{ReadOutcome}
 use Rattle.verdict.specs.declared.Answer.{Answer}
 use Rattle.verdict.specs.Verdict.{most, callWith, unread, verdictOf}
-use Rattle.verdict.specs.Fault.{lineOf, complaintOf}
+use Rattle.verdict.specs.Fault.{lineOf, lineMeant, complaintOf}
 
 -- of a text that is not read, by what the reader returns
 abbrev pub unreadAnswer : ReadOutcome → Answer
@@ -22,7 +22,10 @@ unreadAnswer r =
 abbrev pub runAnswer : ℕ → ℕ → ℕ → List ℕ → List ℕ → List ℕ → List ℕ → Answer
 runAnswer a b c sorts terms inputs steps =
     let o = outcome (callWith sorts terms inputs steps) in
-    record { outcome = o; complaint = record { number = o .number; line = lineOf o a b c sorts terms inputs; field = 0; why = 0 } }
+    record {
+      outcome = o;
+      complaint = record { number = o .number; line = lineOf o a b c sorts terms inputs; field = 0; why = lineMeant o steps };
+    }
 
 -- the result of a text, and what a person is told of it
 unfoldable pub answerOf : List ℕ → Answer

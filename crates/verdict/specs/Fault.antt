@@ -7,6 +7,7 @@ use lib.Dec.{eqb, ltb}
 use lib.ListN.{length, take}
 use Rattle.calculus.specs.declared.Outcome.{Outcome}
 use Rattle.calculus.specs.Sheets.{Call}
+use Rattle.calculus.specs.Steps.{stepAt}
 use Rattle.calculus.specs.Run.{outcome}
 use Rattle.text_fields.specs.Split.{pick}
 use Rattle.text_faults.specs.Why.{whyNumber}
@@ -15,6 +16,7 @@ use Rattle.text_lines.specs.declared.Sheet.the-variants.{Sorts, Terms, Inputs, 
 use Rattle.reader.specs.Text.{State, textState, textFault}
 use Rattle.reader.specs.Places.{rowLine, rowsIn}
 use Rattle.report.specs.declared.Complaint.{Complaint}
+use Rattle.report.specs.Words.{failMeant, clashMeant}
 use Rattle.verdict.specs.Verdict.{callWith, callFrom}
 
 -- the sheet that a number of the run is about: 1; 3 to 5; 6 to 8; 9 and more
@@ -58,9 +60,14 @@ faultLine o s =
     let k = s .control .kept in
     lineOf o (length (k .sorts)) (length (k .terms)) (k .inputs) (s .sorts) (s .terms) (s .inputs)
 
+-- the line that was meant where the level is the other line's: fail for a clash row (step 2), clash for a fail row; no other row gets 26 (`Blame`,
+-- crate `calculus`)
+unfoldable pub lineMeant : Outcome → List ℕ → ℕ
+lineMeant o steps = pick (eqb (o .number) 26) (pick (eqb (stepAt steps (o .steps) .step) 2) failMeant clashMeant) 0
+
 -- what is told of a run
 abbrev pub runComplaint : Outcome → State → Complaint
-runComplaint o s = record { number = o .number; line = faultLine o s; field = 0; why = 0 }
+runComplaint o s = record { number = o .number; line = faultLine o s; field = 0; why = lineMeant o (s .steps) }
 
 -- what is told of a text that is not read
 abbrev pub readComplaint : List ℕ → Complaint

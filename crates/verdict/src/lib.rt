@@ -10,11 +10,13 @@ ghost use Rattle.reader.specs.Text.{TextRead};
 ghost use Rattle.reader.specs.Stream.{fedPieces, joined, zeroSheets};
 ghost use Rattle.reader.specs.Places.{rowLine};
 ghost use Rattle.verdict.specs.Verdict.{most, callWith};
-ghost use Rattle.verdict.specs.Fault.{sheetOf, cutCall, cutRefused, refusedRow, rowIn, lineOf};
+ghost use Rattle.verdict.specs.Fault.{sheetOf, cutCall, cutRefused, refusedRow, rowIn, lineOf, lineMeant};
 ghost use Rattle.verdict.specs.Contract.{unreadAnswer, runAnswer, answerOf, Concluded, Checked};
 use calculus::Outcome;
 use reader::ReadOutcome;
+use report::CLASH_MEANT;
 use report::Complaint;
+use report::FAIL_MEANT;
 use text_lines::Sheet;
 use text_stream::Progress;
 
@@ -135,6 +137,19 @@ fn fault_line(o: Outcome, r: ReadOutcome, sorts: &[u16], terms: &[u16], inputs: 
     row_line(sheet_of(o.number), r.sorts, r.terms, r.inputs, row)
 }
 
+// The line that was meant where the level is the other line's, 0 with any other number.
+fn line_meant(o: Outcome, steps: &[u16]) -> u16
+    ensures { λ r. ⌜ r ≡ lineMeant o (now (steps .entry)) ⌝ }
+{
+    if o.number != 26 {
+        return 0;
+    }
+    if rows::cell(steps, o.steps as usize * 9) == 2 {
+        return FAIL_MEANT;
+    }
+    CLASH_MEANT
+}
+
 // A text that was not read.
 fn unread_answer(r: ReadOutcome) -> Answer
     ensures { λ a. ⌜ a ≡ unreadAnswer r ⌝ }
@@ -157,13 +172,14 @@ fn run_answer(r: ReadOutcome, sorts: &[u16], terms: &[u16], inputs: &[u16], step
 {
     let o = run_rows(sorts, terms, inputs, steps);
     let line = fault_line(o, r, sorts, terms, inputs);
+    let why = line_meant(o, steps);
     Answer {
         outcome: o,
         complaint: Complaint {
             number: o.number,
             line,
             field: 0,
-            why: 0,
+            why,
         },
     }
 }
