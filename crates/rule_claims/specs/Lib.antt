@@ -1,2 +1,2 @@
--- What a deduce or clash row claims, as the rule tests take it.
+-- What a deduce, clash or fail row claims, as the rule tests take it.
 pub mod Claims

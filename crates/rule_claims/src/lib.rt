@@ -1,4 +1,4 @@
-// What a deduce or clash row claims, and what the thirteen rules share: how many premises there are, and the shape of a term.
+// What a deduce, clash or fail row claims, and what the thirteen rules share: how many premises there are, and the shape of a term.
 ghost use mathlib.Core.Path.{_≡_};
 ghost use mathlib.Core.Bool.{_&&_, not};
 ghost use lib.Dec.{eqb};
