@@ -19,7 +19,7 @@
 //! let g = log.term(Head::Eq, Sort::PROP, &[fa, fb]);
 //! log.input(e, 1);
 //! log.input(g, 0);
-//! log.clash(Rule::Cong, g, true, &[e]);
+//! log.fail(Rule::Cong, g, true, &[e]);
 //!
 //! let run = log.run();
 //! assert_eq!(run.outcome.verdict, Verdict::Refuted);

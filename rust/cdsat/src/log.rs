@@ -66,9 +66,10 @@ pub enum Step {
     Clear,
     Jump,
     Flip,
+    Fail,
 }
 
-/// The rules of deduce and clash, with their premises in order.
+/// The rules of deduce, clash and fail, with their premises in order.
 #[derive(Clone, Copy, Debug, PartialEq, Eq, Hash)]
 #[repr(u16)]
 pub enum Rule {
@@ -151,7 +152,7 @@ impl Log {
     /// e false
     ///
     /// step rule term value p q r s t
-    /// clash refl e true - - - - -
+    /// fail refl e true - - - - -
     /// ";
     /// let log = Log::read(text.as_bytes()).unwrap();
     /// assert_eq!(log.inputs(), [1, 0]);
@@ -242,13 +243,52 @@ impl Log {
     }
 
     /// Adds a clash: the rule gives the term a value, and the opposite is on the
-    /// trail.
+    /// trail. Premises and opposite become the conflict.
+    ///
+    /// A clash is for premises and opposite that are not all at level 0: one of
+    /// them rests on a decision. Where none does, it is refused with 26, and
+    /// [`fail`](Log::fail) is the step.
     ///
     /// # Panics
     ///
     /// If there are more than five premises.
     pub fn clash(&mut self, rule: Rule, term: Term, value: bool, premises: &[Term]) -> &mut Self {
         self.step(Step::Clash, rule as u16, term, value.into(), premises)
+    }
+
+    /// Adds a fail: the rule gives the term a value, and the opposite is on the
+    /// trail. The input is refuted, which ends the run.
+    ///
+    /// A fail is for premises and opposite that are all at level 0: they are given,
+    /// or follow from what is given. Where one of them rests on a decision, it is
+    /// refused with 26, and [`clash`](Log::clash) is the step.
+    ///
+    /// ```
+    /// use cdsat::{Head, Log, Rule, Sort, Verdict};
+    ///
+    /// let mut log = Log::new();
+    /// let s = log.sort();
+    /// let a = log.term(Head::Free(0), s, &[]);
+    /// let e = log.term(Head::Eq, Sort::PROP, &[a, a]);
+    ///
+    /// let mut given = log.clone();
+    /// given.input(e, 0).fail(Rule::Refl, e, true, &[]);
+    /// assert_eq!(given.run().outcome.verdict, Verdict::Refuted);
+    ///
+    /// let mut decided = log.clone();
+    /// decided.decide(e, 0).fail(Rule::Refl, e, true, &[]);
+    /// assert_eq!(decided.run().outcome.number, 26);
+    ///
+    /// let mut decided = log.clone();
+    /// decided.decide(e, 0).clash(Rule::Refl, e, true, &[]).jump(e);
+    /// assert_eq!(decided.run().outcome.verdict, Verdict::Open);
+    /// ```
+    ///
+    /// # Panics
+    ///
+    /// If there are more than five premises.
+    pub fn fail(&mut self, rule: Rule, term: Term, value: bool, premises: &[Term]) -> &mut Self {
+        self.step(Step::Fail, rule as u16, term, value.into(), premises)
     }
 
     /// Adds a resolve: the conflict trades the term for its justification.

@@ -191,7 +191,7 @@ pub const SAID: usize = 256;
 /// e false
 ///
 /// step rule term value p q r s t
-/// clash refl e true - - - - -
+/// fail refl e true - - - - -
 /// ";
 /// let checked = cdsat::check(text.as_bytes());
 /// assert_eq!(checked.outcome.verdict, Verdict::Refuted);
@@ -200,6 +200,13 @@ pub const SAID: usize = 256;
 /// let checked = cdsat::check(text.replace("refl", "sym").as_bytes());
 /// assert_eq!(checked.outcome.verdict, Verdict::Refused);
 /// assert_eq!(checked.said, "line 12: 13 the rule does not fit");
+///
+/// let checked = cdsat::check(text.replace("fail", "clash").as_bytes());
+/// assert_eq!(checked.outcome.number, 26);
+/// assert_eq!(
+///     checked.said,
+///     "line 12: 26 fail is the line at level 0, clash the one above it: fail was meant"
+/// );
 ///
 /// let checked = cdsat::check(text.replace(" a a ", "\ta a ").as_bytes());
 /// assert_eq!(checked.outcome.number, 31);

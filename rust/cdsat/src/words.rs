@@ -28,6 +28,7 @@ pub fn meaning(number: u16) -> &'static str {
         21 => "its level is not above the rest",
         22 => "the term's sort is wrong for the step, or the value does not suit it",
         23 => "no shared decision",
+        26 => "fail is the line at level 0, clash the one above it",
         30 => "above a ceiling",
         31 => "malformed",
         32 => "a lent buffer is short",

@@ -1,6 +1,6 @@
 //! The paper's small board through the safe bindings.
 
-use cdsat::{Head, Log, Rule, Sort, Term, Verdict};
+use cdsat::{Head, Log, Rule, Sort, Step, Term, Verdict};
 
 struct Board {
     log: Log,
@@ -87,4 +87,40 @@ fn jump_learns() {
     let run = log.run();
     assert_eq!(run.outcome.numbers(), [0, 3, 0, 2]);
     assert_eq!((run.trail[1].term, run.trail[1].value), (e, 0));
+}
+
+#[test]
+fn fail_refutes() {
+    let Board { mut log, e, g, .. } = board();
+    log.input(e, 1).input(g, 0);
+    log.fail(Rule::Cong, g, true, &[e]);
+    assert_eq!(log.steps()[..2], [Step::Fail as u16, Rule::Cong as u16]);
+    let run = log.run();
+    assert_eq!(run.outcome.numbers(), [1, 1, 0, 2]);
+    assert_eq!(run.outcome.verdict, Verdict::Refuted);
+    assert_eq!(run.trail.len(), 2);
+    let Board { mut log, e, g, .. } = board();
+    log.input(e, 1);
+    log.fail(Rule::Cong, g, true, &[e]);
+    assert_eq!(log.run().outcome.numbers(), [2, 0, 16, 1]);
+}
+
+#[test]
+fn the_other_line_was_meant() {
+    let meaning = "fail is the line at level 0, clash the one above it";
+    let Board { mut log, e, g, .. } = board();
+    log.input(e, 1).input(g, 0);
+    log.clash(Rule::Cong, g, true, &[e]);
+    let run = log.run();
+    assert_eq!(run.outcome.numbers(), [2, 0, 26, 2]);
+    assert_eq!(run.outcome.meaning(), meaning);
+    let Board {
+        mut log, a, e, g, ..
+    } = board();
+    log.input(g, 0);
+    log.decide(a, 7).decide(e, 1);
+    log.fail(Rule::Cong, g, true, &[e]);
+    let run = log.run();
+    assert_eq!(run.outcome.numbers(), [2, 2, 26, 3]);
+    assert_eq!(run.outcome.meaning(), meaning);
 }

@@ -159,9 +159,9 @@ fn lines_for_a_person() {
         said("g false\n", ""),
         "line 16: 16 the opposite is not there"
     );
-    let steps = "decide - a 7 - - - - -\ndecide - a 7 - - - - -\nclash";
+    let steps = "decide - a 7 - - - - -\ndecide - a 7 - - - - -\nfail";
     assert_eq!(
-        said("clash", steps),
+        said("fail", steps),
         "line 18: 14 the value is there already"
     );
     assert_eq!(
@@ -171,10 +171,30 @@ fn lines_for_a_person() {
 }
 
 #[test]
+fn which_line_was_meant() {
+    let clash = check(with("fail", "clash").as_bytes());
+    assert_eq!(clash.outcome.numbers(), [2, 0, 26, 2]);
+    assert_eq!(
+        clash.said,
+        "line 17: 26 fail is the line at level 0, clash the one above it: fail was meant"
+    );
+    let above = with("e true\n", "").replace("fail", "decide - e true - - - - -\nfail");
+    let fail = check(above.as_bytes());
+    assert_eq!(fail.outcome.numbers(), [2, 1, 26, 2]);
+    assert_eq!(
+        fail.said,
+        "line 17: 26 fail is the line at level 0, clash the one above it: clash was meant"
+    );
+    let open = check(above.replace("fail", "clash").as_bytes());
+    assert_eq!(open.outcome.numbers(), [0, 2, 0, 2]);
+    assert_eq!(open.said, "");
+}
+
+#[test]
 fn outcomes_of_texts() {
     assert_eq!(check(TEXT.as_bytes()).outcome.numbers(), [1, 1, 0, 2]);
     assert_eq!(check(NOTHING.as_bytes()).outcome.numbers(), [0; 4]);
-    let open = check(with("clash cong g true e - - - -\n", "").as_bytes());
+    let open = check(with("fail cong g true e - - - -\n", "").as_bytes());
     assert_eq!(
         (open.outcome.verdict, open.said),
         (Verdict::Open, String::new())

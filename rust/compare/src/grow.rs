@@ -8,6 +8,19 @@ use std::collections::HashMap;
 
 pub type Row = [u16; 9];
 
+/// The steps that use a rule.
+const DEDUCE: u16 = 1;
+const CLASH: u16 = 2;
+const FAIL: u16 = 7;
+
+/// The other line of clash and fail.
+fn other_line(step: u16) -> u16 {
+    match step {
+        CLASH => FAIL,
+        _ => CLASH,
+    }
+}
+
 /// A rule's use: the term it gives a value, and from what.
 #[derive(Clone)]
 struct Instance {
@@ -38,9 +51,9 @@ const TRIED: [u16; 31] = [
 ];
 
 /// The numbers to aim at: those of steps, the hard ones more often.
-const TARGETS: [u16; 25] = [
+const TARGETS: [u16; 27] = [
     9, 10, 11, 12, 13, 14, 15, 15, 16, 17, 18, 19, 19, 19, 19, 19, 20, 21, 22, 22, 23, 23, 23, 13,
-    21,
+    21, 26, 26,
 ];
 
 struct Grower<'a> {
@@ -166,9 +179,11 @@ impl Grower<'_> {
         }
     }
 
-    /// The next step of the plan that is allowed. A refutation ends the plan.
+    /// The next step of the plan that is allowed, a clash at level 0 as the fail that
+    /// it is there. A refutation ends the plan.
     fn planned(&mut self) -> Option<Row> {
         while let Some(row) = self.plan.pop() {
+            let row = self.by_level(row);
             match self.model.next(&row) {
                 Ok(Next::Refuted) if self.rng.percent(80) => (),
                 Ok(_) => return Some(row),
@@ -176,6 +191,14 @@ impl Grower<'_> {
             }
         }
         None
+    }
+
+    /// The row, as the other line of clash and fail if its level is that one's.
+    fn by_level(&self, mut row: Row) -> Row {
+        if self.model.next(&row).err() == Some(26) {
+            row[0] = other_line(row[0]);
+        }
+        row
     }
 
     fn allowed_in_search(&mut self) -> Option<Row> {
@@ -194,8 +217,8 @@ impl Grower<'_> {
         }
         if self.eager && self.rng.percent(50) {
             let rule = *self.rng.pick(&[4, 5, 6, 7, 7, 7, 8, 8, 9, 10]);
-            if let (_, Some(clash)) = self.uses(rule) {
-                return Some(clash);
+            if let (_, Some(closing)) = self.uses(rule) {
+                return Some(closing);
             }
         }
         for _ in 0..16 {
@@ -203,13 +226,13 @@ impl Grower<'_> {
                 true => self.rng.below(2) as u16,
                 false => *self.rng.pick(&TRIED),
             };
-            let (deduction, clash) = self.uses(rule);
+            let (deduction, closing) = self.uses(rule);
             let patient = self
                 .rng
                 .percent(if self.eager && rule < 2 { 85 } else { 40 });
-            match (deduction, clash) {
-                (None, Some(clash)) if !self.eager => return Some(clash),
-                (_, Some(clash)) if !patient => return Some(clash),
+            match (deduction, closing) {
+                (None, Some(closing)) if !self.eager => return Some(closing),
+                (_, Some(closing)) if !patient => return Some(closing),
                 (Some(deduction), _) => return Some(deduction),
                 _ => (),
             }
@@ -240,14 +263,14 @@ impl Grower<'_> {
         rows.push(row(0, X, shared, 0, &[]));
         for &arg in &equalities {
             let rule = if head == 3 { 1 } else { 0 };
-            rows.push(row(1, rule, arg, 3 - head, &self.term(arg).1));
+            rows.push(row(DEDUCE, rule, arg, 3 - head, &self.term(arg).1));
         }
         if self.rng.percent(50) {
-            rows.push(row(2, 8, whole, 3 - head, &equalities));
+            rows.push(row(CLASH, 8, whole, 3 - head, &equalities));
         } else {
             let last = equalities.remove(self.rng.below(equalities.len()));
             let premises = [&[whole], &equalities[..]].concat();
-            rows.push(row(2, 7, last, head - 2, &premises));
+            rows.push(row(CLASH, 7, last, head - 2, &premises));
         }
         rows.reverse();
         self.plan = rows;
@@ -273,7 +296,7 @@ impl Grower<'_> {
         }
         let use_ = self.rng.pick(&found).clone();
         let clash = self.rng.percent(40);
-        let mut rows = vec![use_.row(if clash { 2 } else { 1 })];
+        let mut rows = vec![use_.row(if clash { CLASH } else { DEDUCE })];
         if clash {
             rows.push(row(0, X, use_.term, 1 - use_.value, &[]));
         }
@@ -294,24 +317,42 @@ impl Grower<'_> {
         (!rows.is_empty()).then(|| *self.rng.pick(&rows))
     }
 
-    /// A deduction and a clash by the rule, if there are any. Clashes that refute
-    /// the input are mostly left out, for they end the log.
+    /// A deduction by the rule, and a clash or a fail, if there are any. Those that
+    /// refute the input are mostly left out, for they end the log.
     fn uses(&mut self, rule: u16) -> (Option<Row>, Option<Row>) {
         let found = self.instances(rule);
-        let (fresh, there): (Vec<_>, Vec<_>) = found
-            .into_iter()
-            .partition(|use_| self.value(use_.term).is_none());
-        let opposed: Vec<_> = there
-            .into_iter()
-            .filter(|use_| self.value(use_.term) != Some(use_.value))
+        let fresh: Vec<_> = found
+            .iter()
+            .filter(|use_| self.value(use_.term).is_none())
             .collect();
-        let deduction = (!fresh.is_empty()).then(|| self.rng.pick(&fresh).row(1));
-        let clash = (!opposed.is_empty()).then(|| self.rng.pick(&opposed).row(2));
-        let clash = clash.filter(|row| {
+        let deduction = (!fresh.is_empty()).then(|| self.rng.pick(&fresh).row(DEDUCE));
+        let closing = self.closing(&found).filter(|row| {
             let refutes = matches!(self.model.next(row), Ok(Next::Refuted));
             !refutes || self.rng.percent(12)
         });
-        (deduction, clash)
+        (deduction, closing)
+    }
+
+    /// Some of the uses whose opposite is on the trail, as the line of its level.
+    fn closing(&mut self, found: &[Instance]) -> Option<Row> {
+        let opposed: Vec<_> = found
+            .iter()
+            .filter(|use_| self.is(use_.term, 1 - use_.value))
+            .collect();
+        if opposed.is_empty() {
+            return None;
+        }
+        let row = self.rng.pick(&opposed).row(CLASH);
+        Some(self.by_level(row))
+    }
+
+    /// A use whose opposite is on the trail, as the other line than its level's.
+    fn wrong_line(&mut self) -> Option<Row> {
+        let rule = *self.rng.pick(&TRIED);
+        let found = self.instances(rule);
+        let mut row = self.closing(&found)?;
+        row[0] = other_line(row[0]);
+        Some(row)
     }
 
     fn decision(&mut self) -> Option<Row> {
@@ -538,7 +579,7 @@ impl Grower<'_> {
         let in_conflict = self.model.conflict.is_some();
         let fits = match target {
             9..=11 | 22 => true,
-            12..=16 => !in_conflict,
+            12..=16 | 26 => !in_conflict,
             _ => in_conflict,
         };
         if !fits {
@@ -554,6 +595,11 @@ impl Grower<'_> {
     fn attempt(&mut self) -> Row {
         if self.model.conflict.is_some() && self.rng.percent(70) {
             return self.conflict_step();
+        }
+        if self.model.conflict.is_none() && self.rng.percent(10) {
+            if let Some(row) = (0..4).find_map(|_| self.wrong_line()) {
+                return row;
+            }
         }
         if self.model.conflict.is_none() && self.rng.percent(60) {
             if let Some(row) = (0..4).find_map(|_| self.near_miss()) {
@@ -573,9 +619,9 @@ impl Grower<'_> {
         row
     }
 
-    /// A use of some rule as a deduction or a clash, or else a decision.
+    /// A use of some rule as a deduction, a clash or a fail, or else a decision.
     fn any_use(&mut self) -> Row {
-        let step = self.rng.within(1, 2) as u16;
+        let step = *self.rng.pick(&[DEDUCE, CLASH, FAIL]);
         for _ in 0..6 {
             let rule = *self.rng.pick(&TRIED);
             let found = self.instances(rule);
@@ -590,7 +636,7 @@ impl Grower<'_> {
     /// or with another term of the same head somewhere, or only close to a use.
     fn near_miss(&mut self) -> Option<Row> {
         let rule = *self.rng.pick(&TRIED);
-        let step = self.rng.within(1, 2) as u16;
+        let step = *self.rng.pick(&[DEDUCE, CLASH, FAIL]);
         let real = self.values.clone();
         let swapped = self.rng.percent(40);
         for value in &mut self.values {
@@ -625,9 +671,10 @@ impl Grower<'_> {
 
     fn conflict_step(&mut self) -> Row {
         let members = self.model.conflict.clone().unwrap_or_default();
-        let any = |rng: &mut Rng| match members.is_empty() || rng.percent(15) {
-            true => Self::any_term(rng, &self.model),
-            false => *rng.pick(&members),
+        let any = |rng: &mut Rng| match rng.below(100) {
+            0..=1 => self.model.terms.len() as u16,
+            17.. if !members.is_empty() => *rng.pick(&members),
+            _ => Self::any_term(rng, &self.model),
         };
         let kind = self.rng.within(3, 6) as u16;
         let mut made = row(kind, X, any(self.rng), X, &[]);
@@ -647,13 +694,16 @@ impl Grower<'_> {
     /// Changes a column or two of the row.
     fn garble(&mut self, row: &mut Row) {
         let count = row[4..].iter().filter(|&&premise| premise != X).count();
-        match self.rng.below(7) {
+        match self.rng.below(10) {
             0 => row[3] = self.number(),
             1 => row[1] = self.rng.below(14) as u16,
             2 if count > 0 => row[3 + count] = X,
             3 if count < 5 => row[4 + count] = Self::any_term(self.rng, &self.model),
             4 if count > 1 => row.swap(4, 5),
             5 if row[3] < 2 => row[3] = 1 - row[3],
+            6 if row[0] == CLASH || row[0] == FAIL => row[0] = other_line(row[0]),
+            7 => row[3] = 2,
+            8 => row[0] = FAIL + 1,
             _ => {
                 let column = self.rng.below(9);
                 row[column] = match self.rng.percent(70) {
@@ -672,7 +722,7 @@ impl Grower<'_> {
             }
         }
         if self.rng.percent(70) {
-            made[0] = self.rng.below(7) as u16;
+            made[0] = self.rng.below(8) as u16;
         }
         made
     }

@@ -41,6 +41,9 @@ fn run_plain(
     [out.verdict, out.steps, out.number, out.entries]
 }
 
+/// What a run leaves: the outcome, the workspace and the trail buffer.
+type Ran = ([u16; 4], Vec<u64>, Vec<u16>);
+
 /// Those that are held against `plain`.
 fn runners() -> Vec<(&'static str, Run)> {
     vec![
@@ -156,8 +159,9 @@ impl Session {
             late,
             probes,
         } = case::make(rng);
-        let outcome = compare_run(&case)?;
-        self.stats.run(outcome, &case.steps);
+        let ran = compare_run(&case)?;
+        let outcome = ran.0;
+        self.stats.run(&ran, &case.steps, 0);
         self.events(&case, outcome, late);
         if rng.percent(40) && case.steps.len() < 9 * 2_000 {
             let damaged = rng.percent(65);
@@ -168,9 +172,9 @@ impl Session {
         for (rows, row) in probes.into_iter().rev() {
             case.steps.truncate(9 * rows);
             case.steps.extend(row);
-            let outcome = compare_run(&case)?;
+            let ran = compare_run(&case)?;
             self.probes += 1;
-            self.stats.probe(outcome, rows, &row);
+            self.stats.run(&ran, &case.steps, rows);
             if rng.percent(5) {
                 self.text(rng, &case, false)?;
             }
@@ -180,7 +184,7 @@ impl Session {
 
     fn events(&mut self, case: &Case, outcome: [u16; 4], late: u64) {
         let rows = case.terms.len() / 6;
-        let ran = outcome[1] > 0 || outcome[2] == 0 || (9..=23).contains(&outcome[2]);
+        let ran = outcome[2] == 0 || stats::is_of_a_step(outcome[2]);
         let mut count = |name: &str, happened: bool| self.stats.event(name, u64::from(happened));
         let (work, trail) = (case.work.len(), case.trail.len());
         count(
@@ -217,8 +221,8 @@ impl Session {
     }
 }
 
-/// Runs the case with everyone; the outcome, if all agree.
-fn compare_run(case: &Case) -> Result<[u16; 4], String> {
+/// Runs the case with everyone; what `plain` makes of it, if all agree.
+fn compare_run(case: &Case) -> Result<Ran, String> {
     let go = |run: Run| {
         let (mut work, mut trail) = (case.work.clone(), case.trail.clone());
         let outcome = run(
@@ -238,10 +242,8 @@ fn compare_run(case: &Case) -> Result<[u16; 4], String> {
             return Err(difference(case, name, &ours, &theirs));
         }
     }
-    Ok(ours.0)
+    Ok(ours)
 }
-
-type Ran = ([u16; 4], Vec<u64>, Vec<u16>);
 
 /// The difference and the case, as arrays and as text.
 fn difference(case: &Case, name: &str, ours: &Ran, theirs: &Ran) -> String {

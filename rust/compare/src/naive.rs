@@ -261,7 +261,8 @@ impl Model {
         if !columns_fit(row) {
             return Err(9);
         }
-        if (step <= 2) != self.conflict.is_none() {
+        let searches = matches!(step, 0 | 1 | 2 | 7);
+        if searches != self.conflict.is_none() {
             return Err(10);
         }
         let premises: Vec<u16> = premises
@@ -279,7 +280,8 @@ impl Model {
             3 => self.resolve(term),
             4 => self.clear(term),
             5 => self.jump(term),
-            _ => self.flip(term, premises[0]),
+            6 => self.flip(term, premises[0]),
+            _ => self.fail(rule, term, value, &premises),
         }
     }
 
@@ -339,19 +341,30 @@ impl Model {
         Ok(Next::Searching(trail))
     }
 
-    fn clash(&self, rule: u16, term: u16, value: u16, premises: &[u16]) -> Result<Next, u16> {
+    /// The premises and the opposite as one set.
+    fn opposed(&self, rule: u16, term: u16, value: u16, premises: &[u16]) -> Result<Vec<u16>, u16> {
         self.inferred(rule, term, value, premises)?;
         if self.value(term) != Some(1 - value) {
             return Err(16);
         }
-        let members = as_set(&[premises, &[term]].concat());
-        if members
-            .iter()
-            .all(|&member| self.entry(member).unwrap().level == 0)
-        {
-            return Ok(Next::Refuted);
+        Ok(as_set(&[premises, &[term]].concat()))
+    }
+
+    fn clash(&self, rule: u16, term: u16, value: u16, premises: &[u16]) -> Result<Next, u16> {
+        let members = self.opposed(rule, term, value, premises)?;
+        if self.level_of(&members) == 0 {
+            return Err(26);
         }
         Ok(Next::Conflict(members))
+    }
+
+    fn fail(&self, rule: u16, term: u16, value: u16, premises: &[u16]) -> Result<Next, u16> {
+        let members = self.opposed(rule, term, value, premises)?;
+        let at_zero = |&member: &u16| self.entry(member).unwrap().level == 0;
+        if !members.iter().all(at_zero) {
+            return Err(26);
+        }
+        Ok(Next::Refuted)
     }
 
     fn members(&self) -> &[u16] {
@@ -618,7 +631,7 @@ fn columns_fit(row: &[u16; 9]) -> bool {
     }
     match step {
         0 => blank(rule) && !blank(value) && none_after(0),
-        1 | 2 => {
+        1 | 2 | 7 => {
             let count = premises.iter().filter(|&&column| !blank(column)).count();
             rule <= 12 && value <= 1 && none_after(count)
         }

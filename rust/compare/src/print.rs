@@ -16,9 +16,14 @@ const HEADERS: [&str; 4] = [
 ];
 
 /// Names that look like something else.
-const ODD: [&str; 14] = [
-    "true", "false", "eq", "store", "decide", "same", "term", "sort", "0", "17", "--", "prop1",
-    "~", "!",
+const ODD: [&str; 16] = [
+    "true", "false", "eq", "store", "decide", "clash", "fail", "same", "term", "sort", "0", "17",
+    "--", "prop1", "~", "!",
+];
+
+/// Words that no step and no rule has.
+const NO_WORDS: [&str; 11] = [
+    "learn", "Clash", "samen", "sam", "0", "clashes", "eq", "Fail", "fails", "fai", "7",
 ];
 
 /// A text of a case, and the sheets that it stands for.
@@ -197,12 +202,7 @@ impl Printer<'_> {
         match words.get(usize::from(number)) {
             Some(word) => (word.to_string(), number),
             None if number == X => ("-".into(), X),
-            None => {
-                let word = *self
-                    .rng
-                    .pick(&["learn", "Clash", "samen", "sam", "0", "clashes", "eq"]);
-                (word.into(), UNKNOWN)
-            }
+            None => (self.rng.pick(&NO_WORDS).to_string(), UNKNOWN),
         }
     }
 

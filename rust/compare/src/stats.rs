@@ -1,44 +1,92 @@
 //! How often everything occurred.
 
 use crate::naive_text::{RULE_WORDS, STEP_WORDS};
-use plain::{Checked, Why};
+use crate::problem::X;
+use crate::Ran;
+use plain::{Checked, Meant, Why};
 use std::collections::BTreeMap;
 
 /// The numbers that a run can be refused with.
-const RUN_NUMBERS: [u16; 26] = [
-    0, 1, 3, 4, 5, 6, 7, 8, 9, 10, 11, 12, 13, 14, 15, 16, 17, 18, 19, 20, 21, 22, 23, 30, 31, 32,
+const RUN_NUMBERS: [u16; 27] = [
+    0, 1, 3, 4, 5, 6, 7, 8, 9, 10, 11, 12, 13, 14, 15, 16, 17, 18, 19, 20, 21, 22, 23, 26, 30, 31,
+    32,
 ];
 
 /// The numbers that a person is told of a text.
-const TOLD: [u16; 25] = [
-    1, 2, 3, 4, 5, 6, 7, 8, 9, 10, 11, 12, 13, 14, 15, 16, 17, 18, 19, 20, 21, 22, 23, 30, 31,
+const TOLD: [u16; 26] = [
+    1, 2, 3, 4, 5, 6, 7, 8, 9, 10, 11, 12, 13, 14, 15, 16, 17, 18, 19, 20, 21, 22, 23, 26, 30, 31,
 ];
 
 /// The numbers of the text reader.
 const TEXT_NUMBERS: [u16; 5] = [0, 2, 30, 31, 32];
 
+/// The numbers that each step can be refused with, in the order of its tests.
+const ORDERS: [&[u16]; 8] = [
+    &[9, 10, 11, 22, 14],
+    &[9, 10, 11, 22, 12, 13, 14, 15],
+    &[9, 10, 11, 22, 12, 13, 16, 26],
+    &[9, 10, 11, 17, 18, 19],
+    &[9, 10, 11, 17, 20, 21],
+    &[9, 10, 11, 17, 22, 21],
+    &[9, 10, 11, 17, 22, 18, 23],
+    &[9, 10, 11, 22, 12, 13, 16, 26],
+];
+
 const VERDICTS: [&str; 3] = ["open", "refuted", "refused"];
+
+/// Where premises and opposite can stand: nowhere, at level 0 or above it.
+const PREMISES: [&str; 3] = ["no premise", "premises at 0", "premises above"];
+const OPPOSITES: [&str; 3] = ["no opposite", "opposite at 0", "opposite above"];
+
+/// The lines that a person is told were meant.
+const MEANT: [Meant; 2] = [Meant::Fail, Meant::Clash];
 
 /// Everything that has to occur, by heading and name, in the order of printing.
 pub struct Stats {
-    counts: BTreeMap<(u8, u16), (String, u64)>,
+    counts: BTreeMap<(Heading, u16), (String, u64)>,
 }
 
-const HEADINGS: [&str; 10] = [
-    "steps allowed",
-    "rules used by a deduce",
-    "rules used by a clash",
-    "verdicts",
-    "numbers of runs",
-    "other events",
-    "numbers of texts",
-    "verdicts of texts",
-    "causes of malformed texts",
-    "numbers of lines for a person",
-];
+#[derive(Clone, Copy, PartialEq, Eq, PartialOrd, Ord)]
+enum Heading {
+    Steps,
+    Deduces,
+    Clashes,
+    Fails,
+    Verdicts,
+    Numbers,
+    Refusals,
+    Standing,
+    Events,
+    TextNumbers,
+    TextVerdicts,
+    Causes,
+    Told,
+    Meant,
+}
+
+impl Heading {
+    fn words(self) -> &'static str {
+        match self {
+            Heading::Steps => "steps allowed",
+            Heading::Deduces => "rules used by a deduce",
+            Heading::Clashes => "rules used by a clash",
+            Heading::Fails => "rules used by a fail",
+            Heading::Verdicts => "verdicts",
+            Heading::Numbers => "numbers of runs",
+            Heading::Refusals => "numbers of each step",
+            Heading::Standing => "levels of clashes and fails that ended a run",
+            Heading::Events => "other events",
+            Heading::TextNumbers => "numbers of texts",
+            Heading::TextVerdicts => "verdicts of texts",
+            Heading::Causes => "causes of malformed texts",
+            Heading::Told => "numbers of lines for a person",
+            Heading::Meant => "lines that were meant",
+        }
+    }
+}
 
 /// Events that are counted besides.
-pub const EVENTS: [&str; 11] = [
+pub const EVENTS: [&str; 13] = [
     "late entries kept by a cut",
     "workspace exactly long enough",
     "workspace one short",
@@ -48,45 +96,79 @@ pub const EVENTS: [&str; 11] = [
     "256 input rows run",
     "32 sort rows run",
     "logs that end in a conflict",
+    "refuted with decisions on the trail",
+    "26 by a fail above level 1",
     "texts read with a line of 525 bytes",
     "bad lines of 526 bytes",
 ];
+
+/// Whether a step was refused with the number.
+pub fn is_of_a_step(number: u16) -> bool {
+    matches!(number, 9..=23 | 26)
+}
 
 impl Stats {
     pub fn new() -> Self {
         let mut stats = Stats {
             counts: BTreeMap::new(),
         };
-        let mut expect = |heading: u8, names: &[&str]| {
-            for (at, name) in names.iter().enumerate() {
-                stats
-                    .counts
-                    .insert((heading, at as u16), (name.to_string(), 0));
-            }
-        };
-        expect(0, &STEP_WORDS);
-        expect(1, &RULE_WORDS);
-        expect(2, &RULE_WORDS);
-        expect(3, &VERDICTS);
-        expect(5, &EVENTS);
-        expect(7, &VERDICTS);
-        for number in RUN_NUMBERS {
-            stats.counts.insert((4, number), (number.to_string(), 0));
+        stats.expect(Heading::Steps, &STEP_WORDS);
+        for uses in [Heading::Deduces, Heading::Clashes, Heading::Fails] {
+            stats.expect(uses, &RULE_WORDS);
         }
-        for number in TEXT_NUMBERS {
-            stats.counts.insert((6, number), (number.to_string(), 0));
-        }
+        stats.expect(Heading::Verdicts, &VERDICTS);
+        stats.expect(Heading::Events, &EVENTS);
+        stats.expect(Heading::TextVerdicts, &VERDICTS);
+        stats.expect(Heading::Meant, &MEANT.map(Meant::words));
+        stats.expect_numbers(Heading::Numbers, &RUN_NUMBERS);
+        stats.expect_numbers(Heading::TextNumbers, &TEXT_NUMBERS);
+        stats.expect_numbers(Heading::Told, &TOLD);
         for why in &Why::ALL[1..] {
-            let name = format!("{why:?}");
-            stats.counts.insert((8, *why as u16), (name, 0));
+            stats.expect_one(Heading::Causes, *why as u16, format!("{why:?}"));
         }
-        for number in TOLD {
-            stats.counts.insert((9, number), (number.to_string(), 0));
-        }
+        stats.expect_refusals();
+        stats.expect_standing();
         stats
     }
 
-    fn add(&mut self, heading: u8, at: u16, more: u64) {
+    fn expect_one(&mut self, heading: Heading, at: u16, name: String) {
+        self.counts.insert((heading, at), (name, 0));
+    }
+
+    fn expect(&mut self, heading: Heading, names: &[&str]) {
+        for (at, name) in names.iter().enumerate() {
+            self.expect_one(heading, at as u16, name.to_string());
+        }
+    }
+
+    fn expect_numbers(&mut self, heading: Heading, numbers: &[u16]) {
+        for &number in numbers {
+            self.expect_one(heading, number, number.to_string());
+        }
+    }
+
+    fn expect_refusals(&mut self) {
+        for (step, numbers) in ORDERS.iter().enumerate() {
+            for &number in *numbers {
+                let name = format!("{} {number}", STEP_WORDS[step]);
+                self.expect_one(Heading::Refusals, refusal(step as u16, number), name);
+            }
+        }
+    }
+
+    fn expect_standing(&mut self) {
+        for step in [2, 7] {
+            for (premises, one) in PREMISES.iter().enumerate() {
+                for (opposite, two) in OPPOSITES.iter().enumerate() {
+                    let name = format!("{}, {one}, {two}", STEP_WORDS[usize::from(step)]);
+                    let at = standing(step, premises, opposite);
+                    self.expect_one(Heading::Standing, at, name);
+                }
+            }
+        }
+    }
+
+    fn add(&mut self, heading: Heading, at: u16, more: u64) {
         let count = self
             .counts
             .entry((heading, at))
@@ -94,50 +176,75 @@ impl Stats {
         count.1 += more;
     }
 
-    /// Counts an outcome and the steps that were allowed.
-    pub fn run(&mut self, outcome: [u16; 4], steps: &[u16]) {
-        self.outcome(outcome);
-        for row in steps.chunks(9).take(usize::from(outcome[1])) {
+    /// Counts a run: its outcome, the steps that were allowed from the given row on,
+    /// and how it ended.
+    pub fn run(&mut self, (outcome, _, trail): &Ran, steps: &[u16], from: usize) {
+        let [verdict, allowed, number, entries] = *outcome;
+        self.add(Heading::Verdicts, verdict, 1);
+        self.add(Heading::Numbers, number, 1);
+        for row in steps.chunks(9).take(usize::from(allowed)).skip(from) {
             self.step(row);
         }
-    }
-
-    /// Counts an outcome and, if it was allowed, the step after so many others.
-    pub fn probe(&mut self, outcome: [u16; 4], rows: usize, row: &[u16]) {
-        self.outcome(outcome);
-        if usize::from(outcome[1]) > rows {
-            self.step(row);
+        let refused = is_of_a_step(number);
+        let read = usize::from(allowed) + usize::from(refused);
+        if let Some(row) = steps.chunks(9).take(read).next_back() {
+            if refused && usize::from(row[0]) < STEP_WORDS.len() {
+                self.add(Heading::Refusals, refusal(row[0], number), 1);
+            }
+            let trail: Vec<&[u16]> = trail.chunks(4).take(usize::from(entries)).collect();
+            self.end(row, number, &trail);
         }
-    }
-
-    fn outcome(&mut self, [verdict, _, number, _]: [u16; 4]) {
-        self.add(3, verdict, 1);
-        self.add(4, number, 1);
     }
 
     fn step(&mut self, row: &[u16]) {
-        self.add(0, row[0], 1);
-        if row[0] == 1 || row[0] == 2 {
-            self.add(row[0] as u8, row[1], 1);
+        self.add(Heading::Steps, row[0], 1);
+        match row[0] {
+            1 => self.add(Heading::Deduces, row[1], 1),
+            2 => self.add(Heading::Clashes, row[1], 1),
+            7 => self.add(Heading::Fails, row[1], 1),
+            _ => (),
         }
     }
 
+    /// Counts the end of a run by a clash or a fail whose rule fits, the row last
+    /// read, by the levels of its premises and of its opposite.
+    fn end(&mut self, row: &[u16], number: u16, trail: &[&[u16]]) {
+        let step = row[0];
+        if !matches!((step, number), (2 | 7, 0 | 16 | 26)) {
+            return;
+        }
+        let entry = |term: u16| trail.iter().find(|entry| entry[0] == term);
+        let premises = row[4..].iter().filter(|&&premise| premise != X);
+        let premises = premises.filter_map(|&premise| entry(premise)).map(|e| e[2]);
+        let opposite = entry(row[2]).filter(|entry| entry[1] != row[3]);
+        let levels = [premises.max(), opposite.map(|entry| entry[2])];
+        let [one, two] = levels.map(|level| level.map_or(0, |level| 1 + usize::from(level > 0)));
+        self.add(Heading::Standing, standing(step, one, two), 1);
+        let above = (step, number) == (7, 26) && levels.iter().flatten().any(|&level| level > 1);
+        self.event("26 by a fail above level 1", above.into());
+        let decided = (step, number) == (7, 0) && trail.iter().any(|entry| entry[3] == 1);
+        self.event("refuted with decisions on the trail", decided.into());
+    }
+
     pub fn text(&mut self, number: u16) {
-        self.add(6, number, 1);
+        self.add(Heading::TextNumbers, number, 1);
     }
 
     /// Counts what a person is told of a text, if anything.
     pub fn told(&mut self, checked: &Checked) {
         if checked.why != Why::Fine {
-            self.add(8, checked.why as u16, 1);
+            self.add(Heading::Causes, checked.why as u16, 1);
         }
         if checked.outcome.number != 0 {
-            self.add(9, checked.outcome.number, 1);
+            self.add(Heading::Told, checked.outcome.number, 1);
+        }
+        if let Some(meant) = checked.meant {
+            self.add(Heading::Meant, meant as u16, 1);
         }
     }
 
     pub fn text_verdict(&mut self, verdict: u16) {
-        self.add(7, verdict, 1);
+        self.add(Heading::TextVerdicts, verdict, 1);
     }
 
     pub fn event(&mut self, name: &str, more: u64) {
@@ -145,7 +252,7 @@ impl Stats {
             .iter()
             .position(|event| *event == name)
             .expect("an event listed");
-        self.add(5, at as u16, more);
+        self.add(Heading::Events, at as u16, more);
     }
 
     /// Prints all counts; false if something never occurred.
@@ -154,12 +261,12 @@ impl Stats {
         let mut missing = Vec::new();
         for (&(heading, _), (name, count)) in &self.counts {
             if last != Some(heading) {
-                println!("{}:", HEADINGS[usize::from(heading)]);
+                println!("{}:", heading.words());
                 last = Some(heading);
             }
-            println!("  {name:<34} {count:>10}");
+            println!("  {name:<37} {count:>10}");
             if *count == 0 {
-                missing.push(format!("{}: {name}", HEADINGS[usize::from(heading)]));
+                missing.push(format!("{}: {name}", heading.words()));
             }
         }
         for name in &missing {
@@ -167,4 +274,14 @@ impl Stats {
         }
         missing.is_empty()
     }
+}
+
+/// The place of a step's number in the counts.
+fn refusal(step: u16, number: u16) -> u16 {
+    100 * step + number
+}
+
+/// The place of a step in the counts by where its premises and opposite stand.
+fn standing(step: u16, premises: usize, opposite: usize) -> u16 {
+    100 * step + (3 * premises + opposite) as u16
 }

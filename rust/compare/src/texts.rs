@@ -15,8 +15,8 @@ type ReadText = fn(&[u8], &mut [Vec<u16>; 4]) -> Read;
 /// A text read and run, whoever does it, with the line for a person in a buffer.
 type CheckText = fn(&[u8], &mut [u8]) -> [u16; 4];
 
-/// Texts of one kind have one verdict, one number and one cause.
-pub type Kind = [u16; 3];
+/// Texts of one kind have one verdict, one number and one cause in words.
+pub type Kind = (u16, u16, &'static str);
 
 /// How many texts of each kind go through the program.
 const PROGRAM_TEXTS: u64 = 12;
@@ -109,7 +109,7 @@ impl Session {
         }
         let checked = plain::check(&printed.text);
         if read.number == 0 {
-            let outcome = compare_run(&read_case(&read, sheets))?;
+            let (outcome, ..) = compare_run(&read_case(&read, sheets))?;
             self.stats.text_verdict(outcome[0]);
             expect_outcome(&printed.text, &checked, outcome)?;
         } else if read.number != 32 {
@@ -123,6 +123,7 @@ impl Session {
         self.stats.told(checked);
         self.long_lines(text, checked);
         expect_line(text, checked)?;
+        expect_meant(text, checked)?;
         let said = checked.said();
         let short = rng.below(said.len() + 2);
         compare_check(rng, text, checked, SAID)?;
@@ -132,7 +133,7 @@ impl Session {
         let Some(program) = &self.program else {
             return Ok(());
         };
-        let kind = [verdict, number, checked.why as u16];
+        let kind = (verdict, number, checked.cause());
         let through = self.programs.entry(kind).or_default();
         if *through < PROGRAM_TEXTS {
             *through += 1;
@@ -267,7 +268,7 @@ fn expect_refusal(text: &[u8], checked: &Checked, read: &Read) -> Result<(), Str
 /// by the slow reader and the slow checker: so with it, and open without it.
 fn expect_line(text: &[u8], checked: &Checked) -> Result<(), String> {
     let number = checked.outcome.number;
-    if !matches!(number, 1 | 3..=23) {
+    if !matches!(number, 1 | 3..=23 | 26) {
         return Ok(());
     }
     let line = checked.line as usize;
@@ -283,6 +284,41 @@ fn expect_line(text: &[u8], checked: &Checked) -> Result<(), String> {
         ));
     }
     Ok(())
+}
+
+/// With 26 the other of the two lines was meant: the slow checker allows it in the
+/// place of the one refused, where a fail refutes the input and a clash does not.
+/// With every other number no line was meant.
+fn expect_meant(text: &[u8], checked: &Checked) -> Result<(), String> {
+    if checked.outcome.number != 26 {
+        return match checked.meant {
+            Some(_) => Err(difference("a line was meant", text, checked, "none")),
+            None => Ok(()),
+        };
+    }
+    let (meant, mended) = other_line(text, checked.line as usize);
+    let outcome = slow_check(&mended);
+    let verdict = u16::from(meant == "fail");
+    let words = "26 fail is the line at level 0, clash the one above it";
+    let line = format!("line {}: {words}: {meant} was meant\n", checked.line);
+    let said = checked.said();
+    if outcome[..3] != [verdict, checked.outcome.steps + 1, 0] || said != line {
+        let about = format!("a {meant} was meant; its outcome and the line, and what was said");
+        return Err(difference(&about, text, (outcome, line), said));
+    }
+    Ok(())
+}
+
+/// The other word of clash and fail, and the text up to a line of one of them, with
+/// that word in it.
+fn other_line(text: &[u8], line: usize) -> (&'static str, Vec<u8>) {
+    let upto = naive_text::cut(text, line);
+    let before = naive_text::cut(text, line - 1);
+    let row = &upto[before.len()..];
+    match row.strip_prefix(b"clash ") {
+        Some(rest) => ("fail", [&before, &b"fail "[..], rest].concat()),
+        None => ("clash", [&before, &b"clash "[..], &row[5..]].concat()),
+    }
 }
 
 /// The outcome of a text that can be read.

@@ -8,11 +8,12 @@ use crate::{BLANK, ENTRY_COLUMNS, INPUT_COLUMNS, MAX_TERMS, OPEN, REFUSED, REFUT
 /// The kinds of steps, in the order of their numbers.
 const DECIDE: u16 = 0;
 const DEDUCE: u16 = 1;
-const CLASH: u16 = 2;
+pub const CLASH: u16 = 2;
 const RESOLVE: u16 = 3;
 const CLEAR: u16 = 4;
 const JUMP: u16 = 5;
 const FLIP: u16 = 6;
+const FAIL: u16 = 7;
 
 /// What the trail says of a term. The value is blank for a term not on it, and
 /// then the rest counts for nothing.
@@ -137,7 +138,7 @@ impl State {
                 }
                 self.decide(term, value)?;
             }
-            DEDUCE | CLASH => {
+            DEDUCE | CLASH | FAIL => {
                 let Some(count) = from_left(&premises) else {
                     return Err(9);
                 };
@@ -148,8 +149,8 @@ impl State {
                     return Err(10);
                 }
                 let (row, premises) = self.inference(rule, term, value, &premises, count)?;
-                if kind == CLASH {
-                    return self.clash(row, value, &premises);
+                if kind != DEDUCE {
+                    return self.clash_or_fail(kind, row, value, &premises);
                 }
                 self.deduce(row, value, &premises)?;
             }
@@ -194,7 +195,7 @@ impl State {
         Ok(())
     }
 
-    /// What deduce and clash share: the numbers 11, 22, 12 and 13.
+    /// What deduce, clash and fail share: the numbers 11, 22, 12 and 13.
     #[inline]
     fn inference(
         &self,
@@ -243,15 +244,27 @@ impl State {
         Ok(())
     }
 
-    fn clash(&mut self, row: u8, value: u16, premises: &Premises) -> Result<bool, u16> {
+    /// Clash and fail, which differ in the last test alone; true for a fail, which
+    /// refutes the input.
+    fn clash_or_fail(
+        &mut self,
+        kind: u16,
+        row: u8,
+        value: u16,
+        premises: &Premises,
+    ) -> Result<bool, u16> {
         let opposite = self.entry(row);
         if opposite.value != 1 - value {
             return Err(16);
         }
-        self.conflict.level = premises.level.max(opposite.level);
+        let level = premises.level.max(opposite.level);
+        if (level == 0) != (kind == FAIL) {
+            return Err(26);
+        }
+        self.conflict.level = level;
         self.conflict.set.set_to(premises.rows());
         self.conflict.set.insert(row);
-        Ok(self.conflict.level == 0)
+        Ok(level == 0)
     }
 
     fn resolve(&mut self, row: u8) -> Result<(), u16> {

@@ -1,19 +1,31 @@
 //! A text read and run, and what a person is told of a refusal.
 
+use crate::engine::CLASH;
 use crate::{
     read, run_to, trail_numbers, work_words, Outcome, Why, INPUT_COLUMNS, MAX_INPUTS, MAX_SORTS,
     MAX_TERMS, MAX_TEXT_STEPS, SORT_COLUMNS, STEP_COLUMNS, TERM_COLUMNS,
 };
 use std::fmt::Write;
 
+/// The line that was meant where the other of the two was refused, with 26.
+#[derive(Clone, Copy, Debug, PartialEq, Eq)]
+pub enum Meant {
+    /// A fail: the line was a clash at level 0.
+    Fail,
+    /// A clash: the line was a fail above level 0.
+    Clash,
+}
+
 /// What became of a text: the outcome of the run, and where and why it was
-/// refused. Line and field count from 1 and are 0 where there is none.
+/// refused. Line and field count from 1 and are 0 where there is none. The
+/// reader's cause is `Fine` but for 31; another line was meant with 26 alone.
 #[derive(Clone, Copy, Debug, PartialEq, Eq)]
 pub struct Checked {
     pub outcome: Outcome,
     pub line: u64,
     pub field: u64,
     pub why: Why,
+    pub meant: Option<Meant>,
 }
 
 impl Checked {
@@ -26,6 +38,12 @@ impl Checked {
         said
     }
 
+    /// What is told behind the number's meaning: the cause of 31, or the line that
+    /// was meant with 26; no words for any other number.
+    pub fn cause(&self) -> &'static str {
+        self.meant.map_or(self.why.words(), Meant::words)
+    }
+
     fn spell(&self, said: &mut String) -> std::fmt::Result {
         let number = self.outcome.number;
         write!(said, "line {}", self.line)?;
@@ -33,8 +51,8 @@ impl Checked {
             write!(said, ", field {}", self.field)?;
         }
         write!(said, ": {number} {}", meaning(number))?;
-        if self.why != Why::Fine {
-            write!(said, ": {}", self.why.words())?;
+        if !self.cause().is_empty() {
+            write!(said, ": {}", self.cause())?;
         }
         writeln!(said)
     }
@@ -53,6 +71,7 @@ pub fn check(text: &[u8]) -> Checked {
             line: read.line,
             field: read.place,
             why: read.why,
+            meant: None,
         };
     }
     let rows = read.rows.map(usize::from);
@@ -71,6 +90,9 @@ pub fn check(text: &[u8]) -> Checked {
         line: bad.map_or(0, |bad| line_of(&rows, bad.sheet.into(), bad.row.into())),
         field: 0,
         why: Why::Fine,
+        meant: bad
+            .filter(|bad| bad.number == 26)
+            .map(|bad| Meant::other_than(steps[STEP_COLUMNS * usize::from(bad.row)])),
     }
 }
 
@@ -108,10 +130,29 @@ pub fn meaning(number: u16) -> &'static str {
         21 => "its level is not above the rest",
         22 => "the term's sort is wrong for the step, or the value does not suit it",
         23 => "no shared decision",
+        26 => "fail is the line at level 0, clash the one above it",
         30 => "above a ceiling",
         31 => "malformed",
         32 => "a lent buffer is short",
         _ => "",
+    }
+}
+
+impl Meant {
+    /// The other of the two lines than a row's step.
+    fn other_than(step: u16) -> Self {
+        match step {
+            CLASH => Meant::Fail,
+            _ => Meant::Clash,
+        }
+    }
+
+    /// What a person is told of it.
+    pub fn words(self) -> &'static str {
+        match self {
+            Meant::Fail => "fail was meant",
+            Meant::Clash => "clash was meant",
+        }
     }
 }
 

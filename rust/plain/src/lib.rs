@@ -14,7 +14,7 @@ mod rules;
 mod set;
 mod text;
 
-pub use explain::{check, meaning, Checked};
+pub use explain::{check, meaning, Checked, Meant};
 pub use text::{read, Read, Why, MAX_TEXT_STEPS};
 
 use problem::BadRow;
@@ -74,7 +74,8 @@ impl Outcome {
     }
 }
 
-/// Runs the steps of a log.
+/// Runs the steps of a log, to the first that is refused or to a fail that is
+/// allowed, which refutes the input.
 ///
 /// The workspace is all zero afterwards and the trail buffer holds the entries,
 /// oldest first, four numbers each, with what follows them untouched. With the

@@ -22,7 +22,7 @@ const PRED: u16 = 10;
 const READ: u16 = 11;
 const SKIP: u16 = 12;
 
-/// The premises of a deduce or a clash; those past the length are 0.
+/// The premises of a deduce, a clash or a fail; those past the length are 0.
 pub struct Premises {
     pub rows: [u8; 5],
     pub len: usize,

@@ -447,6 +447,7 @@ fn step_word(word: &Field) -> u16 {
         b"clear" => 4,
         b"jump" => 5,
         b"flip" => 6,
+        b"fail" => 7,
         _ => UNKNOWN,
     }
 }

@@ -1,6 +1,6 @@
 //! Why a text is malformed, and the line for a person.
 
-use plain::{check, read, Why};
+use plain::{check, read, Meant, Why};
 
 /// The paper's text, with the two more terms of its small board.
 const TEXT: &str = "\
@@ -22,7 +22,7 @@ e true
 g false
 
 step rule term value p q r s t
-clash cong g true e - - - -
+fail cong g true e - - - -
 ";
 
 fn said(text: &str) -> String {
@@ -52,7 +52,7 @@ fn why_of(old: &str, new: &str) -> (u16, Why, u64, u64) {
 fn nothing_to_say() {
     assert_eq!(why(TEXT.as_bytes()), (0, Why::Fine, 0, 0));
     assert_eq!(said(TEXT), "");
-    assert_eq!(said_of("clash cong g true e - - - -\n", ""), "");
+    assert_eq!(said_of("fail cong g true e - - - -\n", ""), "");
     let refuted = check(TEXT.as_bytes()).outcome;
     assert_eq!((refuted.verdict, refuted.steps, refuted.entries), (1, 1, 2));
 }
@@ -183,8 +183,57 @@ fn lines_of_the_run() {
         "line 16: 8 a term given twice\n"
     );
     let step = "line 19: 9 a step's columns are wrong\n";
-    assert_eq!(said_of("clash", "crash"), step);
+    for word in ["crash", "Fail", "fails", "fai", "learn"] {
+        assert_eq!(said_of("fail", word), step);
+    }
     let step = "line 20: 14 the value is there already\n";
     let decide = "decide - a 7 - - - - -\n".repeat(3);
-    assert_eq!(said_of("clash cong g true e - - - -\n", &decide), step);
+    assert_eq!(said_of("fail cong g true e - - - -\n", &decide), step);
+    let step = "line 18: 16 the opposite is not there\n";
+    assert_eq!(said_of("g false\n", ""), step);
+}
+
+#[test]
+fn which_line_was_meant() {
+    let clash = TEXT.replace("fail", "clash");
+    let checked = check(clash.as_bytes());
+    let fail_was_meant =
+        "line 19: 26 fail is the line at level 0, clash the one above it: fail was meant\n";
+    assert_eq!(checked.said(), fail_was_meant);
+    assert_eq!((checked.why, checked.meant), (Why::Fine, Some(Meant::Fail)));
+    let above = TEXT
+        .replace("e true\n", "")
+        .replace("fail", "decide - e true - - - - -\nfail");
+    let checked = check(above.as_bytes());
+    let clash_was_meant =
+        "line 19: 26 fail is the line at level 0, clash the one above it: clash was meant\n";
+    assert_eq!(checked.said(), clash_was_meant);
+    assert_eq!(
+        (checked.why, checked.meant),
+        (Why::Fine, Some(Meant::Clash))
+    );
+    assert_eq!(said(&above.replace("fail", "clash")), "");
+    let later = clash.replace("clash", "decide - a 7 - - - - -\nclash");
+    assert_eq!(said(&later), fail_was_meant.replace("19", "20"));
+    let twice = format!("{above}clash cong g true e - - - -\n");
+    assert_eq!(said(&twice), clash_was_meant);
+}
+
+#[test]
+fn no_line_was_meant() {
+    let clash = TEXT.replace("fail", "clash");
+    for text in [TEXT, &clash] {
+        for (old, new) in [
+            ("g false\n", ""),
+            ("e true\n", ""),
+            ("cong", "sym"),
+            ("g true", "g 2"),
+        ] {
+            let checked = check(text.replace(old, new).as_bytes());
+            assert_eq!((checked.why, checked.meant), (Why::Fine, None), "{old}");
+            assert!(!checked.said().contains("meant"), "{old}");
+        }
+    }
+    assert_eq!(check(TEXT.as_bytes()).meant, None);
+    assert_eq!(check(b"").meant, None);
 }

@@ -25,8 +25,12 @@ const A: u16 = 0;
 const B: u16 = 1;
 const E: u16 = 2;
 const G: u16 = 5;
+const FA: u16 = 3;
 const NOT_E: u16 = 6;
 const E_OR_G: u16 = 7;
+
+const CLASH: u16 = 2;
+const FAIL: u16 = 7;
 
 fn step(kind: u16, rule: u16, term: u16, value: u16, premises: &[u16]) -> [u16; 9] {
     let mut row = [X; 9];
@@ -40,7 +44,11 @@ fn decide(term: u16, value: u16) -> [u16; 9] {
 }
 
 fn the_clash() -> [u16; 9] {
-    step(2, 9, G, 1, &[E])
+    step(CLASH, 9, G, 1, &[E])
+}
+
+fn the_fail() -> [u16; 9] {
+    step(FAIL, 9, G, 1, &[E])
 }
 
 /// Runs on the small board with dirty buffers of the least lengths and returns
@@ -74,11 +82,8 @@ fn result(inputs: &[[u16; 2]], steps: &[[u16; 9]]) -> [u16; 4] {
 #[test]
 fn runs_on_the_small_board() {
     assert_eq!(result(&[], &[]), [OPEN, 0, 0, 0]);
-    assert_eq!(
-        result(&[[E, 1], [G, 0]], &[the_clash()]),
-        [REFUTED, 1, 0, 2]
-    );
-    assert_eq!(result(&[[E, 1]], &[the_clash()]), [REFUSED, 0, 16, 1]);
+    assert_eq!(result(&[[E, 1], [G, 0]], &[the_fail()]), [REFUTED, 1, 0, 2]);
+    assert_eq!(result(&[[E, 1]], &[the_fail()]), [REFUSED, 0, 16, 1]);
     assert_eq!(
         board(
             &[[G, 0]],
@@ -118,7 +123,7 @@ fn clear_keeps_the_late_entry() {
         decide(A, 7),
         decide(B, 7),
         step(1, 5, E, 0, &[NOT_E]),
-        step(2, 0, E, 1, &[A, B]),
+        step(CLASH, 0, E, 1, &[A, B]),
     ];
     let with = |last| [&four[..], &[last]].concat();
     assert_eq!(
@@ -131,6 +136,113 @@ fn clear_keeps_the_late_entry() {
     assert_eq!(
         result(&[[NOT_E, 1]], &with(step(4, X, A, X, &[]))),
         [REFUSED, 4, 21, 4]
+    );
+}
+
+/// The results of a clash and of the fail that is like it, after the same steps.
+fn both(
+    inputs: &[[u16; 2]],
+    before: &[[u16; 9]],
+    rule: u16,
+    term: u16,
+    premises: &[u16],
+) -> [[u16; 3]; 2] {
+    [CLASH, FAIL].map(|kind| {
+        let last = step(kind, rule, term, 1, premises);
+        let [verdict, steps, number, _] = result(inputs, &[before, &[last]].concat());
+        [verdict, steps, number]
+    })
+}
+
+#[test]
+fn clash_or_fail_by_the_level() {
+    let cong = |inputs: &[[u16; 2]], before: &[[u16; 9]]| both(inputs, before, 9, G, &[E]);
+    let opened = |steps| [[OPEN, steps, 0], [REFUSED, steps - 1, 26]];
+    let refuted = |steps| [[REFUSED, steps - 1, 26], [REFUTED, steps, 0]];
+    assert_eq!(cong(&[[E, 1], [G, 0]], &[]), refuted(1));
+    assert_eq!(cong(&[[E, 1], [G, 0]], &[decide(A, 7)]), refuted(2));
+    assert_eq!(cong(&[[G, 0]], &[decide(E, 1)]), opened(2));
+    assert_eq!(cong(&[[E, 1]], &[decide(G, 0)]), opened(2));
+    assert_eq!(cong(&[], &[decide(E, 1), decide(G, 0)]), opened(3));
+    let late = step(1, 5, E, 0, &[NOT_E]);
+    let same = |before: &[[u16; 9]]| both(&[[NOT_E, 1], [A, 7]], before, 0, E, &[A, B]);
+    assert_eq!(same(&[late, decide(FA, 1), decide(B, 7)]), opened(4));
+    assert_eq!(same(&[decide(B, 7), late]), opened(3));
+    assert_eq!(
+        both(&[[NOT_E, 1], [A, 7], [B, 7]], &[late], 0, E, &[A, B]),
+        refuted(2)
+    );
+}
+
+/// The board with a row for a=a, which refl gives with no premise.
+#[test]
+fn the_level_of_no_premises() {
+    let terms = [TERMS, &[0, 0, A, A, X, X]].concat();
+    let end = |kind: u16, inputs: &[u16], steps: &[[u16; 9]]| {
+        let steps = [steps, &[step(kind, 2, 8, 1, &[])]].concat().concat();
+        let mut work = [0; work_words(9)];
+        let mut trail = [0; trail_numbers(9)];
+        let out = run(SORTS, &terms, inputs, &steps, &mut work, &mut trail);
+        (out.verdict, out.number)
+    };
+    assert_eq!(end(FAIL, &[8, 0], &[]), (REFUTED, 0));
+    assert_eq!(end(CLASH, &[8, 0], &[]), (REFUSED, 26));
+    assert_eq!(end(FAIL, &[], &[decide(8, 0)]), (REFUSED, 26));
+    assert_eq!(end(CLASH, &[], &[decide(8, 0)]), (OPEN, 0));
+    assert_eq!(end(FAIL, &[], &[decide(8, 1)]), (REFUSED, 16));
+    assert_eq!(end(CLASH, &[8, 1], &[]), (REFUSED, 16));
+}
+
+/// A row with a fault has later ones too, where there is such a row.
+#[test]
+fn the_order_of_clash_and_fail() {
+    let inputs = [[E, 1], [NOT_E, 0]];
+    let above = vec![decide(A, 7), decide(B, 7)];
+    let neg = step(CLASH, 5, E, 0, &[NOT_E]);
+    let same = step(FAIL, 0, E, 0, &[A, B]);
+    for (kind, before, premise, misfit) in [(CLASH, vec![], E, neg), (FAIL, above, A, same)] {
+        let number = |row: [u16; 9]| result(&inputs, &[&before[..], &[row]].concat())[2];
+        assert_eq!(number(step(kind, 13, 8, 1, &[8])), 9);
+        assert_eq!(number(step(kind, X, 8, 1, &[8])), 9);
+        assert_eq!(number(step(kind, 9, X, 1, &[8])), 9);
+        assert_eq!(number(step(kind, 9, 8, 2, &[8])), 9);
+        assert_eq!(number(step(kind, 9, 8, X, &[8])), 9);
+        assert_eq!(number(step(kind, 9, 8, 1, &[X, 8])), 9);
+        assert_eq!(number(step(kind, 9, 8, 1, &[FA])), 11);
+        assert_eq!(number(step(kind, 9, FA, 1, &[8])), 11);
+        assert_eq!(number(step(kind, 9, FA, 1, &[G])), 22);
+        assert_eq!(number(step(kind, 9, G, 1, &[G])), 12);
+        assert_eq!(number(step(kind, 9, G, 1, &[premise, premise])), 13);
+        assert_eq!(number(misfit), 13);
+    }
+    let conflict = |last| result(&[[G, 0]], &[decide(E, 1), the_clash(), last])[2];
+    for kind in [CLASH, FAIL] {
+        assert_eq!(conflict(step(kind, 9, G, 2, &[E])), 9);
+        assert_eq!(conflict(step(kind, 9, 8, 1, &[8])), 10);
+    }
+    let unlisted = step(8, 9, G, 1, &[E]);
+    assert_eq!(result(&[[E, 1], [G, 0]], &[unlisted])[2], 9);
+}
+
+/// Where the opposite is absent it is 16, whatever the level of the premises.
+#[test]
+fn absent_opposites() {
+    for kind in [CLASH, FAIL] {
+        let row = step(kind, 9, G, 1, &[E]);
+        assert_eq!(result(&[[E, 1]], &[row]), [REFUSED, 0, 16, 1]);
+        assert_eq!(result(&[], &[decide(E, 1), row]), [REFUSED, 1, 16, 1]);
+        assert_eq!(result(&[[E, 1], [G, 1]], &[row]), [REFUSED, 0, 16, 2]);
+        let decided = [decide(E, 1), decide(G, 1), row];
+        assert_eq!(result(&[], &decided), [REFUSED, 2, 16, 2]);
+    }
+}
+
+#[test]
+fn a_fail_ends_the_run() {
+    let after = [the_fail(), [X; 9], the_fail()];
+    assert_eq!(
+        board(&[[E, 1], [G, 0]], &after),
+        ([REFUTED, 1, 0, 2], vec![[E, 1, 0, 0], [G, 0, 0, 0]])
     );
 }
 
@@ -209,7 +321,7 @@ fn the_text() {
     assert_eq!(sheets[1][..36], TERMS[..36]);
     assert_eq!(sheets[1][36], 0);
     assert_eq!(sheets[2], [E, 1, G, 0]);
-    assert_eq!(sheets[3][..9], the_clash());
+    assert_eq!(sheets[3][..9], the_fail());
     assert!(sheets[3][9..].iter().all(|&number| number == 0));
     for short in 0..4 {
         let mut lengths = [2, 36, 4, 9];
