@@ -11,6 +11,7 @@ use calculus::Outcome;
 
 // The causes of 26, behind those that make a text malformed.
 pub const FAIL_MEANT: u16 = 12;
+
 pub const CLASH_MEANT: u16 = 13;
 
 // What is wrong with a text or a call: the number of the refusal or 0, the line or 0, its field or 0, and the number of the

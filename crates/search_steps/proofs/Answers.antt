@@ -4,14 +4,13 @@ use mathlib.Core.Bool.{Bool, true, false, not}
 use mathlib.Core.List.{List, _∷_}
 use Prim.Native.Nat.{ℕ, _<_}
 use native.Mathlib.Omega.{arith}
-use borrow.Author.Tests.{ne-eqb}
 use Rattle.calculus.specs.declared.Step.{Step}
 use Rattle.calculus.specs.Lists.{all, has}
-use Rattle.calculus.specs.Trail.{Trail, on, levelOf, decision, justified}
+use Rattle.calculus.specs.Trail.{Trail, on, decision, justified}
 use Rattle.calculus.specs.WellFormed.{Within}
 use Rattle.calculus.specs.Steps as calculus
 use Rattle.calculus.specs.Steps.{premises, clashSet, decideRefusal, inferenceRefusal, deduceRefusal, contradictionRefusal, clashRefusal, failRefusal}
-use Rattle.calculus.proofs.Facts.{T-false, T-true, and-l, unless-ok}
+use Rattle.calculus.proofs.Facts.{T-false, T-true, unless-ok}
 use Rattle.calculus.proofs.WellFormed.{top-length, inference-ok, contradiction-ok}
 use Rattle.trail.specs.Words.{trailIn, Laid}
 use Rattle.calculus.proofs.Trails.{room-more}
