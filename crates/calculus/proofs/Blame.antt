@@ -16,9 +16,9 @@ use Rattle.calculus.specs.Sorts.{sortRefusal, sortsRefusal}
 use Rattle.calculus.specs.Terms.{termRefusal, termsRefusal}
 use Rattle.calculus.specs.Inputs.{inputRefusal, inputsRefusal}
 use Rattle.calculus.specs.Steps as Steps
-use Rattle.calculus.specs.Steps.{State, Answer, allowed, refuted, refused, answer, shaped, ready, known, rowRefusal, step, kindOf, stepBy, stepAt}
+use Rattle.calculus.specs.Steps.{State, Answer, allowed, refuted, refused, answer, rowRefusal, step, kindOf, stepBy, stepAt}
 use Rattle.calculus.specs.Run.{Ending, follow, run, start, callRefusal, endingOf, ending, outcome}
-use Rattle.calculus.specs.Blame.{numbersOf, Between, OfStep, NoneOr, Blame}
+use Rattle.calculus.specs.Blame.{ownNumbers, numbersOf, Between, OfStep, NoneOr, Blame}
 use Rattle.calculus.proofs.Facts.{both-true, all-at, has-at}
 
 -- ---- numbers of a group
@@ -90,10 +90,6 @@ module _ (k : Kind) where
   answered zero a h b = b
   answered (suc c) a h b = h (λ z. absurd (omega (arith, z)))
 
-  -- the tests that all steps have
-  row-blame : (a b c : Bool) → OfStep k 9 → OfStep k 10 → OfStep k 11 → NoneOr (OfStep k) (unless a 9 (unless b 10 (unless c 11 0)))
-  row-blame a b c nine ten eleven = ask a 9 nine (ask b 10 ten (ask c 11 eleven no-trouble))
-
 module _ (ts : List ℕ) where
   by-blame : (k : Kind) (s : State) (x : Step) → StepBlame k (stepBy ts k s x)
   unfolding stepBy Steps.decide Steps.decideRefusal Steps.inferenceRefusal Steps.deduce Steps.deduceRefusal Steps.contradictionRefusal Steps.clash Steps.clashRefusal Steps.fail Steps.failRefusal Steps.resolve Steps.resolveRefusal Steps.clear Steps.clearRefusal Steps.jump Steps.jumpRefusal Steps.flip Steps.flipRefusal
@@ -113,25 +109,11 @@ module _ (ts : List ℕ) where
       answered Fail _ _ (ask Fail _ 22 tt (ask Fail _ 12 tt (ask Fail _ 13 tt (ask Fail _ 16 tt (ask Fail _ 26 tt (no-trouble Fail)))))) tt
   by-blame Unlisted s x = tt
 
-  -- an unlisted step passes no test
-  unlisted-blame : (x : Step) (rest : ℕ) → NoneOr (OfStep Unlisted) (unless (shaped x Unlisted) 9 rest)
-  unfolding unless shaped
-  unlisted-blame x rest = λ z. tt
-
-  guards-blame : (k : Kind) (s : State) (x : Step) → NoneOr (OfStep k) (unless (shaped x k) 9 (unless (ready s k) 10 (unless (known ts x) 11 0)))
-  guards-blame Decide s x = row-blame Decide _ _ _ tt tt tt
-  guards-blame Deduce s x = row-blame Deduce _ _ _ tt tt tt
-  guards-blame Clash s x = row-blame Clash _ _ _ tt tt tt
-  guards-blame Resolve s x = row-blame Resolve _ _ _ tt tt tt
-  guards-blame Clear s x = row-blame Clear _ _ _ tt tt tt
-  guards-blame Jump s x = row-blame Jump _ _ _ tt tt tt
-  guards-blame Flip s x = row-blame Flip _ _ _ tt tt tt
-  guards-blame Fail s x = row-blame Fail _ _ _ tt tt tt
-  guards-blame Unlisted s x = unlisted-blame x _
-
   step-blame : (s : State) (x : Step) → StepBlame (kindOf (x .step)) (step ts s x)
   unfolding step rowRefusal
-  step-blame s x = answered _ _ _ (guards-blame (kindOf (x .step)) s x) (by-blame (kindOf (x .step)) s x)
+  step-blame s x =
+      let k = kindOf (x .step) in
+      answered k _ _ (ask k _ 9 tt (ask k _ 10 tt (ask k _ 11 tt (no-trouble k)))) (by-blame k s x)
 
 -- ---- the run
 
@@ -177,9 +159,9 @@ blame x =
 
 -- a step's number is 9 or more
 from-9 : (k : Kind) (n : ℕ) → OfStep k n → 9 ≤ n
-from-9 k n h = leb→le 9 n (all-at (leb 9) (numbersOf k) (least k) (has-at (numbersOf k) h))
+from-9 k n h = leb→le 9 n (all-at (leb 9) (numbersOf k) (least k) (has-at (numbersOf k) {x = n} h))
   where
-    least : (k : Kind) → T (all (leb 9) (numbersOf k))
+    least : (k : Kind) → T (all (leb 9) (ownNumbers k))
     least Decide = tt
     least Deduce = tt
     least Clash = tt

@@ -13,17 +13,21 @@ use Rattle.calculus.specs.Inputs.{inputsRefusal}
 use Rattle.calculus.specs.Steps.{stepAt, kindOf}
 use Rattle.calculus.specs.Run.{callRefusal, outcome}
 
--- the numbers that a step can get, in the order of its tests
+-- the numbers of a step's own tests, in their order
+abbrev pub ownNumbers : Kind → List ℕ
+ownNumbers Decide = 22 ∷ 14 ∷ []
+ownNumbers Deduce = 22 ∷ 12 ∷ 13 ∷ 14 ∷ 15 ∷ []
+ownNumbers Clash = 22 ∷ 12 ∷ 13 ∷ 16 ∷ 26 ∷ []
+ownNumbers Resolve = 17 ∷ 18 ∷ 19 ∷ []
+ownNumbers Clear = 17 ∷ 20 ∷ 21 ∷ []
+ownNumbers Jump = 17 ∷ 22 ∷ 21 ∷ []
+ownNumbers Flip = 17 ∷ 22 ∷ 18 ∷ 23 ∷ []
+ownNumbers Fail = 22 ∷ 12 ∷ 13 ∷ 16 ∷ 26 ∷ []
+ownNumbers Unlisted = []
+
+-- in a step 9, 10, 11, and then those
 abbrev pub numbersOf : Kind → List ℕ
-numbersOf Decide = 9 ∷ 10 ∷ 11 ∷ 22 ∷ 14 ∷ []
-numbersOf Deduce = 9 ∷ 10 ∷ 11 ∷ 22 ∷ 12 ∷ 13 ∷ 14 ∷ 15 ∷ []
-numbersOf Clash = 9 ∷ 10 ∷ 11 ∷ 22 ∷ 12 ∷ 13 ∷ 16 ∷ 26 ∷ []
-numbersOf Resolve = 9 ∷ 10 ∷ 11 ∷ 17 ∷ 18 ∷ 19 ∷ []
-numbersOf Clear = 9 ∷ 10 ∷ 11 ∷ 17 ∷ 20 ∷ 21 ∷ []
-numbersOf Jump = 9 ∷ 10 ∷ 11 ∷ 17 ∷ 22 ∷ 21 ∷ []
-numbersOf Flip = 9 ∷ 10 ∷ 11 ∷ 17 ∷ 22 ∷ 18 ∷ 23 ∷ []
-numbersOf Fail = 9 ∷ 10 ∷ 11 ∷ 22 ∷ 12 ∷ 13 ∷ 16 ∷ 26 ∷ []
-numbersOf Unlisted = 9 ∷ []
+numbersOf k = 9 ∷ 10 ∷ 11 ∷ ownNumbers k
 
 -- the groups
 abbrev pub Between : ℕ → ℕ → ℕ → Type 0
