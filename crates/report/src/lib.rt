@@ -9,9 +9,10 @@ ghost use Rattle.report.specs.Words.{meaning, cause};
 ghost use Rattle.report.specs.Complaint.{fieldPart, wherePart, whatPart, whyPart, complained};
 use calculus::Outcome;
 
-// The causes of 26, behind those that make a text malformed.
+// The causes of 26, numbered behind those that make a text malformed: the row is a clash, and fail was meant.
 pub const FAIL_MEANT: u16 = 12;
 
+// The row is a fail, and clash was meant.
 pub const CLASH_MEANT: u16 = 13;
 
 // What is wrong with a text or a call: the number of the refusal or 0, the line or 0, its field or 0, and the number of the
