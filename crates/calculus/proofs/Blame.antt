@@ -8,7 +8,7 @@ use borrow.Author.Tests.{leb-true}
 use lib.Dec.{T, leb, leb→le}
 use Rattle.calculus.specs.declared.Step.{Step}
 use Rattle.calculus.specs.declared.Kind.{Kind}
-use Rattle.calculus.specs.declared.Kind.the-variants.{Decide, Deduce, Clash, Resolve, Clear, Jump, Flip, Fail, Unlisted}
+use Rattle.calculus.specs.declared.Kind.the-variants.{Decide, Deduce, Clash, Resolve, Clear, Jump, Flip, Fail, Learn, Unlisted}
 use Rattle.calculus.specs.Lists.{all}
 use Rattle.calculus.specs.Numbers.{unless, orElse, firstRefusal}
 use Rattle.calculus.specs.Sheets.{Call, inputRows, stepRows, termRows, sortRows, lengthRefusal}
@@ -92,7 +92,7 @@ module _ (k : Kind) where
 
 module _ (ts : List ℕ) where
   by-blame : (k : Kind) (s : State) (x : Step) → StepBlame k (stepBy ts k s x)
-  unfolding stepBy Steps.decide Steps.decideRefusal Steps.inferenceRefusal Steps.deduce Steps.deduceRefusal Steps.contradictionRefusal Steps.clash Steps.clashRefusal Steps.fail Steps.failRefusal Steps.resolve Steps.resolveRefusal Steps.clear Steps.clearRefusal Steps.jump Steps.jumpRefusal Steps.flip Steps.flipRefusal
+  unfolding stepBy Steps.decide Steps.decideRefusal Steps.inferenceRefusal Steps.deduce Steps.deduceRefusal Steps.contradictionRefusal Steps.clash Steps.clashRefusal Steps.fail Steps.failRefusal Steps.resolve Steps.resolveRefusal Steps.clear Steps.clearRefusal Steps.jump Steps.jumpRefusal Steps.flip Steps.flipRefusal Steps.learn Steps.learnRefusal
   by-blame Decide s x = answered Decide _ _ (ask Decide _ 22 tt (ask Decide _ 14 tt (no-trouble Decide))) tt
   by-blame Deduce s x =
       answered Deduce _ _
@@ -107,6 +107,9 @@ module _ (ts : List ℕ) where
       answered Flip _ _ (ask Flip _ 17 tt (ask Flip _ 22 tt (ask Flip _ 18 tt (ask Flip _ 23 tt (no-trouble Flip))))) tt
   by-blame Fail s x =
       answered Fail _ _ (ask Fail _ 22 tt (ask Fail _ 12 tt (ask Fail _ 13 tt (ask Fail _ 16 tt (ask Fail _ 26 tt (no-trouble Fail)))))) tt
+  by-blame Learn s x =
+      answered Learn _ _
+      (ask Learn _ 17 tt (ask Learn _ 22 tt (ask Learn _ 25 tt (ask Learn _ 14 tt (ask Learn _ 21 tt (no-trouble Learn)))))) tt
   by-blame Unlisted s x = tt
 
   step-blame : (s : State) (x : Step) → StepBlame (kindOf (x .step)) (step ts s x)
@@ -170,6 +173,7 @@ from-9 k n h = leb→le 9 n (all-at (leb 9) (numbersOf k) (least k) (has-at (num
     least Jump = tt
     least Flip = tt
     least Fail = tt
+    least Learn = tt
     least Unlisted = tt
 
 pub log-from-9 : (x : Call) → callRefusal x ≡ 0 → (outcome x .number ≡ 0 → ⊥) → 9 ≤ outcome x .number

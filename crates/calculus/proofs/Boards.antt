@@ -86,6 +86,10 @@ jump t = 5 ∷ 65535 ∷ t ∷ nothing 6
 abbrev pub flip : ℕ → ℕ → List ℕ
 flip t k = 6 ∷ 65535 ∷ t ∷ 65535 ∷ k ∷ nothing 4
 
+-- clause, level and members
+abbrev pub learn : ℕ → ℕ → List ℕ → List ℕ
+learn t m hs = 8 ∷ 65535 ∷ t ∷ m ∷ hs ++ nothing (5 - length hs)
+
 -- ---- results: verdict, steps, number, entries
 
 abbrev pub remains : ℕ → ℕ → List ℕ
@@ -130,6 +134,10 @@ given x = shown (outcome (callOf x))
 
 abbrev pub asked : Case → List ℕ
 asked x = x .result
+
+-- an entry that is left: term, value, level, decision or not
+abbrev pub entry : ℕ → ℕ → ℕ → ℕ → List ℕ
+entry t v m d = t ∷ v ∷ m ∷ d ∷ []
 
 -- refused before any step
 abbrev pub away : ℕ → List ℕ

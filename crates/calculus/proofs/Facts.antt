@@ -3,7 +3,7 @@ use mathlib.Core.Path.{_≡_, refl, sym, ap, subst, _∙_}
 use mathlib.Core.Logic.{_≢_, _⊎_, inl, inr}
 use mathlib.Core.Bool.{Bool, true, false, not, _&&_, _||_, cond}
 use mathlib.Core.List.{List, [], _∷_, List·Memᴰ, List·Memᴰ·head, List·Memᴰ·tail, Memᴰ·cast}
-use Prim.Native.Nat.{ℕ, zero, suc, _<_}
+use Prim.Native.Nat.{ℕ, zero, suc, _≤_, _<_}
 use native.Mathlib.Omega.{arith}
 use native.Mathlib.Nat.{not-suc-le-zero, suc-ne-zero}
 use native.Mathlib.Decide.{decLt}
@@ -11,6 +11,12 @@ use lib.Dec.{T, eqb, eqb→eq, leb→le, ltb→lt, eqb-refl, T-not, not-T}
 use Rattle.calculus.specs.Lists.{num, all, any, has, below}
 use Rattle.calculus.specs.Numbers.{unless, orElse, firstRefusal}
 use Rattle.calculus.specs.Steps.{Answer, refused, answer}
+
+-- ---- truth values as numbers
+
+pub num-le : (b : Bool) → num b ≤ 1
+num-le true = omega arith
+num-le false = omega arith
 
 -- ---- tests as facts
 

@@ -7,10 +7,12 @@ pub mod Columns
 pub mod WellSorted
 pub mod Rows
 pub mod WellFormed
+pub mod Clauses
 pub mod Truths
 pub mod Running
 pub mod Boards
 pub mod Runs
 pub mod Slips
 pub mod Order
+pub mod Learning
 pub mod Blame

@@ -226,7 +226,7 @@ in-conflict log n = steps (e ∷ 1 ∷ []) (unlike ++ log) (refuses 4 n 4)
 abbrev columns : List Case
 columns =
     -- 9: a step or a rule that is not listed
-    steps [] (8 ∷ 65535 ∷ a ∷ 7 ∷ nothing 5) (away 9)
+    steps [] (9 ∷ 65535 ∷ a ∷ 7 ∷ nothing 5) (away 9)
     ∷ steps [] (deduce 13 e 1 []) (away 9)
     -- a needed column is blank
     ∷ steps [] (decide 65535 1) (away 9)
@@ -345,7 +345,7 @@ search-steps =
     ∷ steps (equal ++ (e ∷ 0 ∷ [])) (fail-e ++ nothing 9) (refutes 1 3)
     ∷ []
 
--- ---- resolve 17, 18, 19; clear 17, 20, 21; jump 17, 22, 21; flip 17, 22, 18, 23
+-- ---- resolve 17, 18, 19; clear 17, 20, 21; jump 17, 22, 21; flip 17, 22, 18, 23 (learn has a table of its own)
 
 -- decisions, a last, then e and d false: both rest on a, whose level is the greatest
 abbrev both-false : List ℕ

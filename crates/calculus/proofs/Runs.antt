@@ -16,7 +16,7 @@ use Rattle.calculus.specs.Rules
 use Rattle.calculus.specs.Steps
 use Rattle.calculus.specs.Run
 use Rattle.calculus.specs.Run.{callRefusal, outcome, trailAfter, workAfter}
-use Rattle.calculus.proofs.Boards.{same, neg, unit, decide, deduce, clash, fail, resolve, clear, jump, remains, refutes, refuses, shown, sorts, terms, a, b, e, g, not-e, e-or-g, clash-g, fail-g}
+use Rattle.calculus.proofs.Boards.{same, neg, unit, decide, deduce, clash, fail, resolve, clear, jump, remains, refutes, refuses, entry, shown, sorts, terms, a, b, e, g, not-e, e-or-g, clash-g, fail-g}
 
 -- ---- logs
 
@@ -33,10 +33,6 @@ Example = record { input : List ℕ; log : List ℕ; result : List ℕ; left : L
 
 abbrev example : List ℕ → List ℕ → List ℕ → List ℕ → Example
 example i l r t = record { input = i; log = l; result = r; left = t }
-
--- an entry that is left: term, value, level, decision or not
-abbrev entry : ℕ → ℕ → ℕ → ℕ → List ℕ
-entry t v m d = t ∷ v ∷ m ∷ d ∷ []
 
 -- each run's input and steps, its result, and the entries left
 abbrev table : List Example

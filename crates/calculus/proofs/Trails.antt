@@ -3,15 +3,37 @@ use Prim.Native.Nat.{ℕ, zero, suc, _≤_, _<_, max}
 use native.Mathlib.Omega.{arith}
 use mathlib.Core.Path.{_≡_, refl, sym, ap, _∙_}
 use mathlib.Core.Logic.{⊎-elim}
-use mathlib.Core.Bool.{Bool, true, false, _&&_, _||_, cond, or-false, or-true}
-use mathlib.Core.List.{[], _∷_}
+use mathlib.Core.Bool.{Bool, true, false, not, _&&_, _||_, cond, or-false, or-true}
+use mathlib.Core.List.{List, [], _∷_}
 use lib.Dec.{eqb, leb}
 use lib.ListN.{length}
 use borrow.Author.Tests.{eqb-true, eqb-false, eq-eqb, le-leb, lt-leb}
-use Rattle.calculus.specs.Trail.{Set, Trail, Entry, empty, insert, union, on, entry, levelAt, holds, levelOf, topLevel, keptTo}
+use Rattle.calculus.specs.Lists.{has}
+use Rattle.calculus.specs.Trail.{Set, Trail, Entry, empty, insert, remove, without, union, on, entry, levelAt, holds, levelOf, topLevel, keptTo}
 use Rattle.calculus.specs.WellFormed.{Distinct, Below}
 use Rattle.calculus.proofs.Facts.{is-or-not, true-or-false, none-true, both-true, one-true, cond-case}
 use Rattle.calculus.proofs.Entries.{entry-here, entry-older, kept-off}
+
+-- ---- sets
+
+-- removal of several rows is removal repeated
+pub without-none : (s : Set) → without s [] ≡ s
+without-none s = λ i u. last (s u) i
+  where
+    last : (b : Bool) → b && true ≡ b
+    last true = refl
+    last false = refl
+
+pub without-more : (s : Set) (x : ℕ) (xs : List ℕ) → without s (x ∷ xs) ≡ without (remove s x) xs
+without-more s x xs = λ i u. one (s u) (eqb u x) (has xs u) i
+  where
+    one : (a b c : Bool) → a && not (b || c) ≡ (a && not b) && not c
+    one true true c = refl
+    one true false c = refl
+    one false b c = refl
+
+pub without-one : (s : Set) (x : ℕ) → without s (x ∷ []) ≡ remove s x
+without-one s x = without-more s x [] ∙ without-none (remove s x)
 
 -- ---- on the trail or not
 
@@ -47,33 +69,33 @@ on-below n t (e ∷ older) b h =
 
 -- ---- distinct terms below n are at most n
 
-without : ℕ → Trail → Trail
-without t [] = []
-without t (e ∷ older) = cond (eqb (e .term) t) older (e ∷ without t older)
+dropped : ℕ → Trail → Trail
+dropped t [] = []
+dropped t (e ∷ older) = cond (eqb (e .term) t) older (e ∷ dropped t older)
 
-without-length : (t : ℕ) (tr : Trail) → length tr ≤ suc (length (without t tr))
-unfolding without
-without-length t [] = omega arith
-without-length t (e ∷ older) =
+dropped-length : (t : ℕ) (tr : Trail) → length tr ≤ suc (length (dropped t tr))
+unfolding dropped
+dropped-length t [] = omega arith
+dropped-length t (e ∷ older) =
     cond-case (λ (l : Trail). suc (length older) ≤ suc (length l)) (eqb (e .term) t) _ _
     (λ q. omega arith)
-    (λ q. omega (arith, without-length t older))
+    (λ q. omega (arith, dropped-length t older))
 
-without-off : (t s : ℕ) (tr : Trail) → on tr s ≡ false → on (without t tr) s ≡ false
-unfolding without
-without-off t s [] h = h
-without-off t s (e ∷ older) h =
+dropped-off : (t s : ℕ) (tr : Trail) → on tr s ≡ false → on (dropped t tr) s ≡ false
+unfolding dropped
+dropped-off t s [] h = h
+dropped-off t s (e ∷ older) h =
     cond-case (λ (l : Trail). on l s ≡ false) (eqb (e .term) t) _ _
     (λ q. off-parts s e older h .1)
-    (λ q. off-cons s e (without t older) (off-parts s e older h .0) (without-off t s older (off-parts s e older h .1)))
+    (λ q. off-cons s e (dropped t older) (off-parts s e older h .0) (dropped-off t s older (off-parts s e older h .1)))
 
-without-distinct : (t : ℕ) (tr : Trail) → Distinct tr → Distinct (without t tr)
-unfolding without Distinct
-without-distinct t [] d = tt
-without-distinct t (e ∷ older) d =
+dropped-distinct : (t : ℕ) (tr : Trail) → Distinct tr → Distinct (dropped t tr)
+unfolding dropped Distinct
+dropped-distinct t [] d = tt
+dropped-distinct t (e ∷ older) d =
     cond-case Distinct (eqb (e .term) t) _ _
     (λ q. d .1)
-    (λ q. (without-off t (e .term) older (d .0), without-distinct t older (d .1)))
+    (λ q. (dropped-off t (e .term) older (d .0), dropped-distinct t older (d .1)))
 
 -- what is below n + 1 and not n is below n
 below-off : (n : ℕ) (tr : Trail) → on tr n ≡ false → Below (suc n) tr → Below n tr
@@ -83,19 +105,19 @@ below-off n (e ∷ older) h b =
     let q : e .term ≡ n → ⊥ = eqb-false _ _ (off-parts n e older h .0) in
     (omega (arith, b .0), below-off n older (off-parts n e older h .1) (b .1))
 
-without-below : (n : ℕ) (tr : Trail) → Distinct tr → Below (suc n) tr → Below n (without n tr)
-unfolding without Distinct Below
-without-below n [] d b = tt
-without-below n (e ∷ older) d b =
+dropped-below : (n : ℕ) (tr : Trail) → Distinct tr → Below (suc n) tr → Below n (dropped n tr)
+unfolding dropped Distinct Below
+dropped-below n [] d b = tt
+dropped-below n (e ∷ older) d b =
     cond-case (Below n) (eqb (e .term) n) _ _
     (λ q. below-off n older (rw (eqb-true (e .term) n q) at (d .0)) (b .1))
-    (λ q. let l : e .term ≡ n → ⊥ = eqb-false _ _ q in (omega (arith, b .0), without-below n older (d .1) (b .1)))
+    (λ q. let l : e .term ≡ n → ⊥ = eqb-false _ _ q in (omega (arith, b .0), dropped-below n older (d .1) (b .1)))
 
 pub room : (n : ℕ) (tr : Trail) → Distinct tr → Below n tr → length tr ≤ n
 unfolding Below
 room zero [] d b = omega arith
 room zero (e ∷ older) d b = absurd (omega (arith, b .0))
-room (suc n) tr d b = omega (arith, without-length n tr, room n (without n tr) (without-distinct n tr d) (without-below n tr d b))
+room (suc n) tr d b = omega (arith, dropped-length n tr, room n (dropped n tr) (dropped-distinct n tr d) (dropped-below n tr d b))
 
 -- there is room for one that is not there yet
 pub room-more : (n t : ℕ) (tr : Trail) → Distinct tr → Below n tr → t < n → on tr t ≡ false → length tr < n

@@ -8,15 +8,16 @@ use native.Mathlib.Omega.{arith}
 use lib.Dec.{T, eqb, leb, leb→le, T-not}
 use Rattle.calculus.specs.declared.Step.{Step}
 use Rattle.calculus.specs.declared.Kind.{Kind}
-use Rattle.calculus.specs.declared.Kind.the-variants.{Decide, Deduce, Clash, Resolve, Clear, Jump, Flip, Fail, Unlisted}
+use Rattle.calculus.specs.declared.Kind.the-variants.{Decide, Deduce, Clash, Resolve, Clear, Jump, Flip, Fail, Learn, Unlisted}
 use Rattle.calculus.specs.Sheets.{blank, inputRows}
-use Rattle.calculus.specs.Terms.{sort, prop}
+use Rattle.calculus.specs.Terms.{sort, prop, orHead}
+use Rattle.calculus.specs.Rules.{isHead}
 use Rattle.calculus.specs.Trail.{Trail, Entry, keptTo, decision}
 use Rattle.calculus.specs.Inputs.{given, inputTerm, inputValue, inputTrail, valueSuits, inputRefusal, inputsRefusal}
-use Rattle.calculus.specs.Steps.{State, searching, trailOf, Answer, allowed, refuted, refused, answer, stepAt, kindOf, shaped, decideRefusal, decide, deduce, clash, fail, resolve, clear, jump, flip, rowRefusal, stepBy, step}
+use Rattle.calculus.specs.Steps.{State, searching, trailOf, Answer, allowed, refuted, refused, answer, stepAt, kindOf, shaped, decideRefusal, decide, deduce, clash, fail, resolve, clear, jump, flip, learn, rowRefusal, stepBy, step}
 use Rattle.calculus.specs.WellFormed.{WellFormedState, Truthful, Coherent}
 use Rattle.calculus.specs.Run.{follow, run}
-use Rattle.calculus.proofs.Facts.{eqb-of, and-r, or-cases, facts, unless-ok, first-ok, answer-case}
+use Rattle.calculus.proofs.Facts.{num-le, eqb-of, and-r, or-cases, facts, unless-ok, first-ok, answer-case}
 use Rattle.calculus.proofs.Entries.{kept-out}
 use Rattle.calculus.proofs.WellFormed.{input-well-formed, step-well-formed}
 
@@ -55,7 +56,7 @@ module _ (ts : List ℕ) where
   inferred-value x h = search facts
 
   step-by-truthful : (k : Kind) (s : State) (x : Step) → Truthful ts (trailOf s) → T (shaped x k) → After (stepBy ts k s x)
-  unfolding stepBy decide decideRefusal deduce clash fail resolve clear jump flip shaped
+  unfolding stepBy decide decideRefusal deduce clash fail resolve clear jump flip learn shaped
   step-by-truthful Decide s x h p =
       after _ _ (λ e.
       push-truthful (decision (trailOf s) (x .term) (x .value)) (trailOf s)
@@ -67,6 +68,8 @@ module _ (ts : List ℕ) where
   step-by-truthful Jump s x h p = after _ _ (λ e. push-truthful _ _ (λ q. omega arith) (kept-truthful _ (trailOf s) h))
   step-by-truthful Flip s x h p = after _ _ (λ e. push-truthful _ _ (λ q. omega arith) (kept-truthful _ (trailOf s) h))
   step-by-truthful Fail s x h p = after _ _ (λ e. tt)
+  step-by-truthful Learn s x h p =
+      after _ _ (λ e. push-truthful _ _ (λ q. num-le (isHead ts (x .term) orHead)) (kept-truthful _ (trailOf s) h))
   step-by-truthful Unlisted s x h p = tt
 
   step-truthful : (s : State) (x : Step) → Truthful ts (trailOf s) → After (step ts s x)

@@ -9,17 +9,18 @@ use lib.ListN.{length}
 use lib.Dec.{T, eqb, leb, ltb, eqb→eq, leb→le, ltb→lt}
 use Rattle.calculus.specs.declared.Step.{Step}
 use Rattle.calculus.specs.declared.Kind.{Kind}
-use Rattle.calculus.specs.declared.Kind.the-variants.{Decide, Deduce, Clash, Resolve, Clear, Jump, Flip, Fail, Unlisted}
+use Rattle.calculus.specs.declared.Kind.the-variants.{Decide, Deduce, Clash, Resolve, Clear, Jump, Flip, Fail, Learn, Unlisted}
 use Rattle.calculus.specs.Lists.{has}
 use Rattle.calculus.specs.Sheets.{Call, termRows, inputRows, stepRows, lengthRefusal}
 use Rattle.calculus.specs.Sorts.{sortsRefusal}
 use Rattle.calculus.specs.Terms.{prop, termsRefusal}
-use Rattle.calculus.specs.Trail.{Set, Trail, Entry, remove, intersection, on, entry, levelAt, whyAt, holds, firstOrder, levelOf, topLevel, keptTo, decision, justified}
+use Rattle.calculus.specs.Trail.{Set, Trail, Entry, remove, without, intersection, on, entry, levelAt, whyAt, holds, firstOrder, levelOf, topLevel, keptTo, decision, justified}
 use Rattle.calculus.specs.Inputs.{given, inputTerm, inputValue, inputTrail, inputRefusal, inputsRefusal}
-use Rattle.calculus.specs.Steps.{State, searching, conflict, trailOf, conflictOf, Answer, allowed, refuted, refused, answer, stepAt, premises, known, kindOf, decideRefusal, decide, inferenceRefusal, deduceRefusal, deduce, contradictionRefusal, clashRefusal, clash, fail, resolve, clear, jumpRefusal, jump, flipRefusal, flip, rowRefusal, stepBy, step}
+use Rattle.calculus.specs.Steps.{State, searching, conflict, trailOf, conflictOf, Answer, allowed, refuted, refused, answer, stepAt, premises, known, kindOf, decideRefusal, decide, inferenceRefusal, deduceRefusal, deduce, contradictionRefusal, clashRefusal, clash, fail, resolve, clear, jumpRefusal, jump, flipRefusal, flip, learnRefusal, learn, rowRefusal, stepBy, step}
 use Rattle.calculus.specs.Run.{follow, run, sheetsRefusal, callRefusal, start, endingOf, ending}
 use Rattle.calculus.specs.WellFormed.{Within, Distinct, Below, Grounded, relevelled, WellFormed, WellFormedState}
 use Rattle.calculus.proofs.Facts.{and-l, and-r, T-true, T-false, true-T, is-or-not, true-or-false, both-true, one-true, cond-case, all-at, has-at, unless-ok, orElse-ok, first-ok, answer-case}
+use Rattle.calculus.proofs.Trails.{room}
 use Rattle.calculus.proofs.Entries.{entered-on, entry-in, entry-older, entry-off, level-top, level-empty, kept-entry, kept-off, level-kept, level-at, holds-at}
 
 -- ---- one entry and the trail before it
@@ -311,6 +312,19 @@ module _ (ts : List ℕ) where
         let h = shared-high l k m (and-r (not (eqb l k)) _ (d .0)) in
         decision-well-formed (keptTo (m - 1) tr) l _ (kept-well-formed (m - 1) tr i) j (off-kept (m - 1) tr l i (omega (arith, h .0, h .1))))
 
+    learn-kept : (t m : ℕ) (hs : List ℕ) → t < rows → Kept rows (learn ts tr E t m hs)
+    unfolding learn learnRefusal WellFormedState
+    learn-kept t m hs k =
+        kept-answer rows _ _ (λ e.
+        let a = unless-ok _ 17 _ (omega arith) e in
+        let b = unless-ok _ 22 _ (omega arith) (a .1) in
+        let c = unless-ok _ 25 _ (omega arith) (b .1) in
+        let d = unless-ok _ 14 _ (omega arith) (c .1) in
+        let f = unless-ok _ 21 _ (omega arith) (d .1) in
+        let s = without E hs in
+        justified-well-formed (keptTo m tr) t _ s (kept-well-formed m tr i) k (kept-off m tr t (T-false _ (d .0)))
+        (within-kept m tr s (λ u h. inside u (both-true (E u) _ h .0)) (leb→le _ _ (and-l (leb (levelOf tr s) m) _ (f .0)))))
+
   step-by-kept : (k : Kind) (s : State) (x : Step) → WellFormedState rows s → x .term < rows → Kept rows (stepBy ts k s x)
   unfolding stepBy
   step-by-kept Decide s x r l = decide-kept (trailOf s) (x .term) (x .value) (trail-well-formed rows s r) l
@@ -321,6 +335,8 @@ module _ (ts : List ℕ) where
   step-by-kept Jump s x r l = jump-kept (trailOf s) (conflictOf s) (trail-well-formed rows s r) (conflict-within rows s r) (x .term) l
   step-by-kept Flip s x r l = flip-kept (trailOf s) (conflictOf s) (trail-well-formed rows s r) (conflict-within rows s r) (x .term) (x .p) l
   step-by-kept Fail s x r l = fail-kept (trailOf s) (x .rule) (x .term) (x .value) (premises x)
+  step-by-kept Learn s x r l =
+      learn-kept (trailOf s) (conflictOf s) (trail-well-formed rows s r) (conflict-within rows s r) (x .term) (x .value) (premises x) l
   step-by-kept Unlisted s x r l = tt
 
   step-kept : (s : State) (x : Step) → WellFormedState rows s → Kept rows (step ts s x)
@@ -395,6 +411,10 @@ top-length (x ∷ older) r =
         → x .level ≡ cond b (1 + topLevel older) (levelOf older (x .why)) → max (topLevel older) (x .level) ≤ suc (length older)
     go true h k e = omega arith
     go false h k e = omega arith
+
+-- every level is at most the number of term rows
+pub level-small : {n : ℕ} (tr : Trail) (s : Set) → WellFormed n tr → levelOf tr s ≤ n
+level-small {n} tr s r = omega (arith, level-top tr s, top-length tr r, room n tr (r .distinct) (r .below))
 
 -- the level of a set with one member more
 pub level-more : (tr : Trail) (s : Set) (p : ℕ) → Distinct tr → levelOf tr (λ u. eqb u p || s u) ≡ max (levelAt tr p) (levelOf tr s)

@@ -4,7 +4,7 @@ use mathlib.Core.List.{List, [], _∷_}
 use Prim.Native.Nat.{ℕ, _≤_, _<_}
 use lib.Dec.{T}
 use Rattle.calculus.specs.declared.Kind.{Kind}
-use Rattle.calculus.specs.declared.Kind.the-variants.{Decide, Deduce, Clash, Resolve, Clear, Jump, Flip, Fail, Unlisted}
+use Rattle.calculus.specs.declared.Kind.the-variants.{Decide, Deduce, Clash, Resolve, Clear, Jump, Flip, Fail, Learn, Unlisted}
 use Rattle.calculus.specs.Lists.{has}
 use Rattle.calculus.specs.Sheets.{Call, stepRows, lengthRefusal}
 use Rattle.calculus.specs.Sorts.{sortsRefusal}
@@ -23,6 +23,7 @@ ownNumbers Clear = 17 ∷ 20 ∷ 21 ∷ []
 ownNumbers Jump = 17 ∷ 22 ∷ 21 ∷ []
 ownNumbers Flip = 17 ∷ 22 ∷ 18 ∷ 23 ∷ []
 ownNumbers Fail = 22 ∷ 12 ∷ 13 ∷ 16 ∷ 26 ∷ []
+ownNumbers Learn = 17 ∷ 22 ∷ 25 ∷ 14 ∷ 21 ∷ []
 ownNumbers Unlisted = []
 
 -- in a step 9, 10, 11, and then those

@@ -7,6 +7,7 @@ pub mod Terms
 pub mod Trail
 pub mod Inputs
 pub mod Rules
+pub mod Clauses
 pub mod Steps
 pub mod Run
 pub mod WellFormed

@@ -1,5 +1,5 @@
--- The eight steps: the numbers 9 to 23 and 26 in their order, and what an allowed step makes of trail and conflict.
--- Beside each step stands the name of its transition in figure 3 of the CADE 2017 paper.
+-- The nine steps: the numbers 9 to 23, 25 and 26 in their order, and what an allowed step makes of trail and conflict.
+-- Beside each step stands the name of its transition: learn's is from figure 1 of the journal article, the others' from figure 3 of the CADE 2017 paper.
 use mathlib.Core.Bool.{Bool, true, false, not, _&&_, cond}
 use mathlib.Core.List.{List, [], _∷_}
 use Prim.Native.Nat.{ℕ, zero, suc, _+_, _-_, _*_}
@@ -7,14 +7,15 @@ use lib.ListN.{getD}
 use lib.Dec.{eqb, leb, ltb}
 use Rattle.calculus.specs.declared.Step.{Step}
 use Rattle.calculus.specs.declared.Kind.{Kind}
-use Rattle.calculus.specs.declared.Kind.the-variants.{Decide, Deduce, Clash, Resolve, Clear, Jump, Flip, Fail, Unlisted}
+use Rattle.calculus.specs.declared.Kind.the-variants.{Decide, Deduce, Clash, Resolve, Clear, Jump, Flip, Fail, Learn, Unlisted}
 use Rattle.calculus.specs.Lists.{all, has, opposite}
 use Rattle.calculus.specs.Numbers.{unless}
 use Rattle.calculus.specs.Sheets.{blank, termRows}
 use Rattle.calculus.specs.Terms.{prop, filled, leftFilled}
-use Rattle.calculus.specs.Trail.{Set, Trail, empty, remove, union, intersection, on, valueAt, levelAt, decidedAt, whyAt, assigned, premisesAt, holds, firstOrder, levelOf, keptTo, decision, justified}
+use Rattle.calculus.specs.Trail.{Set, Trail, empty, remove, without, union, intersection, on, valueAt, levelAt, decidedAt, whyAt, assigned, premisesAt, holds, firstOrder, levelOf, keptTo, decision, justified}
 use Rattle.calculus.specs.Inputs.{valueSuits}
 use Rattle.calculus.specs.Rules.{fits, ruleOf, ruleListed}
+use Rattle.calculus.specs.Clauses.{different, isClause, clauseValue, clausal}
 
 -- ---- states and answers
 
@@ -68,9 +69,9 @@ premiseCells x = x .p ∷ x .q ∷ x .r ∷ x .s ∷ x .t ∷ []
 unfoldable pub premises : Step → List ℕ
 premises x = filled (premiseCells x)
 
--- decide, deduce, clash, resolve, clear, jump, flip, fail
+-- decide, deduce, clash, resolve, clear, jump, flip, fail, learn
 abbrev pub kinds : List Kind
-kinds = Decide ∷ Deduce ∷ Clash ∷ Resolve ∷ Clear ∷ Jump ∷ Flip ∷ Fail ∷ []
+kinds = Decide ∷ Deduce ∷ Clash ∷ Resolve ∷ Clear ∷ Jump ∷ Flip ∷ Fail ∷ Learn ∷ []
 
 unfoldable pub kindOf : ℕ → Kind
 kindOf n = getD kinds n Unlisted
@@ -103,6 +104,14 @@ pairShaped x =
     && (isBlank (x .value)
     && (isFilled (x .p) && all isBlank (x .q ∷ x .r ∷ x .s ∷ x .t ∷ []))))
 
+-- the term, a level as its value, and from the left two to four members
+abbrev pub learnShaped : Step → Bool
+learnShaped x =
+    isBlank (x .rule)
+    && (isFilled (x .term)
+    && (isFilled (x .value)
+    && (isFilled (x .p) && (isFilled (x .q) && (isBlank (x .t) && leftFilled (premiseCells x))))))
+
 unfoldable pub shaped : Step → Kind → Bool
 shaped x Decide = decisionShaped x
 shaped x Deduce = inferenceShaped x
@@ -112,6 +121,7 @@ shaped x Clear = termShaped x
 shaped x Jump = termShaped x
 shaped x Flip = pairShaped x
 shaped x Fail = inferenceShaped x
+shaped x Learn = learnShaped x
 shaped x Unlisted = false
 
 -- ---- number 10: decide, deduce, clash and fail need a search state, the others a conflict
@@ -125,6 +135,7 @@ needsConflict Clear = true
 needsConflict Jump = true
 needsConflict Flip = true
 needsConflict Fail = false
+needsConflict Learn = true
 needsConflict Unlisted = false
 
 unfoldable pub ready : State → Kind → Bool
@@ -140,9 +151,13 @@ clashSet l ps = has (l ∷ ps)
 abbrev pub atBase : Trail → Set → Bool
 atBase tr E = eqb (levelOf tr E) 0
 
--- the trail kept to m, then l with the opposite of its value, which s justifies
+-- the trail kept to m, then t with the value v, which s justifies
+abbrev pub backjumped : Trail → Set → ℕ → ℕ → ℕ → Trail
+backjumped tr s t v m = justified (keptTo m tr) t v s ∷ keptTo m tr
+
+-- the same of l with the opposite of its value
 abbrev pub jumped : Trail → Set → ℕ → ℕ → Trail
-jumped tr s l m = justified (keptTo m tr) l (opposite (valueAt tr l)) s ∷ keptTo m tr
+jumped tr s l m = backjumped tr s l (opposite (valueAt tr l)) m
 
 -- the trail kept to m, then the opposite of l as a decision
 abbrev pub flipped : Trail → ℕ → ℕ → Trail
@@ -246,6 +261,18 @@ module _ (ts : List ℕ) where
   unfoldable pub flip : Trail → Set → ℕ → ℕ → Answer
   flip tr E l k = answer (flipRefusal tr E l k) (allowed (searching (flipped tr l (levelOf tr E - 1))))
 
+  -- learn (LearnBackjump): back to a level m from that of the rest of E to below that of its members hs; the rest justifies t, a clausal form of hs
+  unfoldable pub learnRefusal : Trail → Set → ℕ → ℕ → List ℕ → ℕ
+  learnRefusal tr E t m hs =
+      unless (all E hs) 17 (
+      unless (all (prop ts) hs && isClause ts t) 22 (
+      unless (different hs && clausal ts t (premisesAt tr hs)) 25 (
+      unless (not (on tr t)) 14 (
+      unless (leb (levelOf tr (without E hs)) m && ltb m (levelOf tr (has hs))) 21 0))))
+
+  unfoldable pub learn : Trail → Set → ℕ → ℕ → List ℕ → Answer
+  learn tr E t m hs = answer (learnRefusal tr E t m hs) (allowed (searching (backjumped tr (without E hs) t (clauseValue ts t) m)))
+
   -- ---- a step
 
   unfoldable pub rowRefusal : State → Step → ℕ
@@ -263,6 +290,7 @@ module _ (ts : List ℕ) where
   stepBy Jump s x = jump (trailOf s) (conflictOf s) (x .term)
   stepBy Flip s x = flip (trailOf s) (conflictOf s) (x .term) (x .p)
   stepBy Fail s x = fail (trailOf s) (x .rule) (x .term) (x .value) (premises x)
+  stepBy Learn s x = learn (trailOf s) (conflictOf s) (x .term) (x .value) (premises x)
   stepBy Unlisted s x = refused 9
 
   unfoldable pub step : State → Step → Answer

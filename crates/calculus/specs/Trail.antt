@@ -4,7 +4,7 @@ use mathlib.Core.List.{List, [], _∷_, _++_, map}
 use Prim.Native.Nat.{ℕ, _+_, max}
 use lib.Dec.{eqb, leb}
 use Rattle.calculus.specs.declared.Premise.{Premise}
-use Rattle.calculus.specs.Lists.{num}
+use Rattle.calculus.specs.Lists.{has, num}
 use Rattle.calculus.specs.Sheets.{blank}
 use Rattle.calculus.specs.Terms.{prop}
 
@@ -24,6 +24,10 @@ insert s t = λ u. s u || eqb u t
 
 abbrev pub remove : Set → ℕ → Set
 remove s t = λ u. s u && not (eqb u t)
+
+-- all of xs removed
+abbrev pub without : Set → List ℕ → Set
+without s xs = λ u. s u && not (has xs u)
 
 abbrev pub union : Set → Set → Set
 union s r = λ u. s u || r u

@@ -73,6 +73,7 @@ pub enum Kind {
     Jump,
     Flip,
     Fail,
+    Learn,
     Unlisted,
 }
 
