@@ -12,12 +12,6 @@ use Rattle.calculus.specs.Lists.{num, all, any, has, below}
 use Rattle.calculus.specs.Numbers.{unless, orElse, firstRefusal}
 use Rattle.calculus.specs.Steps.{Answer, refused, answer}
 
--- ---- truth values as numbers
-
-pub num-le : (b : Bool) → num b ≤ 1
-num-le true = omega arith
-num-le false = omega arith
-
 -- ---- tests as facts
 
 pub and-l : (a b : Bool) → T (a && b) → T a
@@ -75,6 +69,10 @@ pub true-or-false : {b : Bool} → b ≡ true → b ≡ false → ⊥
 true-or-false {b} p q = subst T (sym p ∙ q) tt
 
 -- truth values as numbers
+pub num-le : (b : Bool) → num b ≤ 1
+num-le true = omega arith
+num-le false = omega arith
+
 pub num-true : (b : Bool) → T b → num b ≡ 1
 num-true b h = ap num (T-true b h)
 
