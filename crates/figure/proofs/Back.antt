@@ -1,34 +1,38 @@
 -- A row that is answered with a result spells an action with a transition to it.
 use mathlib.Core.Path.{_≡_, refl, sym, ap, subst, _∙_}
 use mathlib.Core.Logic.{_≢_}
-use mathlib.Core.Bool.{Bool, true, not}
-use mathlib.Core.List.{List, [], _∷_, map}
+use mathlib.Core.Bool.{Bool, true, false, not, cond}
+use mathlib.Core.List.{List, [], _∷_, map, List·Memᴰ, Memᴰ·map}
 use Prim.Native.Nat.{ℕ, zero, suc, _+_, _-_, _≤_, _<_}
 use native.Mathlib.Omega.{arith}
-use lib.Dec.{T, eqb, ltb, eqb→eq, ltb→lt, T-not}
+use lib.ListN.{length, length-map}
+use lib.Dec.{T, eqb, leb, ltb, eqb→eq, leb→le, ltb→lt, T-not}
 use Rattle.calculus.specs.declared.Step.{Step}
 use Rattle.calculus.specs.declared.Kind.{Kind}
+use Rattle.calculus.specs.declared.Premise.{Premise}
 use Rattle.calculus.specs.declared.Kind.the-variants as kinds
 use Rattle.calculus.specs.Lists.{all, has, opposite}
 use Rattle.calculus.specs.Sheets.{blank, termRows}
-use Rattle.calculus.specs.Terms.{sort, leftFilled}
-use Rattle.calculus.specs.Trail.{Set, Trail, Entry, everything, remove, union, intersection, entry, valueAt, levelAt, decidedAt, whyAt, premisesAt, holds, firstOrder, levelOf, keptTo}
+use Rattle.calculus.specs.Terms.{sort, prop, leftFilled}
+use Rattle.calculus.specs.Trail.{Set, Trail, Entry, everything, remove, without, union, intersection, on, entry, valueAt, levelAt, decidedAt, whyAt, premisesAt, holds, firstOrder, levelOf, keptTo}
 use Rattle.calculus.specs.Rules.{rowOf, ruleOf}
+use Rattle.calculus.specs.Clauses.{different, clauseValue}
 use Rattle.calculus.specs.WellFormed.{Within, WellFormed, WellFormedState, Truthful, Coherent}
 use Rattle.calculus.specs.Steps as steps
-use Rattle.calculus.specs.Steps.{State, searching, conflict, Answer, allowed, refuted, refused, answer, premiseCells, premises, kindOf, isBlank, isFilled, inferenceShaped, termShaped, pairShaped, shaped, ready, known, inferenceRefusal, contradictionRefusal, rowRefusal, stepBy, step}
-use Rattle.calculus.proofs.Facts.{and-l, and-r, T-true, T-false, true-T, neq, facts, unless-ok}
+use Rattle.calculus.specs.Steps.{State, searching, conflict, Answer, allowed, refuted, refused, answer, premiseCells, premises, kindOf, isBlank, isFilled, inferenceShaped, termShaped, pairShaped, learnShaped, shaped, ready, known, inferenceRefusal, contradictionRefusal, rowRefusal, stepBy, step}
+use Rattle.calculus.proofs.Facts.{and-l, and-r, all-at, all-of, T-true, T-false, true-T, neq, facts, unless-ok}
 use Rattle.calculus.proofs.Entries.{entry-in, level-kept, holds-at}
 use Rattle.calculus.proofs.WellFormed.{decided-high}
 use Rattle.calculus.proofs.Truths.{value-suits}
 use Rattle.figure.specs.Inferences.{Opposite, oppositeOfTrue, oppositeOfFalse}
-use Rattle.figure.specs.Transitions.{_∈_, Boolean, Assigned, justifiedAt, Level, Inferred, Action, decide, deduce, clash, resolve, clear, jump, flip, fail, Result, next, unsat, Transition, Decide, Deduce, Fail, Conflict, Resolve, Undo, Backjump, UndoDecide}
+use Rattle.figure.specs.Transitions.{_∈_, Boolean, Assigned, justifiedAt, Level, Inferred, Action, decide, deduce, clash, resolve, clear, jump, flip, fail, learn, Result, next, unsat, Transition, Decide, Deduce, Fail, Conflict, Resolve, Undo, Backjump, UndoDecide, Members, LearnBackjump}
 use Rattle.figure.specs.Spelling.{Filled, Blank, FromLeft, noColumn, blankColumn, filledColumn, Columns, Spells}
 use Rattle.figure.specs.Faithful.{answerOf}
 use Rattle.calculus.proofs.WellSorted.{WellSorted}
 use Rattle.figure.proofs.Rules.{Known, Truths, fits-infers}
 use Rattle.figure.proofs.Trails.{level-is, restricted-is, off-is, below-row, entry-of, assigned-is, one-value, premises-rows, premises-is, first-order-is, first-order-of, holds-of}
 use Rattle.figure.proofs.Spelling.{from-left, no-premise}
+use Rattle.figure.proofs.Clauses.{different-is, clausal-is}
 
 -- ---- answers that are no refusal
 
@@ -232,6 +236,46 @@ module _ (ts : List ℕ) where
 
       -- a member of the conflict is looked up on the trail
       module _ (I : Within E tr) where
+        -- the members hs of the conflict, with their values
+        members-is : (hs : List ℕ) → 2 ≤ length hs → length hs ≤ 4 → T (different hs) → T (all E hs) → T (all (prop ts) hs) → Members ts tr E (premisesAt tr hs)
+        members-is hs l k d a b =
+            let rows = premises-rows tr hs in
+            let into : (p : Premise) → List·Memᴰ p (premisesAt tr hs) → List·Memᴰ (p .row) hs = λ p m. subst (List·Memᴰ (p .row)) rows (Memᴰ·map rowOf m) in
+            let n : length (premisesAt tr hs) ≡ length hs = length-map hs (λ p. record { row = p; value = valueAt tr p }) in
+            record {
+              several = omega arith;
+              few = omega arith;
+              different = rw rows (different-is hs d);
+              onTrail = premises-is tr hs (all-of (on tr) hs (λ p m. true-T _ (I p (T-true _ (all-at E hs a m)))));
+              inConflict = λ p m. T-true _ (all-at E hs a (into p m));
+              boolean = λ p m. eqb→eq _ _ (all-at (prop ts) hs b (into p m));
+            }
+
+        learn-at : (t m : ℕ) (hs : List ℕ) → t < termRows ts → 2 ≤ length hs → length hs ≤ 4 → steps.learn ts tr E t m hs ≡ answerOf r → Transition ts (conflict tr E) (learn t m hs) r
+        unfolding steps.learn steps.learnRefusal
+        learn-at t m hs l two four h =
+            let y = answer-ok _ _ r h in
+            let a = unless-ok _ 17 _ (omega arith) (y .0) in
+            let b = unless-ok _ 22 _ (omega arith) (a .1) in
+            let c = unless-ok _ 25 _ (omega arith) (b .1) in
+            let d = unless-ok _ 14 _ (omega arith) (c .1) in
+            let f = unless-ok _ 21 _ (omega arith) (d .1) in
+            let S = without E hs in
+            let H = premisesAt tr hs in
+            let low : levelOf tr S ≤ m = leb→le _ _ (and-l (leb (levelOf tr S) m) _ (f .0)) in
+            let high : m < levelOf tr (has hs) = ltb→lt _ _ (and-r (leb (levelOf tr S) m) _ (f .0)) in
+            let M = members-is hs two four (and-l (different hs) _ (c .0)) (a .0) (and-l (all (prop ts) hs) _ (b .0)) in
+            let truth : (p : Premise) → List·Memᴰ p H → p .value ≤ 1 = λ p k.
+            (let e = M .onTrail p k in subst (λ v. v ≤ 1) (e .3) (N (e .0) (e .1) (ap (sort ts) (e .2) ∙ M .boolean p k))) in
+            let form = clausal-is W H t l truth (and-r (all (prop ts) hs) _ (b .0)) (and-r (different hs) _ (c .0)) in
+            let g : levelOf (keptTo m tr) S ≡ levelOf tr S = level-kept m tr S low in
+            let off = off-is tr t (d .0) in
+            settle _ r (y .1)
+            (subst (λ n. Transition ts (conflict tr E) (learn t m hs) (next (searching (justifiedAt t (clauseValue ts t) n S ∷ keptTo m tr)))) (sym g)
+            (subst (λ qs. levelOf tr (without E qs) ≤ m → m < levelOf tr (has qs)
+            → Transition ts (conflict tr E) (learn t m qs) (next (searching (justifiedAt t (clauseValue ts t) (levelOf tr (without E qs)) (without E qs) ∷ keptTo m tr)))) (premises-rows tr hs)
+            (λ i j. LearnBackjump M l form (search) (level-is tr (without E (map rowOf H))) i (level-is tr (has (map rowOf H))) j (restricted-is m tr)) low high))
+
         at-entry : (P : ℕ → Type 0) (l : ℕ) → E l ≡ true → ((e : Entry) → e ∈ tr → P (e .term)) → P l
         at-entry P l m f = let y = entry-in tr l (true-T _ (I l m)) in subst P (y .1) (f (entry tr l) (y .0))
 
@@ -317,6 +361,40 @@ pair-spelled x k e h =
     let t : x .t ≡ blank = search facts depth 12 in
     (columns x k _ e b (filledColumn (filled-is p) (blankColumn q (blankColumn r (blankColumn s (blankColumn t noColumn))))), a, v)
 
+-- the term, the level and the members
+record Learning (x : Step) : Type 0 where
+  pub spelled : Columns x kinds.Learn (x .term) (premises x) × Blank (x .rule) × Filled (x .value) (x .value)
+  pub several : 2 ≤ length (premises x)
+  pub few : length (premises x) ≤ 4
+
+learn-spelled : (x : Step) → kindOf (x .step) ≡ kinds.Learn → T (learnShaped x) → Learning x
+unfolding premises
+learn-spelled x e h =
+    let a : x .rule ≡ blank = search facts depth 12 in
+    let b : T (isFilled (x .term)) = search facts depth 12 in
+    let v : T (isFilled (x .value)) = search facts depth 12 in
+    let p : T (isFilled (x .p)) = search facts depth 12 in
+    let q : T (isFilled (x .q)) = search facts depth 12 in
+    let t : T (isBlank (x .t)) = search facts depth 12 in
+    let d : T (leftFilled (premiseCells x)) = search facts depth 12 in
+    let np : eqb (x .p) blank ≡ false = T-false _ p in
+    let nq : eqb (x .q) blank ≡ false = T-false _ q in
+    let nt : eqb (x .t) blank ≡ true = T-true _ t in
+    let n = count (eqb (x .r) blank) (eqb (x .s) blank) in
+    record {
+      spelled = (columns x kinds.Learn _ e b (from-left (premiseCells x) d), a, filled-is v);
+      several = rw (np, nq, nt) (n .0);
+      few = rw (np, nq, nt) (n .1);
+    }
+  where
+    left : Bool → Bool → List ℕ
+    left a b = x .p ∷ x .q ∷ cond a [] (x .r ∷ cond b [] (x .s ∷ []))
+
+    count : (a b : Bool) → (2 ≤ length (left a b)) × (length (left a b) ≤ 4)
+    count true b = (omega arith, omega arith)
+    count false true = (omega arith, omega arith)
+    count false false = (omega arith, omega arith)
+
 -- ---- the whole
 
 module _ (ts : List ℕ) {ss : List ℕ} (W : WellSorted ss ts) (x : Step) (r : Result) where
@@ -362,6 +440,13 @@ module _ (ts : List ℕ) {ss : List ℕ} (W : WellSorted ss ts) (x : Step) (r : 
         fail-back ts W (h .wellFormed) (h .truths) r (x .rule) (x .term) (x .value) (premises x) l (i .small) z,
       )
   by-kind kinds.Fail (conflict tr E) e h p g l z = absurd g
+  by-kind kinds.Learn (searching tr) e h p g l z = absurd g
+  by-kind kinds.Learn (conflict tr E) e h p g l z =
+      let i = learn-spelled x e p in (
+        learn (x .term) (x .value) (premises x),
+        i .spelled,
+        learn-at ts W (h .wellFormed .0) (h .truths) r E (h .wellFormed .1) (x .term) (x .value) (premises x) l (i .several) (i .few) z,
+      )
   by-kind kinds.Unlisted s e h p g l z = absurd p
 
   pub back : (s : State) → Coherent ts s → step ts s x ≡ answerOf r → Spelled s

@@ -5,6 +5,7 @@ use mathlib.Core.Bool.{Bool, true, false, not, _&&_, _||_}
 use mathlib.Core.List.{List, [], _∷_, map, List·Memᴰ, List·Memᴰ·not-nil, List·Memᴰ·eq-of-singleton, Memᴰ·of-map}
 use Prim.Native.Nat.{ℕ, zero, suc, _+_, _-_, _≤_, _<_}
 use native.Mathlib.Omega.{arith}
+use lib.ListN.{length, length-map}
 use lib.Dec.{T, eqb, leb, ltb, eqb→eq, le→leb, lt→ltb, not-T}
 use Rattle.calculus.specs.declared.Step.{Step}
 use Rattle.calculus.specs.declared.Kind.{Kind}
@@ -15,21 +16,24 @@ use Rattle.calculus.specs.Lists.{all, has, opposite}
 use Rattle.calculus.specs.Numbers.{unless}
 use Rattle.calculus.specs.Sheets.{termRows}
 use Rattle.calculus.specs.Terms.{prop, sort}
-use Rattle.calculus.specs.Trail.{Set, Trail, Entry, everything, remove, union, intersection, valueAt, levelAt, decidedAt, whyAt, assigned, holds, firstOrder, levelOf, topLevel, keptTo}
+use Rattle.calculus.specs.Trail.{Set, Trail, Entry, everything, remove, without, union, intersection, valueAt, levelAt, decidedAt, whyAt, assigned, holds, firstOrder, levelOf, topLevel, keptTo}
 use Rattle.calculus.specs.Inputs.{valueSuits}
 use Rattle.calculus.specs.Rules.{rowOf, ruleOf, ruleListed, fits}
+use Rattle.calculus.specs.Clauses.{different}
 use Rattle.calculus.specs.WellFormed.{WellFormed, WellFormedState, Truthful, Coherent}
 use Rattle.calculus.specs.Steps as steps
-use Rattle.calculus.specs.Steps.{State, searching, conflict, Answer, allowed, refuted, answer, premiseCells, premises, kindOf, isBlank, isFilled, inferenceShaped, termShaped, pairShaped, shaped, ready, known, inferenceRefusal, contradictionRefusal, rowRefusal, stepBy, step}
+use Rattle.calculus.specs.Steps.{State, searching, conflict, Answer, allowed, refuted, answer, premiseCells, premises, kindOf, isBlank, isFilled, inferenceShaped, termShaped, pairShaped, learnShaped, shaped, ready, known, inferenceRefusal, contradictionRefusal, rowRefusal, stepBy, step}
 use Rattle.calculus.proofs.Facts.{eqb-of, neqb-of, and-both, T-true, true-T, false-T, all-of}
 use Rattle.calculus.proofs.Entries.{level-kept, holds-at}
 use Rattle.figure.specs.Inferences.{Opposite, oppositeOfTrue, oppositeOfFalse}
-use Rattle.figure.specs.Transitions.{Boolean, Suits, Among, Assigned, Absent, FirstOrder, decisionAt, justifiedAt, Level, Restricted, Inferred, Action, Result, Transition, Decide, Deduce, Fail, Conflict, Resolve, Undo, Backjump, UndoDecide}
-use Rattle.figure.specs.Spelling.{Filled, Blank, FromLeft, filledColumn, Columns, Spells}
+use Rattle.figure.specs.Transitions.{Boolean, Suits, Among, Assigned, Absent, FirstOrder, decisionAt, justifiedAt, Level, Restricted, Inferred, Action, Result, Transition, Decide, Deduce, Fail, Conflict, Resolve, Undo, Backjump, UndoDecide, Members, LearnBackjump}
+use Rattle.figure.specs.Clauses.{ClausalForm}
+use Rattle.figure.specs.Spelling.{Filled, Blank, FromLeft, noColumn, blankColumn, filledColumn, Columns, Spells}
 use Rattle.figure.specs.Faithful.{answerOf}
 use Rattle.figure.proofs.Rules.{opposite-sum, infers-fits, infers-listed}
 use Rattle.figure.proofs.Trails.{level-of, restricted-of, off-of, below-row, entry-of, assigned-of, assigned-is, premises-of, first-order-is, first-order-of, holds-of}
 use Rattle.figure.proofs.Spelling.{blanks-of, filled-of, left-of, listed}
+use Rattle.figure.proofs.Clauses.{different-of, clausal-test}
 
 -- ---- guards that pass
 
@@ -66,6 +70,30 @@ pair-shaped x f u v h r =
 
 first-column : {c p : ℕ} {cs ps : List ℕ} → FromLeft (c ∷ cs) (p ∷ ps) → Filled c p × FromLeft cs ps
 first-column (filledColumn e r) = (e, r)
+
+-- two to four columns that are filled from the left
+last-blank : {a b c : ℕ} {ps : List ℕ} → FromLeft (a ∷ b ∷ c ∷ []) ps → length ps ≤ 2 → T (isBlank c)
+last-blank (blankColumn x (blankColumn y (blankColumn z noColumn))) l = eqb-of z
+last-blank (filledColumn x (blankColumn y (blankColumn z noColumn))) l = eqb-of z
+last-blank (filledColumn x (filledColumn y (blankColumn z noColumn))) l = eqb-of z
+last-blank (filledColumn x (filledColumn y (filledColumn z noColumn))) l = absurd (omega arith)
+
+learn-columns : {a b c d e : ℕ} {ps : List ℕ} → FromLeft (a ∷ b ∷ c ∷ d ∷ e ∷ []) ps → 2 ≤ length ps → length ps ≤ 4
+    → T (isFilled a) × T (isFilled b) × T (isBlank e)
+learn-columns (blankColumn x r) l m = absurd (omega arith)
+learn-columns (filledColumn x (blankColumn y r)) l m = absurd (omega arith)
+learn-columns (filledColumn x (filledColumn y r)) l m = (filled-test x, filled-test y, last-blank r (omega arith))
+
+learn-shaped : (x : Step) {k : Kind} {t m : ℕ} {ps : List ℕ} → Columns x k t ps → Blank (x .rule) → Filled (x .value) m → 2 ≤ length ps → length ps ≤ 4
+    → T (learnShaped x)
+learn-shaped x c u v l m =
+    let f = learn-columns (c .rows) l m in
+    and-both (isBlank (x .rule)) _ (eqb-of u)
+    (and-both (isFilled (x .term)) _ (filled-test (c .subject))
+    (and-both (isFilled (x .value)) _ (filled-test v)
+    (and-both (isFilled (x .p)) _ (f .0)
+    (and-both (isFilled (x .q)) _ (f .1)
+    (and-both (isBlank (x .t)) _ (f .2) (left-of (c .rows)))))))
 
 -- ---- truth values
 
@@ -262,6 +290,27 @@ module _ (ts : List ℕ) where
           (first-order-of ts (levelOf tr E) d fo (e ∙ sym c)))) refl))))
           ∙ (λ i. allowed (searching (decisionAt (l .term) (v i) (1 + g i) ∷ t i)))
 
+      learn-answer : {rest : Trail} {H : List Premise} {t v m n k : ℕ} → Members ts tr E H → ClausalForm ts H t v → Absent tr t
+          → Level tr (without E (map rowOf H)) n → n ≤ m → Level tr (has (map rowOf H)) k → m < k → Restricted m tr rest
+          → steps.learn ts tr E t m (map rowOf H) ≡ allowed (searching (justifiedAt t v n (without E (map rowOf H)) ∷ rest))
+      unfolding steps.learn steps.learnRefusal
+      learn-answer {rest} {H} {t} {v} {m} {n} M form off z low y high r =
+          let hs = map rowOf H in
+          let S = without E hs in
+          let p = premises-of R H (M .onTrail) in
+          let c = clausal-test (M .several) form in
+          let e = level-of z in
+          let d = level-of y in
+          let g : levelOf (keptTo m tr) S ≡ n = level-kept m tr S (omega arith) ∙ e in
+          answer-of _ _
+          (unless-of _ 17 _ (all-of E hs (λ q i. let o = Memᴰ·of-map rowOf H i in subst (λ t. T (E t)) (o .2) (true-T _ (M .inConflict (o .0) (o .1)))))
+          (unless-of _ 22 _ (and-both (all (prop ts) hs) _
+          (all-of (prop ts) hs (λ q i. let o = Memᴰ·of-map rowOf H i in subst (λ t. T (prop ts t)) (o .2) (eqb-of (M .boolean (o .0) (o .1))))) (c .0))
+          (unless-of _ 25 _ (and-both (different hs) _ (different-of (M .different)) (rw (p .1) (c .1)))
+          (unless-of _ 14 _ (off-of tr t off)
+          (unless-of _ 21 _ (and-both (leb (levelOf tr S) m) _ (le→leb (levelOf tr S) m (omega arith)) (lt→ltb m (levelOf tr (has hs)) (omega arith))) refl)))))
+          ∙ (λ i. allowed (searching (justifiedAt t (c .2 i) (g i) S ∷ restricted-of r i)))
+
   -- ---- rows of the sheet
 
   pub assigned-row : {tr : Trail} {t v : ℕ} → WellFormed (termRows ts) tr → Assigned tr t v → t < termRows ts
@@ -336,3 +385,13 @@ module _ (ts : List ℕ) where
       (known-of c (below-row tr _ R (hl .0)) (λ t m. subst (λ t. t < termRows ts) (sym (List·Memᴰ·eq-of-singleton m)) (below-row tr _ R (hk .0))))
       ∙ (λ i. steps.flip ts tr E (c .subject .0 i) (f .0 .0 i))
       ∙ flip-answer R (h .truths) E hl (search) (search) (search) hk (search) (omega arith) dl dk (search) (omega arith) z r y
+  forth h (LearnBackjump {tr} {E = E} {H = H} M b form a z low y high r) x (p) =
+      let c = p .0 in
+      let R = h .wellFormed .0 in
+      let n = length-map H rowOf in
+      let two = M .several in
+      let four = M .few in
+      step-of (conflict tr E) x kinds.Learn (c .kind) (learn-shaped x c (p .1) (p .2) (omega arith) (omega arith)) tt
+      (known-of c b (λ q m. let o = Memᴰ·of-map rowOf H m in subst (λ t. t < termRows ts) (o .2) (assigned-row R (M .onTrail (o .0) (o .1)))))
+      ∙ (λ i. steps.learn ts tr E (c .subject .0 i) (p .2 .0 i) (premises-as c i))
+      ∙ learn-answer R (h .truths) E M form a z low y high r

@@ -1,6 +1,7 @@
 -- The step definition is the paper's relation.
 pub mod Rows
 pub mod Rules
+pub mod Clauses
 pub mod Trails
 pub mod Spelling
 pub mod Forth

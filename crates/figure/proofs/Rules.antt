@@ -167,11 +167,11 @@ evaluates-of {vs = vs} (unsettled andByFalse f) = or-l (eqb 1 (num (andOf vs))) 
 -- ---- terms by their columns
 
 module _ {ts : List ℕ} where
-  head-of : {t h : ℕ} {xs : List ℕ} → Applied ts t h xs → T (isHead ts t h)
+  pub head-of : {t h : ℕ} {xs : List ℕ} → Applied ts t h xs → T (isHead ts t h)
   head-of a = eqb-of (a .headed)
 
   -- the columns of a term whose arguments are known
-  column-0 : {t h a : ℕ} {xs : List ℕ} → Applied ts t h (a ∷ xs) → arg ts t 0 ≡ a
+  pub column-0 : {t h a : ℕ} {xs : List ℕ} → Applied ts t h (a ∷ xs) → arg ts t 0 ≡ a
   column-0 {t} q = column ts t 0 (q .arguments) (omega arith)
 
   column-1 : {t h a b : ℕ} {xs : List ℕ} → Applied ts t h (a ∷ b ∷ xs) → arg ts t 1 ≡ b
@@ -309,10 +309,10 @@ module _ {ts : List ℕ} where
   into : {r : Rule} {ps K : List Premise} {l v w : ℕ} → ps ≡ K → v ≡ w → Infers ts r K l w → Infers ts r ps l v
   into {r} {l = l} e f i = subst₂ (λ ps v. Infers ts r ps l v) (sym e) (sym f) i
 
-  retarget : {t h : ℕ} {xs ys : List ℕ} → Applied ts t h xs → xs ≡ ys → Applied ts t h ys
+  pub retarget : {t h : ℕ} {xs ys : List ℕ} → Applied ts t h xs → xs ≡ ys → Applied ts t h ys
   retarget a e = record { headed = a .headed; arguments = a .arguments ∙ e }
 
-  as-is : {t h : ℕ} → head ts t ≡ h → Applied ts t h (args ts t)
+  pub as-is : {t h : ℕ} → head ts t ≡ h → Applied ts t h (args ts t)
   as-is e = record { headed = e; arguments = refl }
 
 module _ {ss ts : List ℕ} (W : WellSorted ss ts) where

@@ -1,6 +1,6 @@
 -- The step definition is the paper's relation: at every state that a list of steps can reach, over every sheet that passes its checks.
 use mathlib.Core.Path.{_≡_, refl, ap, _∙_}
-use mathlib.Core.List.{List, [], _∷_, map, List·Memᴰ, List·Memᴰ·head, List·Memᴰ·tail, List·Memᴰ·not-nil, List·Memᴰ·eq-of-singleton}
+use mathlib.Core.List.{List, [], _∷_, map, List·Memᴰ, List·Memᴰ·head, List·Memᴰ·tail, List·Memᴰ·not-nil, List·Memᴰ·eq-of-singleton, Memᴰ·of-map}
 use Prim.Native.Nat.{ℕ, zero, suc, _≤_, _<_}
 use native.Mathlib.Omega.{arith}
 use lib.ListN.{length, getD, length-map}
@@ -9,6 +9,7 @@ use Rattle.calculus.specs.declared.Kind.{Kind}
 use Rattle.calculus.specs.declared.Kind.the-variants as kinds
 use Rattle.calculus.specs.declared.Premise.{Premise}
 use Rattle.calculus.specs.declared.Rule.{Rule}
+use Rattle.calculus.specs.Lists.{has}
 use Rattle.calculus.specs.Sheets.{Call, blank, termRows, lengthRefusal}
 use Rattle.calculus.specs.Sorts.{sortsRefusal}
 use Rattle.calculus.specs.Terms.{termsRefusal}
@@ -18,13 +19,14 @@ use Rattle.calculus.specs.WellFormed.{WellFormed, WellFormedState, Coherent}
 use Rattle.calculus.specs.Steps.{State, kindOf, step}
 use Rattle.calculus.specs.Run.{run, start, sheetsRefusal, callRefusal}
 use Rattle.calculus.proofs.Facts.{true-T, T-true, unless-ok, orElse-ok, facts}
-use Rattle.figure.specs.Transitions.{Inferred, Action, Result, Transition, Decide, Deduce, Fail, Conflict, Resolve, Undo, Backjump, UndoDecide}
+use Rattle.calculus.proofs.WellFormed.{level-small}
+use Rattle.figure.specs.Transitions.{Inferred, Action, Result, Transition, Decide, Deduce, Fail, Conflict, Resolve, Undo, Backjump, UndoDecide, LearnBackjump}
 use Rattle.figure.specs.Spelling.{Filled, FromLeft, noColumn, blankColumn, filledColumn, Columns, Spells, SixteenBits, Writable}
 use Rattle.figure.specs.Faithful.{RulesFaithful, Faithful}
 use Rattle.calculus.proofs.WellSorted.{well-sorted}
 use Rattle.calculus.proofs.Truths.{run-coherent, start-coherent}
 use Rattle.figure.proofs.Rules.{fits-infers, infers-fits, infers-short, opposite-sum}
-use Rattle.figure.proofs.Trails.{below-row}
+use Rattle.figure.proofs.Trails.{level-of, below-row}
 use Rattle.figure.proofs.Spelling.{rule-number}
 use Rattle.figure.proofs.Forth.{forth, assigned-row, premise-rows}
 use Rattle.figure.proofs.Back.{back}
@@ -62,7 +64,7 @@ record Written (k : Kind) (n t v : ℕ) (ps : List ℕ) : Type 0 where
   pub rule : row .rule ≡ n
   pub value : row .value ≡ v
 
-write : (k : ℕ) (n t v : ℕ) (ps : List ℕ) → k ≤ 7 → n ≤ blank → t < blank → v ≤ blank → length ps ≤ 5 → Small ps → Written (kindOf k) n t v ps
+write : (k : ℕ) (n t v : ℕ) (ps : List ℕ) → k ≤ 8 → n ≤ blank → t < blank → v ≤ blank → length ps ≤ 5 → Small ps → Written (kindOf k) n t v ps
 write k n t v ps i j l m f s =
     let cell : ℕ → ℕ = λ i. getD ps i blank in
     record {
@@ -91,10 +93,10 @@ module _ (ts : List ℕ) (short : termRows ts ≤ 256) where
   no-premises p m = absurd (List·Memᴰ·not-nil m)
 
   -- the term alone
-  alone : (k t : ℕ) → k ≤ 7 → t < termRows ts → Written (kindOf k) blank t blank []
+  alone : (k t : ℕ) → k ≤ 8 → t < termRows ts → Written (kindOf k) blank t blank []
   alone k t i l = write k blank t blank [] i (omega arith) (omega arith) (omega arith) (omega arith) no-premises
 
-  inference-row : {tr : Trail} {r : Rule} {J : List Premise} {l v w : ℕ} (k : ℕ) → k ≤ 7 → WellFormed (termRows ts) tr → l < termRows ts
+  inference-row : {tr : Trail} {r : Rule} {J : List Premise} {l v w : ℕ} (k : ℕ) → k ≤ 8 → WellFormed (termRows ts) tr → l < termRows ts
       → Inferred ts tr r J l v w
       → Written (kindOf k) (rule-number r .0) l v (map rowOf J)
   inference-row {r = r} {J = ps} {l} {v} k i R b h =
@@ -134,6 +136,16 @@ module _ (ts : List ℕ) (short : termRows ts ≤ 256) where
       let y = write 6 blank (l .term) blank (k .term ∷ []) (omega arith) (omega arith) (omega arith) (omega arith) (omega arith)
       (λ p m. let q = List·Memᴰ·eq-of-singleton m in omega arith) in
       (y .row, y .sheet, (y .cols, y .rule, y .value))
+
+  row-of h w (LearnBackjump {tr} {H = H} {t = t} {m = m} M b form a z low y high r) =
+      let R = h .wellFormed .0 in
+      let n = length-map H rowOf in
+      let four = M .few in
+      let d = level-of y in
+      let s = level-small tr (has (map rowOf H)) R in
+      let u = write 8 blank t m (map rowOf H) (omega arith) (omega arith) (omega arith) (omega arith) (omega arith)
+      (λ q i. let o = Memᴰ·of-map rowOf H i in let e = assigned-row ts R (M .onTrail (o .0) (o .1)) in let g = o .2 in omega arith) in
+      (u .row, u .sheet, (u .cols, u .rule, (u .value, λ q. omega arith)))
 
   -- ---- the theorem
 

@@ -5,11 +5,11 @@ use mathlib.Core.List.{List, [], _∷_}
 use Prim.Native.Nat.{ℕ, _≤_, _<_}
 use Rattle.calculus.specs.declared.Step.{Step}
 use Rattle.calculus.specs.declared.Kind.{Kind}
-use Rattle.calculus.specs.declared.Kind.the-variants.{Decide, Deduce, Clash, Resolve, Clear, Jump, Flip, Fail}
+use Rattle.calculus.specs.declared.Kind.the-variants.{Decide, Deduce, Clash, Resolve, Clear, Jump, Flip, Fail, Learn}
 use Rattle.calculus.specs.Sheets.{blank}
 use Rattle.calculus.specs.Rules.{ruleOf}
 use Rattle.calculus.specs.Steps.{premiseCells, kindOf}
-use Rattle.figure.specs.Transitions.{Action, decide, deduce, clash, resolve, clear, jump, flip, fail}
+use Rattle.figure.specs.Transitions.{Action, decide, deduce, clash, resolve, clear, jump, flip, fail, learn}
 
 -- column c holds n
 abbrev pub Filled : ℕ → ℕ → Type 0
@@ -39,6 +39,7 @@ Spells x (clear a) = Columns x Clear a [] × Blank (x .rule) × Blank (x .value)
 Spells x (jump l) = Columns x Jump l [] × Blank (x .rule) × Blank (x .value)
 Spells x (flip l k) = Columns x Flip l (k ∷ []) × Blank (x .rule) × Blank (x .value)
 Spells x (fail r l v ps) = Columns x Fail l ps × (ruleOf (x .rule) ≡ r) × Filled (x .value) v
+Spells x (learn t m hs) = Columns x Learn t hs × Blank (x .rule) × Filled (x .value) m
 
 -- what a column can hold: a number of 16 bits
 pub record SixteenBits (x : Step) : Type 0 where
@@ -62,3 +63,4 @@ Writable (clear a) = Unit {0}
 Writable (jump l) = Unit {0}
 Writable (flip l k) = Unit {0}
 Writable (fail r l v ps) = Unit {0}
+Writable (learn t m hs) = Unit {0}

@@ -1,18 +1,21 @@
--- The transitions of Figure 3 of the CADE 2017 paper as a relation between states, one constructor for each rule as document 01 states it.
+-- The transitions of Figure 3 of the CADE 2017 paper as a relation between states, one constructor for each rule as document 01 states it,
+-- and LearnBackjump of the journal article's Figure 1 as document 02 does.
 use mathlib.Core.Path.{_≡_}
 use mathlib.Core.Logic.{_≢_, _⊎_}
 use mathlib.Core.Bool.{true, false}
 use mathlib.Core.List.{List, [], _∷_, map, List·Memᴰ}
 use Prim.Native.Nat.{ℕ, _+_, _≤_, _<_}
+use lib.ListN.{length}
 use Rattle.calculus.specs.declared.Premise.{Premise}
 use Rattle.calculus.specs.declared.Rule.{Rule}
 use Rattle.calculus.specs.Lists.{has}
 use Rattle.calculus.specs.Sheets.{termRows}
 use Rattle.calculus.specs.Terms.{sort}
-use Rattle.calculus.specs.Trail.{Set, empty, everything, remove, union, Entry, Trail}
+use Rattle.calculus.specs.Trail.{Set, empty, everything, remove, without, union, Entry, Trail}
 use Rattle.calculus.specs.Rules.{rowOf}
 use Rattle.calculus.specs.Steps.{State, searching, conflict}
 use Rattle.figure.specs.Inferences.{Opposite, Infers}
+use Rattle.figure.specs.Clauses.{Different, ClausalForm}
 
 -- ---- terms
 
@@ -88,6 +91,7 @@ pub data Action : Type 0 where
   jump : ℕ → Action
   flip : ℕ → ℕ → Action
   fail : Rule → ℕ → ℕ → List ℕ → Action
+  learn : ℕ → ℕ → List ℕ → Action
 
 pub data Result : Type 0 where
   next : State → Result
@@ -104,6 +108,15 @@ pub record Inferred (ts : List ℕ) (tr : Trail) (r : Rule) (J : List Premise) (
   pub boolean : Boolean ts l
   pub other : Opposite v w
   pub new : ¬ Assigned tr l v
+
+-- what LearnBackjump takes out of the conflict E: two to four different members, all Boolean
+pub record Members (ts : List ℕ) (tr : Trail) (E : Set) (H : List Premise) : Type 0 where
+  pub several : 2 ≤ length H
+  pub few : length H ≤ 4
+  pub different : Different (map rowOf H)
+  pub onTrail : (p : Premise) → List·Memᴰ p H → Assigned tr (p .row) (p .value)
+  pub inConflict : (p : Premise) → List·Memᴰ p H → E (p .row) ≡ true
+  pub boolean : (p : Premise) → List·Memᴰ p H → Boolean ts (p .row)
 
 pub data Transition (ts : List ℕ) : State → Action → Result → Type 0 where
   -- ---- search rules
@@ -153,3 +166,12 @@ pub data Transition (ts : List ℕ) : State → Action → Result → Type 0 whe
       → d .level ≡ 1 + m → Level tr E (1 + m)
       → Restricted m tr rest → Level rest everything n
       → Transition ts (conflict tr E) (flip (l .term) (k .term)) (next (searching (decisionAt (l .term) w (1 + n) ∷ rest)))
+  -- back to a level m, from that of the rest of the conflict to below that of H; the rest justifies a clausal form of H, of which the trail has
+  -- neither value, at the level of the rest
+  LearnBackjump : {tr rest : Trail} {E : Set} {H : List Premise} {t v m n k : ℕ}
+      → Members ts tr E H
+      → InBasis ts t → ClausalForm ts H t v → Absent tr t
+      → Level tr (without E (map rowOf H)) n → n ≤ m
+      → Level tr (has (map rowOf H)) k → m < k
+      → Restricted m tr rest
+      → Transition ts (conflict tr E) (learn t m (map rowOf H)) (next (searching (justifiedAt t v n (without E (map rowOf H)) ∷ rest)))
