@@ -91,12 +91,13 @@ set-word ws b w k h u e = set-in ws b w u (omega arith) ∙ ap (λ (j : ℕ). bi
 pub both-word : (s r : Set) (k x y : ℕ) → IsWord s k x → IsWord r k y → IsWord (intersection s r) k (bitAnd x y)
 both-word s r k x y p q u e = ap₂ _&&_ (p u e) (q u e) ∙ sym (bit-and x y (u % 64))
 
-pub less-word : (s : Set) (k x y a : ℕ) → IsWord s k x → wordOf k y ≡ remove (wordOf k x) a → IsWord (remove s a) k y
+-- the word of what s shares with r is what its word shares with r; so of s without a row, or without several
+pub part-word : (s r : Set) (k x y : ℕ) → IsWord s k x → wordOf k y ≡ intersection (wordOf k x) r → IsWord (intersection s r) k y
 unfolding wordOf
-less-word s k x y a p h u e =
+part-word s r k x y p h u e =
     let here : eqb (u / 64) k ≡ true = eq-eqb _ _ e in
-    let same : eqb (u / 64) k && bitAt y (u % 64) ≡ (eqb (u / 64) k && bitAt x (u % 64)) && not (eqb u a) = ap (λ (r : Set). r u) h in
-    ap (λ (b : Bool). b && not (eqb u a)) (p u e) ∙ sym (rw here at same)
+    let same : eqb (u / 64) k && bitAt y (u % 64) ≡ (eqb (u / 64) k && bitAt x (u % 64)) && r u = ap (λ (v : Set). v u) h in
+    ap (λ (b : Bool). b && r u) (p u e) ∙ sym (rw here at same)
 
 -- ---- the members in the first words
 

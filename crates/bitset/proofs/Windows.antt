@@ -2,7 +2,7 @@
 use Prim.Native.Nat.{ℕ, _+_, _*_, _/_, _%_, _^_, _≤_, _<_}
 use native.Mathlib.Nat.{one-mul, mod-eq-of-lt}
 use native.Mathlib.Omega.{arith}
-use mathlib.Core.Path.{_≡_, refl, sym, ap, ap₂, _∙_}
+use mathlib.Core.Path.{_≡_, refl, sym, ap, subst, ap₂, _∙_}
 use mathlib.Core.Logic.{_⊎_, inl, inr, ⊎-elim}
 use mathlib.Core.Bool.{Bool, false, _&&_, _||_, not, or-false, and-true}
 use mathlib.Core.List.{List}
@@ -14,6 +14,7 @@ use lib.Bits.{bitOr, bitAnd, bitXor}
 use borrow.Author.Tests.{ltb-true, ltb-false, eqb-true, eqb-false, lt-ltb, le-ltb, eq-eqb, ne-eqb}
 use Rattle.calculus.proofs.Facts.{is-or-not}
 use Rattle.calculus.specs.Trail.{Set, empty, insert, remove, union}
+use Rattle.bitset.specs.Members.{IsWord}
 use Rattle.bitset.specs.Windows.{bitAt, setAt, Only, Holds}
 use Rattle.bitset.proofs.Bits.{bit-or, bit-less, bit-pow, bit-zero}
 
@@ -112,18 +113,18 @@ module _ (ws : List ℕ) (b w t : ℕ) (h : t / 64 < w) (f : b + w ≤ length ws
       changed (λ x y. x && not y) and-true ws b w t _ h f
       (λ k. bit-less old bit k ∙ ap (λ (x : Bool). bitAt old k && not x) (bit-is k)) _ (λ u. refl)
 
--- ---- a run of stores: after i of them the words at b are as f says
+-- ---- a run of stores: after i of them the words at b are as P says
 
-pub record Filled (ws₀ ws : List ℕ) (b i : ℕ) (f : ℕ → ℕ) : Type 0 where
+pub record Filled (ws₀ ws : List ℕ) (b i : ℕ) (P : ℕ → ℕ → Type 0) : Type 0 where
   pub only : Only ws₀ ws b i
-  pub done : (k : ℕ) → k < i → getD ws (b + k) 0 ≡ f k
+  pub done : (k : ℕ) → k < i → P k (getD ws (b + k) 0)
 
-pub filled-none : (ws : List ℕ) (b : ℕ) (f : ℕ → ℕ) → Filled ws ws b 0 f
-filled-none ws b f = record { only = record { long = refl; rest = λ k o. refl }; done = λ k h. absurd (omega arith) }
+pub filled-none : (ws : List ℕ) (b : ℕ) (P : ℕ → ℕ → Type 0) → Filled ws ws b 0 P
+filled-none ws b P = record { only = record { long = refl; rest = λ k o. refl }; done = λ k h. absurd (omega arith) }
 
-pub filled-more : (ws₀ ws : List ℕ) (b i : ℕ) (f : ℕ → ℕ) (v : ℕ) → b + i < length ws₀ → Filled ws₀ ws b i f → v ≡ f i
-    → Filled ws₀ (set ws (b + i) v) b (i + 1) f
-filled-more ws₀ ws b i f v h u e =
+pub filled-more : (ws₀ ws : List ℕ) (b i : ℕ) (P : ℕ → ℕ → Type 0) (v : ℕ) → b + i < length ws₀ → Filled ws₀ ws b i P → P i v
+    → Filled ws₀ (set ws (b + i) v) b (i + 1) P
+filled-more ws₀ ws b i P v h u e =
     record {
       only =
           record {
@@ -134,23 +135,29 @@ filled-more ws₀ ws b i f v h u e =
           };
       done = λ k l.
           ⊎-elim
-          (λ q. let r : k ≡ i = eqb-true k i q in rw r (getD-set-same ws (b + i) v 0 (omega (arith, u .only .long)) ∙ e))
-          (λ q. let n : k ≡ i → ⊥ = eqb-false k i q in getD-set-other ws (b + i) (b + k) v 0 (λ r. n (omega arith)) ∙ u .done k (omega arith))
+          (λ q. let r : k ≡ i = eqb-true k i q in rw r (subst (P i) (sym (getD-set-same ws (b + i) v 0 (omega (arith, u .only .long)))) e))
+          (λ q. let n : k ≡ i → ⊥ = eqb-false k i q in
+          subst (P k) (sym (getD-set-other ws (b + i) (b + k) v 0 (λ r. n (omega arith)))) (u .done k (omega arith)))
           (is-or-not (eqb k i));
     }
 
 -- what has not been stored to is as it was
-pub still : (ws₀ ws : List ℕ) (b i : ℕ) (f : ℕ → ℕ) → Filled ws₀ ws b i f → (k : ℕ) → (k < b) ⊎ (b + i ≤ k) → getD ws k 0 ≡ getD ws₀ k 0
-still ws₀ ws b i f u k o = u .only .rest k o
+pub still : (ws₀ ws : List ℕ) (b i : ℕ) (P : ℕ → ℕ → Type 0) → Filled ws₀ ws b i P → (k : ℕ) → (k < b) ⊎ (b + i ≤ k) → getD ws k 0 ≡ getD ws₀ k 0
+still ws₀ ws b i P u k o = u .only .rest k o
 
-pub cleared : (ws₀ ws : List ℕ) (b w : ℕ) → Filled ws₀ ws b w (λ k. 0) → Holds ws₀ ws b w empty
+pub cleared : (ws₀ ws : List ℕ) (b w : ℕ) → Filled ws₀ ws b w (λ k x. x ≡ 0) → Holds ws₀ ws b w empty
 cleared ws₀ ws b w u =
     record {
       only = u .only;
       set = by-word empty ws b w (λ t m. ap (λ (x : ℕ). bitAt x (t % 64)) (u .done (t / 64) m) ∙ bit-zero (t % 64)) (λ t m. refl);
     }
 
-pub united : (ws₀ ws : List ℕ) (to from w : ℕ) → Filled ws₀ ws to w (λ k. bitOr (getD ws₀ (to + k) 0) (getD ws₀ (from + k) 0))
+-- the words are those of a set that has nothing past them
+pub stored : (ws₀ ws : List ℕ) (b w : ℕ) (s : Set) → Filled ws₀ ws b w (IsWord s) → ((u : ℕ) → w ≤ u / 64 → s u ≡ false) → Holds ws₀ ws b w s
+stored ws₀ ws b w s u past =
+    record { only = u .only; set = by-word s ws b w (λ t m. sym (u .done (t / 64) m t refl)) (λ t m. sym (past t m)) }
+
+pub united : (ws₀ ws : List ℕ) (to from w : ℕ) → Filled ws₀ ws to w (λ k x. x ≡ bitOr (getD ws₀ (to + k) 0) (getD ws₀ (from + k) 0))
     → Holds ws₀ ws to w (union (setAt ws₀ to w) (setAt ws₀ from w))
 united ws₀ ws to from w u =
     record {

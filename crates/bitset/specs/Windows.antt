@@ -25,8 +25,3 @@ pub record Only (before after : List ℕ) (b w : ℕ) : Type 0 where
 pub record Holds (before after : List ℕ) (b w : ℕ) (s : Set) : Type 0 where
   pub only : Only before after b w
   pub set : setAt after b w ≡ s
-
--- so that the window is what stood at `from`
-pub record Copied (before after : List ℕ) (to from w : ℕ) : Type 0 where
-  pub only : Only before after to w
-  pub same : (k : ℕ) → k < w → getD after (to + k) 0 ≡ getD before (from + k) 0

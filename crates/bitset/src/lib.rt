@@ -2,8 +2,9 @@
 ghost use mathlib.Core.Path.{_≡_};
 ghost use Prim.Native.Nat.{_+_, _/_, _<_, _≤_};
 ghost use lib.ListN.{length};
-ghost use Rattle.calculus.specs.Trail.{empty, insert, remove, union};
-ghost use Rattle.bitset.specs.Windows.{setAt, Holds, Copied};
+ghost use Rattle.calculus.specs.Trail.{empty, insert, remove, without, union};
+ghost use Rattle.calculus.specs.Terms.{filled};
+ghost use Rattle.bitset.specs.Windows.{setAt, Holds};
 ghost use Rattle.bitset.specs.Members.{wordOf, firstOf};
 use calculus::Row;
 
@@ -57,16 +58,6 @@ pub fn union_into(work: &mut [u64], to: usize, from: usize, w: usize)
     }
 }
 
-// The w words at `from` are copied to `to`, which is not above it.
-pub fn copy(work: &mut [u64], to: usize, from: usize, w: usize)
-    requires { ⌜ (to ≤ from) × (from + w ≤ length (now work)) ⌝ }
-    ensures { λ r. ⌜ Copied (now (work .entry)) (now (work .exit)) to from w ⌝ }
-{
-    for j in 0..w {
-        work[to + j] = work[from + j];
-    }
-}
-
 // The first row that x stands for as word k of a set.
 pub fn first_member(k: usize, x: u64) -> Row
     requires { ⌜ firstOf k x < 65536 ⌝ }
@@ -84,4 +75,30 @@ pub fn word_without(k: usize, x: u64, a: Row) -> u64
         return x ^ x & 1u64 << (u % 64) as u64;
     }
     x
+}
+
+// Word k of a set, which is x, without the rows in ps before the first blank, one after the other.
+pub fn word_without_all(k: usize, x: u64, ps: &[u16]) -> u64
+    ensures { λ r. ⌜ wordOf k r ≡ without (wordOf k x) (filled (now (ps .entry))) ⌝ }
+{
+    let mut y = x;
+    for i in 0..ps.len() {
+        let p = ps[i];
+        if p == 65535 {
+            return y;
+        }
+        y = word_without(k, y, Row(p));
+    }
+    y
+}
+
+// The set at `to` becomes the one at `from`, which is not below it, without the rows in ps before the first blank.
+pub fn copy_without(work: &mut [u64], to: usize, from: usize, w: usize, ps: &[u16])
+    requires { ⌜ (to ≤ from) × (from + w ≤ length (now work)) ⌝ }
+    ensures { λ r. ⌜ Holds (now (work .entry)) (now (work .exit)) to w
+        (without (setAt (now (work .entry)) from w) (filled (now (ps .entry)))) ⌝ }
+{
+    for j in 0..w {
+        work[to + j] = word_without_all(j, work[from + j], ps);
+    }
 }

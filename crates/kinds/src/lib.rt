@@ -64,6 +64,7 @@ pub fn kind_of(n: u16) -> Kind
         5 => Kind::Jump,
         6 => Kind::Flip,
         7 => Kind::Fail,
+        8 => Kind::Learn,
         _ => Kind::Unlisted,
     }
 }

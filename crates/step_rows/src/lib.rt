@@ -5,7 +5,7 @@ ghost use Prim.Native.Nat.{ℕ};
 ghost use lib.Dec.{ltb};
 ghost use Rattle.calculus.specs.Lists.{all};
 ghost use Rattle.calculus.specs.Terms.{filled, leftFilled};
-ghost use Rattle.calculus.specs.Steps.{premises, premiseCells, isBlank, decisionShaped, inferenceShaped, termShaped, pairShaped, shaped, known};
+ghost use Rattle.calculus.specs.Steps.{premises, premiseCells, isBlank, decisionShaped, inferenceShaped, termShaped, pairShaped, learnShaped, shaped, known};
 use calculus::Kind;
 use calculus::Step;
 use rows::BLANK;
@@ -77,6 +77,15 @@ fn pair_shaped(x: Step) -> bool
     (x.rule == BLANK) & (!(x.term == BLANK) & ((x.value == BLANK) & (!(x.p == BLANK) & e)))
 }
 
+// The columns of learn: the term, a level as its value, and from the left two to four members.
+fn learn_shaped(x: Step) -> bool
+    ensures { λ r. ⌜ r ≡ learnShaped x ⌝ }
+{
+    let l = from_left(x);
+    let h = !(x.p == BLANK) & (!(x.q == BLANK) & ((x.t == BLANK) & l));
+    (x.rule == BLANK) & (!(x.term == BLANK) & (!(x.value == BLANK) & h))
+}
+
 // The columns that a step of kind k needs are filled, and no others.
 pub fn shaped(x: Step, k: Kind) -> bool
     ensures { λ r. ⌜ r ≡ shaped x k ⌝ }
@@ -90,6 +99,7 @@ pub fn shaped(x: Step, k: Kind) -> bool
         Kind::Jump => term_shaped(x),
         Kind::Flip => pair_shaped(x),
         Kind::Fail => inference_shaped(x),
+        Kind::Learn => learn_shaped(x),
         Kind::Unlisted => false,
     }
 }

@@ -7,7 +7,7 @@ use Rattle.text_fields.specs.declared.Found.the-variants.{At, Nothing}
 
 -- steps, from 0
 abbrev pub stepWords : List (List ℕ)
-stepWords = pieces 32 (bytes "decide deduce clash resolve clear jump flip fail")
+stepWords = pieces 32 (bytes "decide deduce clash resolve clear jump flip fail learn")
 
 -- rules, from 0
 abbrev pub ruleWords : List (List ℕ)

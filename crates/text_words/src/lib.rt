@@ -55,6 +55,9 @@ fn late_step(f: &[u8]) -> u16
     if text_fields::same(b"fail", f) {
         return 7;
     }
+    if text_fields::same(b"learn", f) {
+        return 8;
+    }
     65534
 }
 

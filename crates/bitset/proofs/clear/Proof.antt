@@ -8,7 +8,7 @@ use Rattle.bitset.proofs.clear.Statement.{statement}
 use Rattle.bitset.proofs.clear.Tie as tie
 
 abbrev Inv-loop : tie.InvT-loop
-Inv-loop work₀ b w k₀ work k = (k ≤ w) × Filled work₀ work b k (λ j. 0)
+Inv-loop work₀ b w k₀ work k = (k ≤ w) × Filled work₀ work b k (λ j x. x ≡ 0)
 
 abbrev μ-loop : tie.MeasureT-loop
 μ-loop work₀ b w k₀ work k = w - k

@@ -11,7 +11,7 @@ use Rattle.bitset.proofs.union_into.Statement.{statement}
 use Rattle.bitset.proofs.union_into.Tie as tie
 
 abbrev Inv-loop : tie.InvT-loop
-Inv-loop work₀ to from w i₀ work i = (i ≤ w) × Filled work₀ work to i (λ j. bitOr (getD work₀ (to + j) 0) (getD work₀ (from + j) 0))
+Inv-loop work₀ to from w i₀ work i = (i ≤ w) × Filled work₀ work to i (λ j x. x ≡ bitOr (getD work₀ (to + j) 0) (getD work₀ (from + j) 0))
 
 abbrev μ-loop : tie.MeasureT-loop
 μ-loop work₀ to from w i₀ work i = w - i

@@ -43,17 +43,22 @@ returns-8 c = rw (c .match .keys8)
 
 returns-9 : tie.Need-returns-9
 unfolding kindOf
-returns-9 c =
+returns-9 c = rw (c .match .keys9)
+
+returns-10 : tie.Need-returns-10
+unfolding kindOf
+returns-10 c =
     let start = c .before in
-    let h1 : 1 ≤ start .args .n = past (omega arith) (c .match .rest .0 .0 .0 .0 .0 .0 .0 .1) in
-    let h2 : 2 ≤ start .args .n = past h1 (c .match .rest .0 .0 .0 .0 .0 .0 .1) in
-    let h3 : 3 ≤ start .args .n = past h2 (c .match .rest .0 .0 .0 .0 .0 .1) in
-    let h4 : 4 ≤ start .args .n = past h3 (c .match .rest .0 .0 .0 .0 .1) in
-    let h5 : 5 ≤ start .args .n = past h4 (c .match .rest .0 .0 .0 .1) in
-    let h6 : 6 ≤ start .args .n = past h5 (c .match .rest .0 .0 .1) in
-    let h7 : 7 ≤ start .args .n = past h6 (c .match .rest .0 .1) in
-    let h8 : 8 ≤ start .args .n = past h7 (c .match .rest .1) in
-    sym (List·getD-eq-default kinds Unlisted {n = start .args .n} h8)
+    let h1 : 1 ≤ start .args .n = past (omega arith) (c .match .rest .0 .0 .0 .0 .0 .0 .0 .0 .1) in
+    let h2 : 2 ≤ start .args .n = past h1 (c .match .rest .0 .0 .0 .0 .0 .0 .0 .1) in
+    let h3 : 3 ≤ start .args .n = past h2 (c .match .rest .0 .0 .0 .0 .0 .0 .1) in
+    let h4 : 4 ≤ start .args .n = past h3 (c .match .rest .0 .0 .0 .0 .0 .1) in
+    let h5 : 5 ≤ start .args .n = past h4 (c .match .rest .0 .0 .0 .0 .1) in
+    let h6 : 6 ≤ start .args .n = past h5 (c .match .rest .0 .0 .0 .1) in
+    let h7 : 7 ≤ start .args .n = past h6 (c .match .rest .0 .0 .1) in
+    let h8 : 8 ≤ start .args .n = past h7 (c .match .rest .0 .1) in
+    let h9 : 9 ≤ start .args .n = past h8 (c .match .rest .1) in
+    sym (List·getD-eq-default kinds Unlisted {n = start .args .n} h9)
 
 pub kind-of-spec : {M : Type 1} → statement M
 kind-of-spec =
@@ -67,4 +72,5 @@ kind-of-spec =
     returns-6
     returns-7
     returns-8
-    returns-9)
+    returns-9
+    returns-10)

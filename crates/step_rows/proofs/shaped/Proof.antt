@@ -55,6 +55,12 @@ inference-shaped-requires-3 c κs = search needs
 enum-told-9 : tie.Need-enum-told-9
 enum-told-9 c = search needs
 
+learn-shaped-requires : tie.Need-learn-shaped-requires
+learn-shaped-requires c κs = search needs
+
+enum-told-10 : tie.Need-enum-told-10
+enum-told-10 c = search needs
+
 returns : tie.Need-returns
 unfolding shaped
 returns c = rw (c .before .enum-told .given .1, c .decision-shaped .ensures)
@@ -89,7 +95,11 @@ returns-8 c = rw (c .before .enum-told8 .given .1, c .inference-shaped3 .ensures
 
 returns-9 : tie.Need-returns-9
 unfolding shaped
-returns-9 c = rw (c .enum-told9 .given .1)
+returns-9 c = rw (c .before .enum-told9 .given .1, c .learn-shaped .ensures)
+
+returns-10 : tie.Need-returns-10
+unfolding shaped
+returns-10 c = rw (c .enum-told10 .given .1)
 
 pub shaped-spec : {M : Type 1} → statement M
 shaped-spec =
@@ -112,6 +122,8 @@ shaped-spec =
     enum-told-8
     inference-shaped-requires-3
     enum-told-9
+    learn-shaped-requires
+    enum-told-10
     returns
     returns-2
     returns-3
@@ -120,4 +132,5 @@ shaped-spec =
     returns-6
     returns-7
     returns-8
-    returns-9)
+    returns-9
+    returns-10)

@@ -49,8 +49,17 @@ same-requires-5 c κs = search needs
 returns-5 : tie.Need-returns-5
 returns-5 c = search (number-at, miss, hit) depth 12
 
+slice-aggregate-same-6 : tie.Need-slice-aggregate-same-6
+slice-aggregate-same-6 c = search needs
+
+same-requires-6 : tie.Need-same-requires-6
+same-requires-6 c κs = search needs
+
 returns-6 : tie.Need-returns-6
-returns-6 c = search (number-none, miss) depth 12
+returns-6 c = search (number-at, miss, hit) depth 12
+
+returns-7 : tie.Need-returns-7
+returns-7 c = search (number-none, miss) depth 12
 
 pub late-step-spec : {M : Type 1} → statement M
 late-step-spec =
@@ -71,4 +80,7 @@ late-step-spec =
     slice-aggregate-same-5
     same-requires-5
     returns-5
-    returns-6)
+    slice-aggregate-same-6
+    same-requires-6
+    returns-6
+    returns-7)
