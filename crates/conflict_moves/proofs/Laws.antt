@@ -6,16 +6,22 @@ use mathlib.Core.Logic.{inl, inr}
 use mathlib.Core.Bool.{true, false}
 use mathlib.Core.List.{List, [], _∷_}
 use lib.Dec.{leb}
-use Rattle.calculus.specs.Trail.{Set, Trail, remove, union, on, levelAt, decidedAt, whyAt, levelOf, topLevel, keptTo, decision, justified}
+use borrow.Author.Tests.{ne-eqb}
+use Rattle.calculus.specs.Sheets.{blank}
+use Rattle.calculus.specs.Terms.{filled}
+use Rattle.calculus.specs.Lists.{opposite}
+use Rattle.calculus.specs.Trail.{Set, Trail, remove, without, union, on, valueAt, levelAt, decidedAt, whyAt, levelOf, topLevel, keptTo, decision}
+use Rattle.calculus.specs.Steps.{backjumped}
 use Rattle.calculus.proofs.Facts.{cond-case}
 use Rattle.calculus.proofs.Entries.{level-kept}
-use Rattle.bitset.specs.Windows.{setAt, Holds, Copied}
+use Rattle.bitset.specs.Windows.{setAt, Holds}
 use Rattle.bitset.proofs.Windows.{same-set}
 use Rattle.trail.specs.Words.{conflict, entryOf, trailIn, Laid, Still, Pushed, Cut}
-use Rattle.calculus.proofs.Trails.{kept-gone}
+use Rattle.calculus.proofs.Trails.{without-one, kept-gone}
 use Rattle.trail.proofs.Laws.{why-in}
-use Rattle.trail.proofs.Frames.{built, still-twice, why-words}
-use Rattle.moves.specs.Post.{conflictIn, Stands, Conflicts}
+use Rattle.trail.proofs.Frames.{built, why-words}
+use Rattle.moves.specs.Post.{conflictIn, jumpedIn, Stands, Conflicts}
+use Rattle.conflict_moves.specs.Back.{restIn, backjumpedIn, ToBackjump, ToJump}
 use Rattle.moves.proofs.Laws.{conflict-made, justified-stands}
 
 pub cut-stands : (w N : ℕ) (ws vs : List ℕ) (n m k r top : ℕ) → m ≡ k → Cut w N ws vs n m r top → Stands w N vs r top (keptTo k (trailIn w N ws n))
@@ -43,37 +49,34 @@ resolved w N ws us vs n t laid h o d one two =
 
 -- ---- back to a level
 
--- cut, copy, remove: the trail is kept to m, t is not on it, and its words hold the rest of the conflict
-pub record Readied (w N : ℕ) (ws us : List ℕ) (n t m r : ℕ) : Type 0 where
+-- cut and copy: the trail is kept to m, t is not on it, and its words hold the rest of the conflict
+pub record Readied (w N : ℕ) (ws us : List ℕ) (n t m : ℕ) (ps : List ℕ) (r : ℕ) : Type 0 where
   pub trail : trailIn w N us r ≡ keptTo m (trailIn w N ws n)
   pub laid : Laid w N us r
   pub off : on (trailIn w N us r) t ≡ false
-  pub why : setAt us (t * w) w ≡ remove (conflictIn w N ws) t
+  pub why : setAt us (t * w) w ≡ restIn w N ws ps
 
-pub readied : (w N : ℕ) (ws us₁ us₂ us₃ : List ℕ) (n t m r top : ℕ) → Laid w N ws n → t < N → m < levelAt (trailIn w N ws n) t
-    → Cut w N ws us₁ n m r top → Copied us₁ us₂ (t * w) (conflict w N) w → Holds us₂ us₃ (t * w) w (remove (setAt us₂ (t * w) w) t)
-    → Readied w N ws us₃ n t m r
-readied w N ws us₁ us₂ us₃ n t m r top laid h l cut copy rest =
-    let off : on (trailIn w N us₁ r) t ≡ false = rw (cut .trail) (kept-gone t m (trailIn w N ws n) (laid .distinct) l) in
-    let a : Still w N us₁ us₂ r = built w N us₁ us₂ r t (cut .laid) h off (copy .only) in
-    let b : Still w N us₁ us₃ r = still-twice w N us₁ us₂ us₃ r a (built w N us₂ us₃ r t (a .laid) h (rw (a .trail) off) (rest .only)) in
-    record {
-      trail = b .trail ∙ cut .trail;
-      laid = b .laid;
-      off = rw (b .trail) off;
-      why =
-          rest .set
-          ∙ ap (λ (s : Set). remove s t)
-          (same-set us₂ us₁ (t * w) (conflict w N) w (copy .same)
-          ∙ same-set us₁ ws (conflict w N) (conflict w N) w (λ k q. cut .only .rest _ (inr (omega arith))));
-    }
+module _ {w N : ℕ} {ws : List ℕ} {n t m : ℕ} {ps : List ℕ} {level : ℕ} (to : ToBackjump w N ws n t m ps level) where
+  pub readied : (us₁ us₂ : List ℕ) (r top : ℕ) → Cut w N ws us₁ n m r top
+      → Holds us₁ us₂ (t * w) w (without (setAt us₁ (conflict w N) w) (filled ps)) → Readied w N ws us₂ n t m ps r
+  readied us₁ us₂ r top cut copy =
+      let off : on (trailIn w N us₁ r) t ≡ false = rw (cut .trail) (to .gone) in
+      let a : Still w N us₁ us₂ r = built w N us₁ us₂ r t (cut .laid) (to .row) off (copy .only) in
+      record {
+        trail = a .trail ∙ cut .trail;
+        laid = a .laid;
+        off = rw (a .trail) off;
+        why =
+            copy .set
+            ∙ ap (λ (s : Set). without s (filled ps))
+            (same-set us₁ ws (conflict w N) (conflict w N) w (λ k q. cut .only .rest _ (inr (omega arith))));
+      }
 
-pub landed : (w N : ℕ) (ws us vs : List ℕ) (n t v m r top : ℕ) → Readied w N ws us n t m r → top ≡ topLevel (keptTo m (trailIn w N ws n))
-    → m ≡ levelOf (trailIn w N ws n) (remove (conflictIn w N ws) t) → Pushed w N us vs r (entryOf t v m false (setAt us (t * w) w))
-    → Stands w N vs (r + 1) (max top m) (justified (keptTo m (trailIn w N ws n)) t v (remove (conflictIn w N ws) t) ∷ keptTo m (trailIn w N ws n))
-landed w N ws us vs n t v m r top a g e p =
-    justified-stands w N us vs r t v m top (remove (conflictIn w N ws) t) (keptTo m (trailIn w N ws n)) (a .trail) g (a .why)
-    (e ∙ sym (level-kept m (trailIn w N ws n) (remove (conflictIn w N ws) t) (omega (arith, e)))) p
+  pub landed : (us vs : List ℕ) (v r top : ℕ) → Readied w N ws us n t m ps r → top ≡ topLevel (keptTo m (trailIn w N ws n))
+      → Pushed w N us vs r (entryOf t v level false (setAt us (t * w) w)) → Stands w N vs (r + 1) (max top level) (backjumpedIn w N ws n t v m ps)
+  landed us vs v r top a g p =
+      justified-stands w N us vs r t v level top (restIn w N ws ps) (keptTo m (trailIn w N ws n)) (a .trail) g (a .why)
+      (to .level-is ∙ sym (level-kept m (trailIn w N ws n) (restIn w N ws ps) (omega (arith, to .level-is, to .low)))) p
 
 pub top-kept : (m : ℕ) (tr : Trail) → topLevel (keptTo m tr) ≤ topLevel tr
 unfolding keptTo levelOf
@@ -84,11 +87,29 @@ top-kept m (e ∷ older) =
 
 -- ---- the same result, said of the trail at entry
 
-pub jump-stands : (w N : ℕ) (vs : List ℕ) (r top t : ℕ) (s : Set) (tr : Trail) (m k v u : ℕ) → m ≡ k → v ≡ u
-    → Stands w N vs r top (justified (keptTo m tr) t v s ∷ keptTo m tr) → Stands w N vs r top (justified (keptTo k tr) t u s ∷ keptTo k tr)
-jump-stands w N vs r top t s tr m k v u e q h =
-    subst (λ (x : ℕ). Stands w N vs r top (justified (keptTo x tr) t u s ∷ keptTo x tr)) e
-    (subst (λ (x : ℕ). Stands w N vs r top (justified (keptTo m tr) t x s ∷ keptTo m tr)) q h)
+-- jump: the rest is the conflict without one row
+module _ (w N : ℕ) (ws : List ℕ) (n l m : ℕ) (p : ToJump w N ws n l m) where
+  one-row : filled (l ∷ []) ≡ l ∷ []
+  one-row = rw (ne-eqb l blank (omega (arith, p .0 .row, p .0 .laid .wide, p .0 .laid .narrow)))
+
+  rest-is : restIn w N ws (l ∷ []) ≡ remove (conflictIn w N ws) l
+  rest-is = ap (without (conflictIn w N ws)) one-row ∙ without-one (conflictIn w N ws) l
+
+  pub jump-back : ToBackjump w N ws n l m (l ∷ []) m
+  jump-back =
+      record {
+        laid = p .0 .laid;
+        wellFormed = p .0 .wellFormed;
+        row = p .0 .row;
+        gone = kept-gone l m (trailIn w N ws n) (p .0 .laid .distinct) (omega (arith, p .0 .above, p .1));
+        level-is = p .1 ∙ ap (levelOf (trailIn w N ws n)) (sym rest-is);
+        low = omega arith;
+      }
+
+  pub jump-stands : (vs : List ℕ) (r top v : ℕ) → v ≡ opposite (valueAt (trailIn w N ws n) l)
+      → Stands w N vs r top (backjumpedIn w N ws n l v m (l ∷ [])) → Stands w N vs r top (jumpedIn w N ws n l)
+  jump-stands vs r top v q h =
+      subst (Stands w N vs r top) (λ i. backjumped (trailIn w N ws n) (rest-is i) l (q i) (p .1 i)) h
 
 pub flip-stands : (w N : ℕ) (vs : List ℕ) (r top t : ℕ) (old tr : Trail) (v u : ℕ) → old ≡ tr → v ≡ u
     → Stands w N vs r top (decision old t v ∷ old) → Stands w N vs r top (decision tr t u ∷ tr)

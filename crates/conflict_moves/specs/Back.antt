@@ -1,9 +1,11 @@
 -- What the steps of a conflict find in the workspace, and the trails and conflicts that they make.
-use Prim.Native.Nat.{ℕ, _-_, _<_}
+use Prim.Native.Nat.{ℕ, _-_, _≤_, _<_}
 use mathlib.Core.Path.{_≡_}
 use mathlib.Core.Bool.{true, false}
-use mathlib.Core.List.{List, _∷_}
-use Rattle.calculus.specs.Trail.{Set, Trail, remove, union, on, levelAt, decidedAt, whyAt, levelOf, topLevel, keptTo, justified}
+use mathlib.Core.List.{List}
+use Rattle.calculus.specs.Trail.{Set, Trail, remove, without, union, on, levelAt, decidedAt, whyAt, levelOf, topLevel, keptTo}
+use Rattle.calculus.specs.Terms.{filled}
+use Rattle.calculus.specs.Steps.{backjumped}
 use Rattle.calculus.specs.WellFormed.{WellFormed}
 use Rattle.trail.specs.Words.{trailIn, Laid}
 use Rattle.moves.specs.Post.{conflictIn, restLevel, lowerLevel, Above}
@@ -22,14 +24,21 @@ ToClear w N ws n a = Laid w N ws n × (a < N) × (on (trailIn w N ws n) a ≡ tr
 abbrev pub clearedIn : ℕ → ℕ → List ℕ → ℕ → ℕ → Trail
 clearedIn w N ws n a = keptTo (levelAt (trailIn w N ws n) a - 1) (trailIn w N ws n)
 
--- the landing of a jump: m is the level of the conflict without t, and below t's own
-abbrev pub ToLand : ℕ → ℕ → List ℕ → ℕ → ℕ → ℕ → Type 0
-ToLand w N ws n t m =
-    Laid w N ws n × (t < N) × (m < levelAt (trailIn w N ws n) t) × (m ≡ levelOf (trailIn w N ws n) (remove (conflictIn w N ws) t))
-    × WellFormed N (trailIn w N ws n)
+-- the conflict without the rows in the columns ps
+abbrev pub restIn : ℕ → ℕ → List ℕ → List ℕ → Set
+restIn w N ws ps = without (conflictIn w N ws) (filled ps)
 
-abbrev pub landedIn : ℕ → ℕ → List ℕ → ℕ → ℕ → ℕ → ℕ → Trail
-landedIn w N ws n t v m = justified (keptTo m (trailIn w N ws n)) t v (remove (conflictIn w N ws) t) ∷ keptTo m (trailIn w N ws n)
+-- jump and learn: t is not on the trail kept to m; `level` is the level of the rest, not above m
+pub record ToBackjump (w N : ℕ) (ws : List ℕ) (n t m : ℕ) (ps : List ℕ) (level : ℕ) : Type 0 where
+  pub laid : Laid w N ws n
+  pub wellFormed : WellFormed N (trailIn w N ws n)
+  pub row : t < N
+  pub gone : on (keptTo m (trailIn w N ws n)) t ≡ false
+  pub level-is : level ≡ levelOf (trailIn w N ws n) (restIn w N ws ps)
+  pub low : level ≤ m
+
+abbrev pub backjumpedIn : ℕ → ℕ → List ℕ → ℕ → ℕ → ℕ → ℕ → List ℕ → Trail
+backjumpedIn w N ws n t v m ps = backjumped (trailIn w N ws n) (restIn w N ws ps) t v m
 
 -- jump: m is the level of the conflict without l
 abbrev pub ToJump : ℕ → ℕ → List ℕ → ℕ → ℕ → ℕ → Type 0

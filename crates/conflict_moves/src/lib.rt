@@ -1,8 +1,8 @@
-// What the allowed steps of a conflict do to the trail and the conflict in the workspace: resolve, clear, jump, flip.
+// What the allowed steps of a conflict do to the trail and the conflict in the workspace: resolve, clear, jump, learn, flip.
 // Whether a step is allowed is tested before.
 ghost use Rattle.trail.specs.Words.{trailIn};
 ghost use Rattle.moves.specs.Post.{jumpedIn, flippedIn, Stands, Conflicts};
-ghost use Rattle.conflict_moves.specs.Back.{resolvedIn, clearedIn, landedIn, ToResolve, ToClear, ToLand, ToJump, ToFlip};
+ghost use Rattle.conflict_moves.specs.Back.{resolvedIn, clearedIn, backjumpedIn, ToResolve, ToClear, ToBackjump, ToJump, ToFlip};
 use calculus::Level;
 use calculus::Row;
 use trail::Kept;
@@ -27,19 +27,30 @@ pub fn clear(work: &mut [u64], w: usize, terms: usize, n: usize, a: Row) -> Kept
     trail_changes::cut(work, w, terms, n, m)
 }
 
-// The trail kept to m, the level of the conflict without t and below t's own; then t with value v, justified by that rest.
-fn land(work: &mut [u64], w: usize, terms: usize, n: usize, t: Row, v: u16, m: Level) -> Kept
-    requires { ⌜ ToLand w terms (now work) n (t .0) (m .0) ⌝ }
-    ensures { λ r. ⌜ Stands w terms (now (work .exit)) (r .count) (r .top .0) (landedIn w terms (now (work .entry)) n (t .0) v (m .0)) ⌝ }
+// jump and learn: the trail kept to m, on which t does not stand; then t with value v, justified by the rest of the conflict, which is the conflict
+// without the rows in ps. Its level is that of the rest, at most m.
+pub fn backjump(
+    work: &mut [u64],
+    w: usize,
+    terms: usize,
+    n: usize,
+    t: Row,
+    v: u16,
+    m: Level,
+    ps: &[u16],
+    level: Level,
+) -> Kept
+    requires { ⌜ ToBackjump w terms (now work) n (t .0) (m .0) (now ps) (level .0) ⌝ }
+    ensures { λ r. ⌜ Stands w terms (now (work .exit)) (r .count) (r .top .0)
+        (backjumpedIn w terms (now (work .entry)) n (t .0) v (m .0) (now (ps .entry))) ⌝ }
 {
     let e = terms * w + 4 * terms;
     let b = t.0 as usize * w;
     let kept = trail_changes::cut(work, w, terms, n, m);
     let k = kept.count;
-    bitset::copy(work, b, e, w);
-    bitset::remove(work, b, w, t);
-    trail_changes::push(work, w, terms, k, t, v, m, false);
-    let l = trail::larger(kept.top, m);
+    bitset::copy_without(work, b, e, w, ps);
+    trail_changes::push(work, w, terms, k, t, v, level, false);
+    let l = trail::larger(kept.top, level);
     Kept {
         count: k + 1,
         top: l,
@@ -52,7 +63,7 @@ pub fn jump(work: &mut [u64], w: usize, terms: usize, n: usize, l: Row, m: Level
     ensures { λ r. ⌜ Stands w terms (now (work .exit)) (r .count) (r .top .0) (jumpedIn w terms (now (work .entry)) n (l .0)) ⌝ }
 {
     let v = trail::value(work, w, terms, n, l);
-    land(work, w, terms, n, l, moves::other(v), m)
+    backjump(work, w, terms, n, l, moves::other(v), m, &[l.0], m)
 }
 
 // flip: the trail kept below `level`, the level of the conflict, then the opposite of l as a decision.

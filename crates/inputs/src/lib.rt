@@ -28,7 +28,7 @@ fn load_row(terms: &[u16], work: &mut [u64], w: usize, n: usize, k: usize, t: Ro
 
 // Puts the entries of the input on an empty trail, until a row is in trouble.
 pub fn load(terms: &[u16], inputs: &[u16], work: &mut [u64], w: usize, n: usize) -> Check
-    requires { ⌜ (conflict w n + w ≤ length (now work)) × (n ≤ 64 * w) × (w ≤ 1024) × (n ≡ termRows (now terms)) ⌝ }
+    requires { ⌜ (conflict w n + w ≤ length (now work)) × (n ≤ 64 * w) × (w ≤ 1023) × (n ≡ termRows (now terms)) ⌝ }
     ensures { λ r. ⌜ Loaded w n (now (terms .entry)) (now (inputs .entry)) (now (work .exit)) r ⌝ }
 {
     trail_changes::start(work, w, n);

@@ -2,18 +2,16 @@
 use Prim.Native.Nat.{ℕ, _+_, _-_, _/_, _≤_, _<_, _^_, max}
 use native.Mathlib.Omega.{arith}
 use mathlib.Core.Path.{_≡_, refl, sym, ap, _∙_}
-use mathlib.Core.Bool.{false, not}
+use mathlib.Core.Bool.{false}
 use mathlib.Core.List.{List}
-use lib.Dec.{eqb}
-use lib.ListN.{getD}
 use lib.Bits.{bitAnd}
-use Rattle.calculus.specs.Trail.{Set, Trail, remove, levelOf, levelAt}
+use Rattle.calculus.specs.Trail.{Set, Trail, intersection, levelOf, levelAt}
 use Rattle.calculus.specs.WellFormed.{Distinct, Within}
 use Rattle.calculus.proofs.Facts.{both-true}
 use Rattle.bitset.specs.Windows.{setAt}
 use Rattle.bitset.proofs.Windows.{set-past}
 use Rattle.bitset.specs.Members.{wordOf, firstOf, IsWord}
-use Rattle.bitset.proofs.Members.{none-left, word-first, firstWords, words-none, words-more, words-all, set-word, less-word}
+use Rattle.bitset.proofs.Members.{none-left, word-first, firstWords, words-none, words-more, words-all}
 use Rattle.calculus.proofs.Entries.{level-empty}
 use Rattle.calculus.proofs.Trails.{level-insert, level-union}
 use Rattle.trail.proofs.Walks.{Rest, rest-next}
@@ -73,13 +71,10 @@ levels-more {tr} {s} {w} {k} {top} x u l h e =
 pub levels-all : {tr : Trail} {s : Set} {w k top : ℕ} → Levels tr s w k top → w ≤ k → ((u : ℕ) → w ≤ u / 64 → s u ≡ false) → top ≡ levelOf tr s
 levels-all {tr} {s} {w} {k} u l past = u .level ∙ ap (levelOf tr) (words-all s w k past l)
 
--- ---- without a row
+-- ---- a part of a set: without a row, or without several
 
-pub rest-word : (ws : List ℕ) (e w k y a : ℕ) → k < w → wordOf k y ≡ remove (wordOf k (getD ws (e + k) 0)) a → IsWord (remove (setAt ws e w) a) k y
-rest-word ws e w k y a l h = less-word (setAt ws e w) k (getD ws (e + k) 0) y a (set-word ws e w k l) h
+pub part-within : (tr : Trail) (s r : Set) → Within s tr → Within (intersection s r) tr
+part-within tr s r h u m = h u (both-true (s u) (r u) m .0)
 
-pub rest-within : (tr : Trail) (s : Set) (a : ℕ) → Within s tr → Within (remove s a) tr
-rest-within tr s a h u m = h u (both-true (s u) (not (eqb u a)) m .0)
-
-pub rest-past : (ws : List ℕ) (e w a u : ℕ) → w ≤ u / 64 → remove (setAt ws e w) a u ≡ false
-rest-past ws e w a u l = rw (set-past ws e w u l)
+pub part-past : (ws : List ℕ) (e w : ℕ) (r : Set) (u : ℕ) → w ≤ u / 64 → intersection (setAt ws e w) r u ≡ false
+part-past ws e w r u l = rw (set-past ws e w u l)

@@ -1,7 +1,8 @@
 // The level of a set of rows on the trail, by its members alone, word by word.
 ghost use mathlib.Core.Path.{_≡_};
 ghost use Prim.Native.Nat.{max};
-ghost use Rattle.calculus.specs.Trail.{remove, levelOf};
+ghost use Rattle.calculus.specs.Terms.{filled};
+ghost use Rattle.calculus.specs.Trail.{remove, without, levelOf};
 ghost use Rattle.calculus.specs.WellFormed.{Within};
 ghost use Rattle.bitset.specs.Windows.{setAt};
 ghost use Rattle.bitset.specs.Members.{wordOf};
@@ -47,6 +48,26 @@ pub fn level_without(work: &[u64], w: usize, terms: usize, n: usize, e: usize, a
     let mut most = Level(0);
     for k in 0..w {
         let x = bitset::word_without(k, work[e + k], a);
+        most = word_level(work, w, terms, n, k, x, most);
+    }
+    most
+}
+
+// The level of the set at e without the rows in ps before the first blank.
+pub fn level_without_all(
+    work: &[u64],
+    w: usize,
+    terms: usize,
+    n: usize,
+    e: usize,
+    ps: &[u16],
+) -> Level
+    requires { ⌜ SetOn w terms (now work) n e ⌝ }
+    ensures { λ r. ⌜ r .0 ≡ levelOf (trailIn w terms (now (work .entry)) n) (without (setAt (now (work .entry)) e w) (filled (now (ps .entry)))) ⌝ }
+{
+    let mut most = Level(0);
+    for k in 0..w {
+        let x = bitset::word_without_all(k, work[e + k], ps);
         most = word_level(work, w, terms, n, k, x, most);
     }
     most

@@ -74,7 +74,7 @@ still-twice w N ws us vs n p q = record { trail = q .trail ∙ p .trail; laid = 
 
 -- ---- nothing on the trail, and nothing in the workspace
 
-pub started : {w N : ℕ} {ws vs : List ℕ} → conflict w N + w ≤ length ws → N ≤ 64 * w → w ≤ 1024 → Filled ws vs (kinds w N) N (λ k. 0)
+pub started : {w N : ℕ} {ws vs : List ℕ} → conflict w N + w ≤ length ws → N ≤ 64 * w → w ≤ 1023 → Filled ws vs (kinds w N) N (λ k x. x ≡ 0)
     → Started w N ws vs
 unfolding trailIn Distinct Below on kindAt
 started h wide narrow f =

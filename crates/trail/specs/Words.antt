@@ -49,11 +49,11 @@ trailIn w N ws (suc n) = entryFor w N ws (getD ws (order w N + n) 0) ∷ trailIn
 unfoldable pub kindAt : Trail → ℕ → ℕ
 kindAt tr t = cond (on tr t) (cond (decidedAt tr t) 2 1) 0
 
--- the words are a trail of n entries over N terms, whose rows sets of w words can hold
+-- the words are a trail of n entries over N terms, whose rows sets of w words can hold; no row is 65,535, which is blank
 pub record Laid (w N : ℕ) (ws : List ℕ) (n : ℕ) : Type 0 where
   pub enough : conflict w N + w ≤ length ws
   pub wide : N ≤ 64 * w
-  pub narrow : w ≤ 1024
+  pub narrow : w ≤ 1023
   pub marked : (t : ℕ) → t < N → getD ws (kinds w N + t) 0 ≡ kindAt (trailIn w N ws n) t
   pub distinct : Distinct (trailIn w N ws n)
   pub below : Below N (trailIn w N ws n)

@@ -14,7 +14,7 @@ use trail::Kept;
 
 // The empty trail: the kinds become 0, and no other word changes.
 pub fn start(work: &mut [u64], w: usize, terms: usize)
-    requires { ⌜ (conflict w terms + w ≤ length (now work)) × (terms ≤ 64 * w) × (w ≤ 1024) ⌝ }
+    requires { ⌜ (conflict w terms + w ≤ length (now work)) × (terms ≤ 64 * w) × (w ≤ 1023) ⌝ }
     ensures { λ r. ⌜ Started w terms (now (work .entry)) (now (work .exit)) ⌝ }
 {
     let b = terms * w + 2 * terms;

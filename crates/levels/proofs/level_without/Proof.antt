@@ -5,7 +5,8 @@ use Rattle.bitset.specs.Windows.{setAt}
 use Rattle.trail.specs.Words.{trailIn}
 use Rattle.calculus.specs.Trail.{remove}
 use Rattle.trail.proofs.Walks.{word-within}
-use Rattle.levels.proofs.Laws.{Levels, levels-start, levels-more, levels-all, rest-word, rest-within, rest-past}
+use Rattle.bitset.proofs.Members.{set-word, part-word}
+use Rattle.levels.proofs.Laws.{Levels, levels-start, levels-more, levels-all, part-within, part-past}
 use Rattle.levels.proofs.level_without.Statement.{statement}
 use Rattle.levels.proofs.level_without.Tie as tie
 
@@ -34,8 +35,8 @@ word-level-requires : tie.Need-word-level-requires Inv-loop μ-loop
 word-level-requires c κs =
     let inside = c .before .before in
     let start = inside .before .before .before in
-    let word = rest-word _ (start .args .e) _ _ _ _ (inside .loop-test .taken) (c .word-without .ensures) in
-    (start .pre .0, word-within _ _ _ _ word (rest-within _ _ _ (start .pre .2)))
+    let word = part-word _ _ _ _ _ (set-word _ (start .args .e) _ _ (inside .loop-test .taken)) (c .word-without .ensures) in
+    (start .pre .0, word-within _ _ _ _ word (part-within _ _ _ (start .pre .2)))
 
 add-k : tie.Need-add-k Inv-loop μ-loop
 add-k c = search needs
@@ -46,11 +47,11 @@ loop-less c = search needs
 loop-again : tie.Need-loop-again Inv-loop μ-loop
 loop-again c =
     let inside = c .before .before .before in
-    let word = rest-word _ _ _ _ _ _ (inside .loop-test .taken) (c .before .word-without .ensures) in
+    let word = part-word _ _ _ _ _ (set-word _ _ _ _ (inside .loop-test .taken)) (c .before .word-without .ensures) in
     levels-more _ (inside .before .loop .inv) (inside .loop-test .taken) word (c .word-level .ensures)
 
 returns : tie.Need-returns Inv-loop μ-loop
-returns c = levels-all (c .before .loop .inv) (c .loop-test .left) (rest-past _ _ _ _)
+returns c = levels-all (c .before .loop .inv) (c .loop-test .left) (part-past _ _ _ _)
 
 pub level-without-spec : {M : Type 1} → statement M
 level-without-spec =

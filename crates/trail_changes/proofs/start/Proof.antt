@@ -10,7 +10,7 @@ use Rattle.trail_changes.proofs.start.Statement.{statement}
 use Rattle.trail_changes.proofs.start.Tie as tie
 
 abbrev Inv-loop : tie.InvT-loop
-Inv-loop work₀ w terms b t₀ work t = (t ≤ terms) × Filled work₀ work (kinds w terms) t (λ k. 0)
+Inv-loop work₀ w terms b t₀ work t = (t ≤ terms) × Filled work₀ work (kinds w terms) t (λ k x. x ≡ 0)
 
 abbrev μ-loop : tie.MeasureT-loop
 μ-loop work₀ w terms b t₀ work t = terms - t
