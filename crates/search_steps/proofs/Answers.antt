@@ -23,7 +23,8 @@ use Rattle.state.specs.States.{Answers}
 use Rattle.state.proofs.States.{trail-well-formed, refused-by, passed-by}
 use Rattle.state.proofs.Landed.{landed, opened}
 use Rattle.state.proofs.Tests.{told-yes}
-use Rattle.search_steps.specs.Claims.{Searching, Premised}
+use Rattle.premises.specs.Columns.{Premised}
+use Rattle.search_steps.specs.Searches.{Searching}
 
 -- the premises were tested
 pub premised : (w n : ℕ) (ws : List ℕ) (count : ℕ) (x : Step) {b : Bool} → Laid w n ws count

@@ -1,4 +1,4 @@
--- Premises column by column, what a rule answers, and the level of a clash.
+-- What a rule answers, and the level of a clash.
 use mathlib.Core.Path.{_≡_, refl, sym, _∙_}
 use mathlib.Core.Bool.{Bool, true, false}
 use mathlib.Core.List.{List, _∷_}
@@ -23,18 +23,7 @@ use Rattle.calculus.proofs.WellFormed.{level-more}
 use Rattle.rule_claims.specs.declared.Claim.{Claim}
 use Rattle.rule_claims.specs.Claims.{premisesOf}
 use Rattle.trail.specs.Words.{trailIn}
-use Rattle.search_steps.specs.Claims.{Premised, Claims, PremisesLevel}
-
--- ---- premises
-
-pub level-blank : (tr : Trail) (p : ℕ) (xs : List ℕ) → eqb p blank ≡ true → PremisesLevel tr (p ∷ xs) 0
-level-blank tr p xs e = λ h. rw e (sym (level-empty tr))
-
-pub level-filled : (tr : Trail) (p l m : ℕ) (xs : List ℕ) → Distinct tr → eqb p blank ≡ false → (on tr p ≡ true → l ≡ levelAt tr p)
-    → PremisesLevel tr xs m → PremisesLevel tr (p ∷ xs) (max l m)
-level-filled tr p l m xs d e a b = λ h.
-    let k = both-true _ _ (sym (all-filled (on tr) p xs e) ∙ h) in
-    rw (e, a (k .0), b (k .1)) (sym (level-more tr (has (filled xs)) p d))
+use Rattle.premises.specs.Columns.{Premised, Claims}
 
 -- ---- the rule's answer
 

@@ -19,7 +19,7 @@ use Rattle.calculus.specs.Steps.{premises, clashSet, atBase, decideRefusal, inf
 use Rattle.rule_claims.specs.declared.Claim.{Claim}
 use Rattle.rule_claims.specs.Claims.{premisesOf}
 use Rattle.state.proofs.Tests.{told, told-not, told-yes, past, stops}
-use Rattle.search_steps.specs.Claims.{Claims}
+use Rattle.premises.specs.Columns.{Claims}
 use Rattle.search_steps.proofs.Laws.{fits-true, fits-false, tested}
 
 -- ---- decide

@@ -7,8 +7,8 @@ use Rattle.search_steps.proofs.clash_level.Tie as tie
 level-at-requires : tie.Need-level-at-requires
 level-at-requires c κs = search needs
 
-premises-level-requires : tie.Need-premises-level-requires
-premises-level-requires c κs = search needs
+level-requires : tie.Need-level-requires
+level-requires c κs = search needs
 
 larger-requires : tie.Need-larger-requires
 larger-requires c κs = search needs
@@ -18,4 +18,4 @@ returns c = search clash-level-is
 
 pub clash-level-spec : {M : Type 1} → statement M
 clash-level-spec =
-    tie.close (tie.spec level-at-requires premises-level-requires larger-requires returns)
+    tie.close (tie.spec level-at-requires level-requires larger-requires returns)

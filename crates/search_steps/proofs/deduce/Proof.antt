@@ -14,8 +14,8 @@ same-length c = search needs
 returns : tie.Need-returns
 returns c = search deduce-refused
 
-premises-level-requires : tie.Need-premises-level-requires
-premises-level-requires c κs = search deduce-premised
+level-requires : tie.Need-level-requires
+level-requires c κs = search deduce-premised
 
 slice-aggregate-propagate : tie.Need-slice-aggregate-propagate
 slice-aggregate-propagate c = search needs
@@ -38,7 +38,7 @@ deduce-spec =
     deduce-refusal-requires
     same-length
     returns
-    premises-level-requires
+    level-requires
     slice-aggregate-propagate
     propagate-requires
     same-length-2

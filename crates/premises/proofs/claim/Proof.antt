@@ -1,9 +1,9 @@
--- `search_steps::claim` meets its contract.
+-- `premises::claim` meets its contract.
 use Rattle.rule_claims.proofs.Laws.{premises-looked}
 use mathlib.Core.Path.{refl}
 use borrow.Author.Needs.{needs}
-use Rattle.search_steps.proofs.claim.Statement.{statement}
-use Rattle.search_steps.proofs.claim.Tie as tie
+use Rattle.premises.proofs.claim.Statement.{statement}
+use Rattle.premises.proofs.claim.Tie as tie
 
 premise-requires : tie.Need-premise-requires
 premise-requires c κs = search needs

@@ -1,9 +1,9 @@
--- `search_steps::more_level` meets its contract.
+-- `premises::more_level` meets its contract.
 use borrow.Author.Tests.{eq-eqb, ne-eqb}
-use Rattle.search_steps.proofs.Laws.{level-blank, level-filled}
+use Rattle.premises.proofs.Laws.{level-blank, level-filled}
 use borrow.Author.Needs.{needs}
-use Rattle.search_steps.proofs.more_level.Statement.{statement}
-use Rattle.search_steps.proofs.more_level.Tie as tie
+use Rattle.premises.proofs.more_level.Statement.{statement}
+use Rattle.premises.proofs.more_level.Tie as tie
 
 returns : tie.Need-returns
 returns c = λ xs e. level-blank _ (c .before .before .args .p) xs (eq-eqb _ _ (c .if1 .taken))

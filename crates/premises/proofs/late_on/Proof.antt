@@ -1,10 +1,10 @@
--- `search_steps::late_on` meets its contract.
+-- `premises::late_on` meets its contract.
 use borrow.Author.Tests.{eq-eqb}
 use mathlib.Core.List.{[], _∷_}
 use mathlib.Core.Path.{refl}
 use borrow.Author.Needs.{needs}
-use Rattle.search_steps.proofs.late_on.Statement.{statement}
-use Rattle.search_steps.proofs.late_on.Tie as tie
+use Rattle.premises.proofs.late_on.Statement.{statement}
+use Rattle.premises.proofs.late_on.Tie as tie
 
 returns : tie.Need-returns
 returns c = rw (eq-eqb _ _ (c .if1 .taken))

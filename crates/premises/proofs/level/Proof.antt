@@ -1,9 +1,9 @@
--- `search_steps::premises_level` meets its contract.
+-- `premises::level` meets its contract.
 use Rattle.calculus.specs.Steps.{premises}
 use mathlib.Core.List.{[], _∷_}
 use borrow.Author.Needs.{needs}
-use Rattle.search_steps.proofs.premises_level.Statement.{statement}
-use Rattle.search_steps.proofs.premises_level.Tie as tie
+use Rattle.premises.proofs.level.Statement.{statement}
+use Rattle.premises.proofs.level.Tie as tie
 
 late-level-requires : tie.Need-late-level-requires
 late-level-requires c κs = search needs
@@ -22,6 +22,6 @@ returns c =
     let q = c .before .more-level .ensures (x .r ∷ x .s ∷ x .t ∷ []) (c .before .before .late-level .ensures) in
     c .more-level2 .ensures (x .q ∷ x .r ∷ x .s ∷ x .t ∷ []) q (k .pre .stand)
 
-pub premises-level-spec : {M : Type 1} → statement M
-premises-level-spec =
+pub level-spec : {M : Type 1} → statement M
+level-spec =
     tie.close (tie.spec late-level-requires more-level-requires more-level-requires-2 returns)

@@ -1,10 +1,10 @@
--- `search_steps::more_on` meets its contract.
+-- `premises::more_on` meets its contract.
 use borrow.Author.Tests.{eq-eqb, ne-eqb}
 use Rattle.calculus.proofs.Forms.{all-blank, all-filled}
 use mathlib.Core.Path.{sym}
 use borrow.Author.Needs.{needs}
-use Rattle.search_steps.proofs.more_on.Statement.{statement}
-use Rattle.search_steps.proofs.more_on.Tie as tie
+use Rattle.premises.proofs.more_on.Statement.{statement}
+use Rattle.premises.proofs.more_on.Tie as tie
 
 returns : tie.Need-returns
 returns c = λ xs e. sym (all-blank _ (c .before .before .args .p) xs (eq-eqb _ _ (c .if1 .taken)))

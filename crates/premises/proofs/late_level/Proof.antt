@@ -1,12 +1,12 @@
--- `search_steps::late_level` meets its contract.
+-- `premises::late_level` meets its contract.
 use borrow.Author.Tests.{eq-eqb}
 use Rattle.calculus.proofs.Entries.{level-empty}
-use Rattle.search_steps.proofs.Laws.{level-blank}
+use Rattle.premises.proofs.Laws.{level-blank}
 use mathlib.Core.List.{[], _∷_}
 use mathlib.Core.Path.{sym}
 use borrow.Author.Needs.{needs}
-use Rattle.search_steps.proofs.late_level.Statement.{statement}
-use Rattle.search_steps.proofs.late_level.Tie as tie
+use Rattle.premises.proofs.late_level.Statement.{statement}
+use Rattle.premises.proofs.late_level.Tie as tie
 
 returns : tie.Need-returns
 returns c =

@@ -1,8 +1,8 @@
--- `search_steps::premise` meets its contract.
+-- `premises::premise` meets its contract.
 use mathlib.Core.Path.{refl}
 use borrow.Author.Needs.{needs}
-use Rattle.search_steps.proofs.premise.Statement.{statement}
-use Rattle.search_steps.proofs.premise.Tie as tie
+use Rattle.premises.proofs.premise.Statement.{statement}
+use Rattle.premises.proofs.premise.Tie as tie
 
 value-at-requires : tie.Need-value-at-requires
 value-at-requires c κs = search needs

@@ -1,9 +1,9 @@
--- `search_steps::all_on` meets its contract.
+-- `premises::all_on` meets its contract.
 use Rattle.calculus.specs.Steps.{premises}
 use mathlib.Core.List.{[], _∷_}
 use borrow.Author.Needs.{needs}
-use Rattle.search_steps.proofs.all_on.Statement.{statement}
-use Rattle.search_steps.proofs.all_on.Tie as tie
+use Rattle.premises.proofs.all_on.Statement.{statement}
+use Rattle.premises.proofs.all_on.Tie as tie
 
 late-on-requires : tie.Need-late-on-requires
 late-on-requires c κs = search needs

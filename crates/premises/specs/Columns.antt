@@ -1,8 +1,8 @@
--- What the steps of the search find in the words, what a claim says beside its step row, and the premises column by column.
+-- What the premises of a step row are found to be in the words, what a claim says beside its step row, and the premises column by column.
 use mathlib.Core.Path.{_≡_}
-use mathlib.Core.Bool.{Bool, true, false}
+use mathlib.Core.Bool.{Bool, true}
 use mathlib.Core.List.{List, _∷_}
-use Prim.Native.Nat.{ℕ, _<_}
+use Prim.Native.Nat.{ℕ}
 use Rattle.calculus.specs.Lists.{all, has}
 use Rattle.calculus.specs.Terms.{filled}
 use Rattle.calculus.specs.declared.Step.{Step}
@@ -11,14 +11,6 @@ use Rattle.calculus.specs.Steps.{premises}
 use Rattle.rule_claims.specs.declared.Claim.{Claim}
 use Rattle.rule_claims.specs.Claims.{premisesOf}
 use Rattle.trail.specs.Words.{trailIn, Laid}
-use Rattle.state.specs.declared.Status.{Status}
-use Rattle.state.specs.States.{Standing}
-
--- the words stand for a search, and t is a row
-pub record Searching (w n : ℕ) (ts ws : List ℕ) (st : Status) (t : ℕ) : Type 0 where
-  pub standing : Standing w n ts ws st
-  pub search : st .conflict ≡ false
-  pub row : t < n
 
 -- the words are a trail, and every premise of the row x stands on it
 pub record Premised (w n : ℕ) (ws : List ℕ) (count : ℕ) (x : Step) : Type 0 where
