@@ -1,0 +1,93 @@
+// Clausal forms: whether a clause, which is an or or an and, has the opposites of some assignments as its arguments.
+ghost use mathlib.Core.Path.{_≡_};
+ghost use mathlib.Core.Bool.{false, _&&_};
+ghost use mathlib.Core.List.{[], _∷_};
+ghost use Rattle.calculus.specs.Clauses.{isClause, clauseValue, literal, paired, clausal};
+ghost use Rattle.calculus.specs.Terms.{filled, argsOf};
+ghost use Rattle.rule_claims.specs.Claims.{gap, premisesOf, afterFirst};
+use calculus::Premise;
+use calculus::Row;
+use calculus::Term;
+use rows::BLANK;
+use rows::term_at;
+use rule_claims::AND;
+use rule_claims::Claim;
+use rule_claims::NOT;
+use rule_claims::OR;
+use rule_claims::after_first;
+
+// Whether t is a clause.
+pub fn is_clause(terms: &[u16], t: Row) -> bool
+    ensures { λ r. ⌜ r ≡ isClause (now (terms .entry)) (t .0) ⌝ }
+{
+    let e = term_at(terms, t);
+    (e.head == OR) | (e.head == AND)
+}
+
+// The value that the clause t gets: an or is true, an and false.
+pub fn value(terms: &[u16], t: Row) -> u16
+    ensures { λ r. ⌜ r ≡ clauseValue (now (terms .entry)) (t .0) ⌝ }
+{
+    let e = term_at(terms, t);
+    if e.head == OR { 1 } else { 0 }
+}
+
+// Whether the assignment p appears as x in a clause that becomes v: negated where v is its value, as itself where it has the other.
+fn literal(terms: &[u16], v: u16, p: Premise, x: u16) -> bool
+    ensures { λ r. ⌜ r ≡ literal (now (terms .entry)) v p x ⌝ }
+{
+    if p.value == v {
+        let e = term_at(terms, Row(x));
+        return (e.head == NOT) & (e.a == p.row);
+    }
+    x == p.row
+}
+
+// Three cells for arguments.
+fn three(a: u16, b: u16, c: u16) -> Term
+    ensures { λ r. ⌜ argsOf r ≡ filled (a ∷ b ∷ c ∷ []) ⌝ }
+{
+    Term {
+        head: BLANK,
+        sort: BLANK,
+        a,
+        b,
+        c,
+        d: BLANK,
+    }
+}
+
+// Whether the first premise appears as y, and the others are paired with the arguments of `rest`.
+fn matched(terms: &[u16], v: u16, x: Claim, y: u16, rest: Term) -> bool
+    requires { ⌜ gap (x .p) ≡ false ⌝ }
+    ensures { λ r. ⌜ r ≡ (literal (now (terms .entry)) v (x .p) y && paired (now (terms .entry)) v (premisesOf (afterFirst x)) (argsOf rest)) ⌝ }
+{
+    if literal(terms, v, x.p, y) {
+        return paired(terms, v, after_first(x), rest);
+    }
+    false
+}
+
+// Whether the claim's premises and the arguments of e are paired one to one: the first premise with one argument, the others with what is left.
+fn paired(terms: &[u16], v: u16, x: Claim, e: Term) -> bool
+    ensures { λ r. ⌜ r ≡ paired (now (terms .entry)) v (premisesOf x) (argsOf e) ⌝ }
+{
+    if x.p.row == BLANK {
+        return e.a == BLANK;
+    }
+    let a = matched(terms, v, x, e.a, three(e.b, e.c, e.d));
+    let b = matched(terms, v, x, e.b, three(e.a, e.c, e.d));
+    let c = matched(terms, v, x, e.c, three(e.a, e.b, e.d));
+    let d = matched(terms, v, x, e.d, three(e.a, e.b, e.c));
+    let late = !(e.c == BLANK) & (c | (!(e.d == BLANK) & d));
+    !(e.a == BLANK) & (a | (!(e.b == BLANK) & (b | late)))
+}
+
+// Whether the claim's term is a clausal form of its premises.
+pub fn clausal(terms: &[u16], x: Claim) -> bool
+    ensures { λ r. ⌜ r ≡ clausal (now (terms .entry)) (x .term .0) (premisesOf x) ⌝ }
+{
+    let t = x.term;
+    let v = value(terms, t);
+    paired(terms, v, x, term_at(terms, t))
+}
