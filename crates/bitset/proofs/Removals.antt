@@ -3,15 +3,12 @@ use Prim.Native.Nat.{ℕ, suc, _+_, _≤_, _<_}
 use native.Mathlib.Numerals.{add-one}
 use native.Mathlib.Omega.{arith}
 use mathlib.Core.Path.{_≡_, refl, sym, ap, _∙_}
-use mathlib.Core.Bool.{Bool, cond}
-use mathlib.Core.List.{List, [], _∷_}
-use lib.Dec.{eqb}
+use mathlib.Core.List.{List}
 use lib.ListN.{length, getD, drop}
-use lib.Seq.{drop-cons, drop-length}
-use borrow.Author.Tests.{eq-eqb, ne-eqb}
 use Rattle.calculus.specs.Sheets.{blank}
 use Rattle.calculus.specs.Terms.{filled}
 use Rattle.calculus.specs.Trail.{Set, remove, without}
+use Rattle.calculus.proofs.Walks.{left-blank, left-more, left-none}
 use Rattle.calculus.proofs.Trails.{without-none, without-more}
 
 -- after the first k of ps, none of them blank, r is left of s: the others are still to be removed
@@ -24,19 +21,16 @@ removing-none s ps = record { so-far = omega arith; left = refl }
 
 module _ {s r : Set} {ps : List ℕ} {k : ℕ} (u : Removing s ps k r) where
   module _ (h : k < length ps) where
-    next : (b : Bool) → eqb (getD ps k 0) blank ≡ b → filled (drop k ps) ≡ cond b [] (getD ps k 0 ∷ filled (drop (suc k) ps))
-    next b e = ap filled (drop-cons ps k 0 h) ∙ ap (λ (x : Bool). cond x [] (getD ps k 0 ∷ filled (drop (suc k) ps))) e
-
     -- a blank ends it
     pub removed-blank : getD ps k 0 ≡ blank → r ≡ without s (filled ps)
-    removed-blank q = sym (u .left ∙ ap (without r) (next _ (eq-eqb _ _ q)) ∙ without-none r)
+    removed-blank q = sym (u .left ∙ ap (without r) (left-blank ps k h q) ∙ without-none r)
 
     pub removed-more : (getD ps k 0 ≡ blank → ⊥) → {v : Set} → v ≡ remove r (getD ps k 0) → Removing s ps (k + 1) v
     removed-more ne e =
         record {
           so-far = omega arith;
-          left = rw (add-one, e) (u .left ∙ ap (without r) (next _ (ne-eqb _ _ ne)) ∙ without-more r (getD ps k 0) (filled (drop (suc k) ps)));
+          left = rw (add-one, e) (u .left ∙ ap (without r) (left-more ps k h ne) ∙ without-more r (getD ps k 0) (filled (drop (suc k) ps)));
         }
 
   pub removed-all : k ≡ length ps → r ≡ without s (filled ps)
-  removed-all q = sym (u .left ∙ ap (λ (l : List ℕ). without r (filled l)) (ap (λ (i : ℕ). drop i ps) q ∙ drop-length ps) ∙ without-none r)
+  removed-all q = sym (u .left ∙ ap (without r) (left-none ps k q) ∙ without-none r)

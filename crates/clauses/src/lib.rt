@@ -1,9 +1,13 @@
 // Clausal forms: whether a clause, which is an or or an and, has the opposites of some assignments as its arguments.
 ghost use mathlib.Core.Path.{_≡_};
-ghost use mathlib.Core.Bool.{false, _&&_};
+ghost use mathlib.Core.Bool.{false, not, _&&_};
+ghost use Prim.Native.Nat.{_≤_};
+ghost use lib.Dec.{eqb};
+ghost use lib.ListN.{length, drop};
+ghost use Rattle.calculus.specs.Lists.{all};
 ghost use mathlib.Core.List.{[], _∷_};
-ghost use Rattle.calculus.specs.Clauses.{isClause, clauseValue, literal, paired, clausal};
-ghost use Rattle.calculus.specs.Terms.{filled, argsOf};
+ghost use Rattle.calculus.specs.Clauses.{different, isClause, clauseValue, literal, paired, clausal};
+ghost use Rattle.calculus.specs.Terms.{prop, filled, argsOf};
 ghost use Rattle.rule_claims.specs.Claims.{gap, premisesOf, afterFirst};
 use calculus::Premise;
 use calculus::Row;
@@ -31,6 +35,60 @@ pub fn value(terms: &[u16], t: Row) -> u16
     let e = term_at(terms, t);
     if e.head == OR { 1 } else { 0 }
 }
+
+// ---- the rows in ps before the first blank
+
+// Whether all of them are of sort prop.
+pub fn all_props(terms: &[u16], ps: &[u16]) -> bool
+    ensures { λ r. ⌜ r ≡ all (prop (now (terms .entry))) (filled (now (ps .entry))) ⌝ }
+{
+    for k in 0..ps.len() {
+        let p = ps[k];
+        if p == BLANK {
+            return true;
+        }
+        let e = term_at(terms, Row(p));
+        if e.sort != 0 {
+            return false;
+        }
+    }
+    true
+}
+
+// Whether x is none of those from column `from` on.
+fn absent_from(ps: &[u16], from: usize, x: u16) -> bool
+    requires { ⌜ from ≤ length (now ps) ⌝ }
+    ensures { λ r. ⌜ r ≡ all (λ y. not (eqb x y)) (filled (drop from (now (ps .entry)))) ⌝ }
+{
+    for i in from..ps.len() {
+        let p = ps[i];
+        if p == BLANK {
+            return true;
+        }
+        if x == p {
+            return false;
+        }
+    }
+    true
+}
+
+// Whether none of them is named twice.
+pub fn different(ps: &[u16]) -> bool
+    ensures { λ r. ⌜ r ≡ different (filled (now (ps .entry))) ⌝ }
+{
+    for k in 0..ps.len() {
+        let p = ps[k];
+        if p == BLANK {
+            return true;
+        }
+        if !absent_from(ps, k + 1, p) {
+            return false;
+        }
+    }
+    true
+}
+
+// ---- literals in pairs with arguments
 
 // Whether the assignment p appears as x in a clause that becomes v: negated where v is its value, as itself where it has the other.
 fn literal(terms: &[u16], v: u16, p: Premise, x: u16) -> bool

@@ -2,16 +2,17 @@
 use Prim.Native.Nat.{ℕ, suc, _+_, _<_}
 use native.Mathlib.Numerals.{add-one}
 use mathlib.Core.Path.{_≡_, refl, sym, ap, _∙_}
-use mathlib.Core.Bool.{Bool, true, _||_, cond, or-false, or-true, or-assoc, or-comm}
+use mathlib.Core.Bool.{Bool, true, _||_, or-false, or-true, or-assoc, or-comm}
 use mathlib.Core.List.{List, [], _∷_, _++_}
 use lib.Dec.{eqb}
 use lib.ListN.{length, getD, take, drop}
-use lib.Seq.{take-suc, drop-cons, append-snoc, drop-length}
-use borrow.Author.Tests.{eq-eqb, ne-eqb}
+use lib.Seq.{take-suc, append-snoc}
+use borrow.Author.Tests.{eq-eqb}
 use Rattle.calculus.specs.Sheets.{blank}
 use Rattle.calculus.specs.Lists.{has}
 use Rattle.calculus.specs.Terms.{filled}
 use Rattle.calculus.specs.Trail.{Set, empty, insert}
+use Rattle.calculus.proofs.Walks.{left-blank, left-more, left-none}
 use Rattle.bitset.specs.Windows.{setAt, Holds}
 use Rattle.bitset.proofs.Windows.{only-twice}
 
@@ -32,21 +33,15 @@ pub gather-none : (ws : List ℕ) (b w : ℕ) (ps : List ℕ) → setAt ws b w �
 gather-none ws b w ps e = record { split = refl; holds = record { only = record { long = refl; rest = λ k o. refl }; set = e } }
 
 module _ (ws₀ ws : List ℕ) (b w : ℕ) (ps : List ℕ) (k : ℕ) (h : k < length ps) (u : Gathering ws₀ ws b w ps k) where
-  next : filled (drop k ps) ≡ cond (eqb (getD ps k 0) blank) [] (getD ps k 0 ∷ filled (drop (suc k) ps))
-  next = ap filled (drop-cons ps k 0 h)
-
   -- a blank ends it
   pub gather-blank : getD ps k 0 ≡ blank → Holds ws₀ ws b w (has (filled ps))
   gather-blank q =
-      let none : filled (drop k ps) ≡ [] = next ∙ ap (λ (x : Bool). cond x [] (getD ps k 0 ∷ filled (drop (suc k) ps))) (eq-eqb (getD ps k 0) blank q) in
-      let e : filled ps ≡ take k ps = u .split ∙ ap (λ (l : List ℕ). take k ps ++ l) none ∙ append-nil (take k ps) in
+      let e : filled ps ≡ take k ps = u .split ∙ ap (λ (l : List ℕ). take k ps ++ l) (left-blank ps k h q) ∙ append-nil (take k ps) in
       record { only = u .holds .only; set = u .holds .set ∙ sym (ap has e) }
 
   module _ (ne : getD ps k 0 ≡ blank → ⊥) where
     opened : filled ps ≡ take k ps ++ (getD ps k 0 ∷ filled (drop (suc k) ps))
-    opened =
-        u .split
-        ∙ ap (λ (l : List ℕ). take k ps ++ l) (next ∙ ap (λ (x : Bool). cond x [] (getD ps k 0 ∷ filled (drop (suc k) ps))) (ne-eqb (getD ps k 0) blank ne))
+    opened = u .split ∙ ap (λ (l : List ℕ). take k ps ++ l) (left-more ps k h ne)
 
     pub gather-in : has (filled ps) (getD ps k 0) ≡ true
     gather-in =
@@ -78,8 +73,7 @@ module _ (ws₀ ws : List ℕ) (b w : ℕ) (ps : List ℕ) (k : ℕ) (h : k < le
 
 pub gather-all : (ws₀ ws : List ℕ) (b w : ℕ) (ps : List ℕ) (k : ℕ) → k ≡ length ps → Gathering ws₀ ws b w ps k → Holds ws₀ ws b w (has (filled ps))
 gather-all ws₀ ws b w ps k q u =
-    let e : filled ps ≡ take k ps =
-    u .split ∙ ap (λ (l : List ℕ). take k ps ++ filled l) (ap (λ (i : ℕ). drop i ps) q ∙ drop-length ps) ∙ append-nil (take k ps) in
+    let e : filled ps ≡ take k ps = u .split ∙ ap (λ (l : List ℕ). take k ps ++ l) (left-none ps k q) ∙ append-nil (take k ps) in
     record { only = u .holds .only; set = u .holds .set ∙ sym (ap has e) }
 
 -- one more in front
