@@ -13,6 +13,7 @@ use Rattle.calculus.specs.Lists.{all, has}
 use Rattle.calculus.specs.Sheets.{blank}
 use Rattle.calculus.specs.Terms.{filled}
 use Rattle.calculus.specs.Clauses.{different}
+use Rattle.calculus.proofs.Facts.{both-true}
 
 -- ---- the columns from k on
 
@@ -52,6 +53,13 @@ module _ {p : ℕ → Bool} {b : Bool} {ps : List ℕ} {k : ℕ} (u : Passed p b
 
     pub passed-no : p (getD ps k 0) ≡ false → false ≡ b
     passed-no e = sym (first-then ∙ rw e)
+
+-- where all pass, the next one does
+pub passed-at : {p : ℕ → Bool} {ps : List ℕ} {k : ℕ} → Passed p true ps k → k < length ps → (getD ps k 0 ≡ blank → ⊥)
+    → (p (getD ps k 0) ≡ true) × Passed p true ps (k + 1)
+passed-at {p} {ps} {k} u h ne =
+    let e : p (getD ps k 0) ≡ true = both-true (p (getD ps k 0)) _ (sym (first-then u h ne)) .0 in
+    (e, passed-more u h ne e)
 
 -- ---- whether none stands twice
 

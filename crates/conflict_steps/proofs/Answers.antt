@@ -17,9 +17,10 @@ use Rattle.state.specs.declared.Answer.{Answer}
 use Rattle.state.specs.declared.Answer.the-variants.{Allowed, Refused}
 use Rattle.state.specs.States.{Answers}
 use Rattle.state.proofs.States.{refused-by, passed-by}
-use Rattle.state.proofs.Landed.{landed, opened}
-use Rattle.conflict_steps.specs.Conflicts.{Conflicted, Found, Member, inSearch}
-use Rattle.conflict_steps.proofs.Laws.{found, held-high, top-fits}
+use Rattle.state.proofs.Landed.{opened}
+use Rattle.conflicts.specs.Conflicts.{Conflicted, Found, Member, inSearch}
+use Rattle.conflicts.proofs.Laws.{found, search-on}
+use Rattle.conflict_steps.proofs.Laws.{held-high, top-fits}
 
 module _ (w n : ℕ) (ts ws : List ℕ) (st : Status) where
   abbrev here : Trail
@@ -27,11 +28,6 @@ module _ (w n : ℕ) (ts ws : List ℕ) (st : Status) where
 
   abbrev set : Set
   set = conflictIn w n ws
-
-  -- the search goes on
-  search-on : {t : ℕ} (vs : List ℕ) (count : ℕ) (top : Level) {tr : Trail} {a : calculus.Answer} {r : Answer} → Conflicted w n ts ws st t
-      → Stands w n vs count (top .0) tr → a ≡ calculus.allowed (calculus.searching tr) → r ≡ Allowed (inSearch count top) → Answers w n ts ws vs a r
-  search-on vs count top g s e q = rw q (landed w n ts ws vs (inSearch count top) refl (g .standing .held .rows) s e)
 
   -- ---- resolve
 
@@ -71,7 +67,7 @@ module _ (w n : ℕ) (ts ws : List ℕ) (st : Status) where
       pub clear-done : (vs : List ℕ) (count : ℕ) (top : Level) {r : Answer} → Stands w n vs count (top .0) (keptTo (levelAt here a - 1) here)
           → r ≡ Allowed (inSearch count top) → Answers w n ts ws vs (calculus.clear ts here set a) r
       unfolding calculus.clear
-      clear-done vs count top s q = search-on vs count top g s (passed-by _ c-is c-no) q
+      clear-done vs count top s q = search-on w n ts ws st vs count top g s (passed-by _ c-is c-no) q
 
   -- ---- jump
 
@@ -93,7 +89,7 @@ module _ (w n : ℕ) (ts ws : List ℕ) (st : Status) where
       pub jump-done : (vs : List ℕ) (count : ℕ) (top : Level) {r : Answer} → Stands w n vs count (top .0) (jumpedIn w n ws (st .count) l)
           → r ≡ Allowed (inSearch count top) → Answers w n ts ws vs (calculus.jump ts here set l) r
       unfolding calculus.jump
-      jump-done vs count top s q = search-on vs count top g s (passed-by _ c-is c-no) q
+      jump-done vs count top s q = search-on w n ts ws st vs count top g s (passed-by _ c-is c-no) q
 
   -- ---- flip
 
@@ -133,4 +129,4 @@ module _ (w n : ℕ) (ts ws : List ℕ) (st : Status) where
       pub flip-done : (vs : List ℕ) (count : ℕ) (top : Level) {r : Answer} → Stands w n vs count (top .0) (flippedIn w n ws (st .count) l)
           → r ≡ Allowed (inSearch count top) → Answers w n ts ws vs (calculus.flip ts here set l k) r
       unfolding calculus.flip
-      flip-done vs count top s q = search-on vs count top g s (passed-by _ c-is c-no) q
+      flip-done vs count top s q = search-on w n ts ws st vs count top g s (passed-by _ c-is c-no) q

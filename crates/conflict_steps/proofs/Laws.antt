@@ -22,16 +22,7 @@ use Rattle.moves.specs.Post.{conflictIn}
 use Rattle.state.specs.declared.Status.{Status}
 use Rattle.state.proofs.States.{trail-well-formed, conflict-within}
 use Rattle.state.proofs.Tests.{told, told-yes}
-use Rattle.conflict_steps.specs.Conflicts.{Conflicted, Found, Member, Justified, whyIn, conflictLevel, holdsFirstOrder}
-
--- what a step of a conflict finds
-pub found : (w n : ℕ) (ts ws : List ℕ) (st : Status) {t : ℕ} → Conflicted w n ts ws st t → Found w n ws (st .count)
-found w n ts ws st g =
-    record {
-      laid = g .standing .held .laid;
-      wellFormed = trail-well-formed w n ws st (g .standing .wellFormed);
-      within = conflict-within w n ws st (g .conflict) (g .standing .wellFormed);
-    }
+use Rattle.conflicts.specs.Conflicts.{Conflicted, Found, Member, Justified, whyIn, conflictLevel, holdsFirstOrder}
 
 -- ---- levels are small
 

@@ -1,59 +1,21 @@
 // The steps of a conflict: resolve, clear, jump, flip. Each has its number, found by reading alone, and then what it does.
 ghost use mathlib.Core.Path.{_≡_};
-ghost use Prim.Native.Nat.{_+_, _*_, _<_, _≤_};
+ghost use Prim.Native.Nat.{_<_};
 ghost use lib.Dec.{ltb};
-ghost use lib.ListN.{length};
 ghost use Rattle.calculus.specs.Sheets.{termRows};
 ghost use Rattle.calculus.specs.Trail.{intersection, levelAt, topLevel};
 ghost use Rattle.calculus.specs.Steps as calculus;
 ghost use Rattle.calculus.specs.Steps.{resolveRefusal, clearRefusal, jumpRefusal, flipRefusal};
-ghost use Rattle.trail.specs.Words as words;
 ghost use Rattle.trail.specs.Words.{trailIn};
 ghost use Rattle.moves.specs.Post.{conflictIn, restLevel};
 ghost use Rattle.state.specs.States.{Answers};
-ghost use Rattle.conflict_steps.specs.Conflicts.{Conflicted, Found, Member, Justified, whyIn, conflictLevel, holdsFirstOrder, inSearch};
+ghost use Rattle.conflicts.specs.Conflicts.{Conflicted, Found, Member, Justified, whyIn, conflictLevel, holdsFirstOrder};
 use calculus::Level;
 use calculus::Row;
 use state::Answer;
 use state::Status;
-use trail::Kept;
 
 // ---- what the tests share
-
-// Where the conflict's words begin; the workspace holds them.
-fn place(work: &[u64], w: usize, n: usize) -> usize
-    requires { ⌜ words.conflict w n + w ≤ length (now work) ⌝ }
-    ensures { λ r. ⌜ r ≡ words.conflict w n ⌝ }
-{
-    n * w + 4 * n
-}
-
-// Whether row t is in the conflict.
-fn in_conflict(work: &[u64], w: usize, n: usize, t: Row) -> bool
-    requires { ⌜ (words.conflict w n + w ≤ length (now work)) × (n ≤ 64 * w) × (t .0 < n) ⌝ }
-    ensures { λ r. ⌜ r ≡ conflictIn w n (now (work .entry)) (t .0) ⌝ }
-{
-    let e = place(work, w, n);
-    bitset::member(work, e, w, t)
-}
-
-// The conflict's level.
-fn conflict_level(work: &[u64], w: usize, n: usize, count: usize) -> Level
-    requires { ⌜ Found w n (now work) count ⌝ }
-    ensures { λ r. ⌜ r .0 ≡ conflictLevel w n (now (work .entry)) count ⌝ }
-{
-    let e = place(work, w, n);
-    levels::level_of(work, w, n, count, e)
-}
-
-// The level of the conflict without row t.
-fn rest_level(work: &[u64], w: usize, n: usize, count: usize, t: Row) -> Level
-    requires { ⌜ Found w n (now work) count ⌝ }
-    ensures { λ r. ⌜ r .0 ≡ restLevel w n (now (work .entry)) count (t .0) ⌝ }
-{
-    let e = place(work, w, n);
-    levels::level_without(work, w, n, count, e, t)
-}
 
 // Whether row t's level is above that of the rest of the conflict, which is `rest`.
 fn above_rest(work: &[u64], w: usize, n: usize, count: usize, t: Row, rest: Level) -> bool
@@ -72,7 +34,7 @@ fn conflict_above(work: &[u64], w: usize, n: usize, count: usize, top: Level, ow
     if top.0 <= own.0 {
         return false;
     }
-    let m = conflict_level(work, w, n, count);
+    let m = conflicts::conflict_level(work, w, n, count);
     own.0 < m.0
 }
 
@@ -135,7 +97,7 @@ fn resolve_refusal(
     requires { ⌜ Found w n (now work) count × (n ≡ termRows (now terms)) × (top .0 ≡ topLevel (trailIn w n (now work) count)) × (a .0 < n) ⌝ }
     ensures { λ r. ⌜ r ≡ resolveRefusal (now (terms .entry)) (trailIn w n (now (work .entry)) count) (conflictIn w n (now (work .entry))) (a .0) ⌝ }
 {
-    if !in_conflict(work, w, n, a) {
+    if !conflicts::in_conflict(work, w, n, a) {
         return 17;
     }
     if trail::decided(work, w, n, count, a) {
@@ -152,7 +114,7 @@ fn clear_refusal(terms: &[u16], work: &[u64], w: usize, n: usize, count: usize, 
     requires { ⌜ Found w n (now work) count × (a .0 < n) ⌝ }
     ensures { λ r. ⌜ r ≡ clearRefusal (now (terms .entry)) (trailIn w n (now (work .entry)) count) (conflictIn w n (now (work .entry))) (a .0) ⌝ }
 {
-    if !in_conflict(work, w, n, a) {
+    if !conflicts::in_conflict(work, w, n, a) {
         return 17;
     }
     let decided = trail::decided(work, w, n, count, a);
@@ -160,7 +122,7 @@ fn clear_refusal(terms: &[u16], work: &[u64], w: usize, n: usize, count: usize, 
     if !(decided & !p) {
         return 20;
     }
-    let rest = rest_level(work, w, n, count, a);
+    let rest = conflicts::rest_level(work, w, n, count, a);
     if !above_rest(work, w, n, count, a, rest) {
         return 21;
     }
@@ -180,7 +142,7 @@ fn jump_refusal(
     requires { ⌜ Found w n (now work) count × (l .0 < n) × (m .0 ≡ restLevel w n (now work) count (l .0)) ⌝ }
     ensures { λ r. ⌜ r ≡ jumpRefusal (now (terms .entry)) (trailIn w n (now (work .entry)) count) (conflictIn w n (now (work .entry))) (l .0) ⌝ }
 {
-    if !in_conflict(work, w, n, l) {
+    if !conflicts::in_conflict(work, w, n, l) {
         return 17;
     }
     if !state::is_prop(terms, l) {
@@ -207,10 +169,10 @@ fn flip_refusal(
     ensures { λ r. ⌜ r ≡ flipRefusal (now (terms .entry))
         (trailIn w n (now (work .entry)) count) (conflictIn w n (now (work .entry))) (l .0) (k .0) ⌝ }
 {
-    if !in_conflict(work, w, n, l) {
+    if !conflicts::in_conflict(work, w, n, l) {
         return 17;
     }
-    if !in_conflict(work, w, n, k) {
+    if !conflicts::in_conflict(work, w, n, k) {
         return 17;
     }
     if !state::is_prop(terms, l) {
@@ -232,18 +194,6 @@ fn flip_refusal(
 }
 
 // ---- the steps
-
-// The search goes on from the trail that is left.
-fn searching(kept: Kept) -> Answer
-    ensures { λ r. ⌜ r ≡ Answer.Allowed (inSearch (kept .count) (kept .top)) ⌝ }
-{
-    let top = kept.top;
-    Answer::Allowed(Status {
-        count: kept.count,
-        top,
-        conflict: false,
-    })
-}
 
 // In the conflict, a's justification takes the place of a.
 pub fn resolve(terms: &[u16], work: &mut [u64], w: usize, n: usize, st: Status, a: Row) -> Answer
@@ -276,7 +226,7 @@ pub fn clear(terms: &[u16], work: &mut [u64], w: usize, n: usize, st: Status, a:
     if c != 0 {
         return Answer::Refused(c);
     }
-    searching(conflict_moves::clear(work, w, n, count, a))
+    conflicts::searching(conflict_moves::clear(work, w, n, count, a))
 }
 
 // Back to the level of the rest of the conflict, which justifies the opposite of l.
@@ -286,12 +236,12 @@ pub fn jump(terms: &[u16], work: &mut [u64], w: usize, n: usize, st: Status, l: 
         (calculus.jump (now (terms .entry)) (trailIn w n (now (work .entry)) (st .count)) (conflictIn w n (now (work .entry))) (l .0)) r ⌝ }
 {
     let count = st.count;
-    let m = rest_level(work, w, n, count, l);
+    let m = conflicts::rest_level(work, w, n, count, l);
     let c = jump_refusal(terms, work, w, n, count, l, m);
     if c != 0 {
         return Answer::Refused(c);
     }
-    searching(conflict_moves::jump(work, w, n, count, l, m))
+    conflicts::searching(conflict_moves::jump(work, w, n, count, l, m))
 }
 
 // Below the level of the conflict, the opposite of l is decided.
@@ -309,10 +259,10 @@ pub fn flip(
         (calculus.flip (now (terms .entry)) (trailIn w n (now (work .entry)) (st .count)) (conflictIn w n (now (work .entry))) (l .0) (k .0)) r ⌝ }
 {
     let count = st.count;
-    let m = conflict_level(work, w, n, count);
+    let m = conflicts::conflict_level(work, w, n, count);
     let c = flip_refusal(terms, work, w, n, count, l, k, m);
     if c != 0 {
         return Answer::Refused(c);
     }
-    searching(conflict_moves::flip(work, w, n, count, l, m))
+    conflicts::searching(conflict_moves::flip(work, w, n, count, l, m))
 }

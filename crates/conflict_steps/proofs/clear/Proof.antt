@@ -1,5 +1,5 @@
 -- `conflict_steps::clear` meets its contract.
-use Rattle.conflict_steps.proofs.Laws.{found}
+use Rattle.conflicts.proofs.Laws.{found}
 use Rattle.conflict_steps.proofs.Answers.{clear-refused, clear-on, clear-done}
 use borrow.Author.Needs.{needs}
 use Rattle.conflict_steps.proofs.clear.Statement.{statement}

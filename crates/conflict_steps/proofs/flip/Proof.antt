@@ -1,5 +1,5 @@
 -- `conflict_steps::flip` meets its contract.
-use Rattle.conflict_steps.proofs.Laws.{found}
+use Rattle.conflicts.proofs.Laws.{found}
 use Rattle.conflict_steps.proofs.Answers.{flip-refused, flip-above, flip-small, flip-done}
 use borrow.Author.Needs.{needs}
 use Rattle.conflict_steps.proofs.flip.Statement.{statement}

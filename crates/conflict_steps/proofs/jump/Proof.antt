@@ -1,5 +1,5 @@
 -- `conflict_steps::jump` meets its contract.
-use Rattle.conflict_steps.proofs.Laws.{found}
+use Rattle.conflicts.proofs.Laws.{found}
 use Rattle.conflict_steps.proofs.Answers.{jump-refused, jump-above, jump-done}
 use borrow.Author.Needs.{needs}
 use Rattle.conflict_steps.proofs.jump.Statement.{statement}

@@ -1,5 +1,5 @@
 -- `conflict_steps::resolve` meets its contract.
-use Rattle.conflict_steps.proofs.Laws.{found}
+use Rattle.conflicts.proofs.Laws.{found}
 use Rattle.conflict_steps.proofs.Answers.{resolve-refused, resolve-on, resolve-justified, resolve-done}
 use borrow.Author.Needs.{needs}
 use Rattle.conflict_steps.proofs.resolve.Statement.{statement}

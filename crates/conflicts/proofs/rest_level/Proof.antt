@@ -1,7 +1,7 @@
--- `conflict_steps::rest_level` meets its contract.
+-- `conflicts::rest_level` meets its contract.
 use borrow.Author.Needs.{needs}
-use Rattle.conflict_steps.proofs.rest_level.Statement.{statement}
-use Rattle.conflict_steps.proofs.rest_level.Tie as tie
+use Rattle.conflicts.proofs.rest_level.Statement.{statement}
+use Rattle.conflicts.proofs.rest_level.Tie as tie
 
 place-requires : tie.Need-place-requires
 place-requires c κs = search needs

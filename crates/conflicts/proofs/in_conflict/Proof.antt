@@ -1,7 +1,7 @@
--- `conflict_steps::in_conflict` meets its contract.
+-- `conflicts::in_conflict` meets its contract.
 use borrow.Author.Needs.{needs}
-use Rattle.conflict_steps.proofs.in_conflict.Statement.{statement}
-use Rattle.conflict_steps.proofs.in_conflict.Tie as tie
+use Rattle.conflicts.proofs.in_conflict.Statement.{statement}
+use Rattle.conflicts.proofs.in_conflict.Tie as tie
 
 place-requires : tie.Need-place-requires
 place-requires c κs = search needs

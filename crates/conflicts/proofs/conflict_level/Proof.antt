@@ -1,7 +1,7 @@
--- `conflict_steps::conflict_level` meets its contract.
+-- `conflicts::conflict_level` meets its contract.
 use borrow.Author.Needs.{needs}
-use Rattle.conflict_steps.proofs.conflict_level.Statement.{statement}
-use Rattle.conflict_steps.proofs.conflict_level.Tie as tie
+use Rattle.conflicts.proofs.conflict_level.Statement.{statement}
+use Rattle.conflicts.proofs.conflict_level.Tie as tie
 
 place-requires : tie.Need-place-requires
 place-requires c κs = search needs
