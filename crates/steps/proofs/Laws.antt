@@ -8,7 +8,7 @@ use borrow.Author.Tests.{not-true, not-false}
 use lib.Dec.{T, eqb, ltb, ltb→lt}
 use Rattle.calculus.specs.declared.Step.{Step}
 use Rattle.calculus.specs.declared.Kind.{Kind}
-use Rattle.calculus.specs.declared.Kind.the-variants.{Decide, Deduce, Clash, Resolve, Clear, Jump, Flip, Fail, Unlisted}
+use Rattle.calculus.specs.declared.Kind.the-variants.{Decide, Deduce, Clash, Resolve, Clear, Jump, Flip, Fail, Learn, Unlisted}
 use Rattle.calculus.specs.Lists.{all}
 use Rattle.calculus.specs.Sheets.{blank, termRows}
 use Rattle.calculus.specs.Trail.{Set, Trail}
@@ -23,8 +23,9 @@ use Rattle.state.specs.declared.Answer.{Answer}
 use Rattle.state.specs.declared.Answer.the-variants.{Refused}
 use Rattle.state.specs.States.{stateIn, Standing, Answers}
 use Rattle.state.proofs.States.{in-conflict, trail-there, conflict-there, passed-by}
-use Rattle.search_steps.specs.Claims.{Searching}
-use Rattle.conflict_steps.specs.Conflicts.{Conflicted}
+use Rattle.search_steps.specs.Searches.{Searching}
+use Rattle.conflicts.specs.Conflicts.{Conflicted}
+use Rattle.learning.specs.Learns.{ToLearn}
 use Rattle.steps.specs.Asked.{Asked}
 
 -- ---- what the tests say
@@ -76,6 +77,12 @@ module _ (w n : ℕ) (ts ws : List ℕ) (st : Status) (x : Step) (k : Kind) (g :
 
   pub asked-p : k ≡ Flip → x .p < n
   asked-p q = let h = known-p ts x (ap (shaped x) (sym q) ∙ g .shape) (g .rows) in omega (arith, g .standing .held .rows)
+
+  pub asked-learn : k ≡ Learn → ToLearn w n ts ws st x
+  unfolding known
+  asked-learn q =
+      let h : all (λ p. ltb p (termRows ts)) (premises x) ≡ true = both-true (ltb (x .term) (termRows ts)) _ (g .rows) .1 in
+      record { conflicted = asked-conflict Learn refl q; known = rw (g .standing .held .rows) h }
 
   -- ---- the answer of each kind
 
@@ -131,6 +138,10 @@ module _ (w n : ℕ) (ts ws : List ℕ) (st : Status) (x : Step) (k : Kind) (g :
     pub flip-by : k ≡ Flip → Answered (calculus.flip ts here set (x .term) (x .p)) → Answered its-step
     unfolding stepBy
     flip-by e h = by (rw (in-a-conflict Flip refl e, e)) h
+
+    pub learn-by : k ≡ Learn → Answered (calculus.learn ts here set (x .term) (x .value) (premises x)) → Answered its-step
+    unfolding stepBy
+    learn-by e h = by (rw (in-a-conflict Learn refl e, e)) h
 
   pub unlisted-by : k ≡ Unlisted → Answers w n ts ws ws (stepBy ts k (stateIn w n ws st) x) (Refused 9)
   unfolding stepBy Answers

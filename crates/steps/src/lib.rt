@@ -23,6 +23,7 @@ fn needs_conflict(k: Kind) -> bool
         Kind::Jump => true,
         Kind::Flip => true,
         Kind::Fail => false,
+        Kind::Learn => true,
         Kind::Unlisted => false,
     }
 }
@@ -61,6 +62,7 @@ fn step_by(
         Kind::Jump => conflict_steps::jump(terms, work, w, n, st, Row(x.term)),
         Kind::Flip => conflict_steps::flip(terms, work, w, n, st, Row(x.term), Row(x.p)),
         Kind::Fail => search_steps::fail(terms, work, w, n, st, x),
+        Kind::Learn => learning::learn(terms, work, w, n, st, x),
         Kind::Unlisted => Answer::Refused(9),
     }
 }

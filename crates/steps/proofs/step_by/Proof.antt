@@ -1,5 +1,5 @@
 -- `steps::step_by` meets its contract.
-use Rattle.steps.proofs.Laws.{asked-search, asked-conflict, asked-p, decide-by, deduce-by, clash-by, resolve-by, clear-by, jump-by, flip-by, fail-by, unlisted-by}
+use Rattle.steps.proofs.Laws.{asked-search, asked-conflict, asked-p, asked-learn, decide-by, deduce-by, clash-by, resolve-by, clear-by, jump-by, flip-by, fail-by, learn-by, unlisted-by}
 use borrow.Author.Needs.{needs}
 use Rattle.steps.proofs.step_by.Statement.{statement}
 use Rattle.steps.proofs.step_by.Tie as tie
@@ -55,6 +55,12 @@ fail-requires c κs = search asked-search
 enum-told-9 : tie.Need-enum-told-9
 enum-told-9 c = search needs
 
+learn-requires : tie.Need-learn-requires
+learn-requires c κs = search asked-learn
+
+enum-told-10 : tie.Need-enum-told-10
+enum-told-10 c = search needs
+
 same-length : tie.Need-same-length
 same-length c = search needs
 
@@ -103,8 +109,14 @@ same-length-8 c = search needs
 returns-8 : tie.Need-returns-8
 returns-8 c = search fail-by
 
+same-length-9 : tie.Need-same-length-9
+same-length-9 c = search needs
+
 returns-9 : tie.Need-returns-9
-returns-9 c = search unlisted-by
+returns-9 c = search learn-by
+
+returns-10 : tie.Need-returns-10
+returns-10 c = search unlisted-by
 
 pub step-by-spec : {M : Type 1} → statement M
 step-by-spec =
@@ -127,6 +139,8 @@ step-by-spec =
     enum-told-8
     fail-requires
     enum-told-9
+    learn-requires
+    enum-told-10
     same-length
     returns
     same-length-2
@@ -143,4 +157,6 @@ step-by-spec =
     returns-7
     same-length-8
     returns-8
-    returns-9)
+    same-length-9
+    returns-9
+    returns-10)
