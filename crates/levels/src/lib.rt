@@ -65,10 +65,10 @@ pub fn level_without_all(
     requires { ⌜ SetOn w terms (now work) n e ⌝ }
     ensures { λ r. ⌜ r .0 ≡ levelOf (trailIn w terms (now (work .entry)) n) (without (setAt (now (work .entry)) e w) (filled (now (ps .entry)))) ⌝ }
 {
-    let mut most = Level(0);
+    let mut high = Level(0);
     for k in 0..w {
         let x = bitset::word_without_all(k, work[e + k], ps);
-        most = word_level(work, w, terms, n, k, x, most);
+        high = word_level(work, w, terms, n, k, x, high);
     }
-    most
+    high
 }

@@ -36,30 +36,30 @@ decimal-short : (n : ℕ) → length (decimal n) ≤ 20
 unfolding decimal
 decimal-short n = digits-short 20 n
 
--- the words of a list have at most 70 bytes
+-- the words of a list have at most 80 bytes
 allShort : List Meaning → Bool
 allShort [] = true
-allShort (m ∷ ms) = pick (leb (length (m .words)) 70) (allShort ms) false
+allShort (m ∷ ms) = pick (leb (length (m .words)) 80) (allShort ms) false
 
 taken : (b r : Bool) → pick b r false ≡ true → (b ≡ true) × (r ≡ true)
 taken true r e = (refl, e)
 taken false r e = absurd (true≢false (sym e))
 
-words-short : (ms : List Meaning) (n : ℕ) → allShort ms ≡ true → length (wordsOf ms n) ≤ 70
+words-short : (ms : List Meaning) (n : ℕ) → allShort ms ≡ true → length (wordsOf ms n) ≤ 80
 unfolding allShort
 words-short [] n e = omega arith
 words-short (m ∷ ms) n e =
-    let both = taken (leb (length (m .words)) 70) (allShort ms) e in
-    go (leb-true (length (m .words)) 70 (both .0)) (words-short ms n (both .1)) (eqb (m .number) n) where
-      go : length (m .words) ≤ 70 → length (wordsOf ms n) ≤ 70 → (b : Bool) → length (pick b (m .words) (wordsOf ms n)) ≤ 70
+    let both = taken (leb (length (m .words)) 80) (allShort ms) e in
+    go (leb-true (length (m .words)) 80 (both .0)) (words-short ms n (both .1)) (eqb (m .number) n) where
+      go : length (m .words) ≤ 80 → length (wordsOf ms n) ≤ 80 → (b : Bool) → length (pick b (m .words) (wordsOf ms n)) ≤ 80
       go h k true = h
       go h k false = k
 
-meaning-short : (n : ℕ) → length (meaning n) ≤ 70
+meaning-short : (n : ℕ) → length (meaning n) ≤ 80
 unfolding meaning allShort
 meaning-short n = words-short meanings n refl
 
-cause-short : (n : ℕ) → length (cause n) ≤ 70
+cause-short : (n : ℕ) → length (cause n) ≤ 80
 unfolding cause allShort
 cause-short n = words-short causes n refl
 
@@ -102,23 +102,23 @@ where-short line field =
     let part = both (bytes "line " ++ decimal line) (fieldPart field) 25 28 number (part-short field) in
     either (eqb line 0) _ 55 (both (bytes "line " ++ decimal line ++ fieldPart field) (bytes ": ") 53 2 part (omega arith))
 
-what-short : (n : ℕ) → length (whatPart n) ≤ 91
+what-short : (n : ℕ) → length (whatPart n) ≤ 101
 unfolding whatPart
 what-short n =
     let number = both (decimal n) (bytes " ") 20 1 (decimal-short n) (omega arith) in
-    both (decimal n ++ bytes " ") (meaning n) 21 70 number (meaning-short n)
+    both (decimal n ++ bytes " ") (meaning n) 21 80 number (meaning-short n)
 
-why-short : (n : ℕ) → length (whyPart n) ≤ 72
+why-short : (n : ℕ) → length (whyPart n) ≤ 82
 unfolding whyPart
-why-short n = either (eqb n 0) _ 72 (both (bytes ": ") (cause n) 2 70 (omega arith) (cause-short n))
+why-short n = either (eqb n 0) _ 82 (both (bytes ": ") (cause n) 2 80 (omega arith) (cause-short n))
 
 pub complaints-are-short : ComplaintsAreShort
 unfolding complained
 complaints-are-short c =
     let place = wherePart (c .line) (c .field) in
-    let what = both place (whatPart (c .number)) 55 91 (where-short (c .line) (c .field)) (what-short (c .number)) in
-    let why = both (place ++ whatPart (c .number)) (whyPart (c .why)) 146 72 what (why-short (c .why)) in
-    let all = both (place ++ whatPart (c .number) ++ whyPart (c .why)) (bytes "\n") 218 1 why (omega arith) in
+    let what = both place (whatPart (c .number)) 55 101 (where-short (c .line) (c .field)) (what-short (c .number)) in
+    let why = both (place ++ whatPart (c .number)) (whyPart (c .why)) 156 82 what (why-short (c .why)) in
+    let all = both (place ++ whatPart (c .number) ++ whyPart (c .why)) (bytes "\n") 238 1 why (omega arith) in
     either (eqb (c .number) 0) _ 256 (omega (arith, all))
 
 -- a text that is laid into a buffer with room for it stands there whole

@@ -176,10 +176,11 @@ fn put_meaning(n: u16, at: usize, out: &mut [u8]) -> usize
         it is a decision\n\
         resolve is barred\n\
         not the decision that clear needs\n\
-        its level is not above the rest\n\
-        the term's sort is wrong for the step, or the value does not suit it\n\
+        its level is not above the rest, or learn's level is outside its range\n\
+        a term's sort or head is wrong for the step, or the value does not suit it\n\
         no shared decision\n\
-        \n\n\
+        \n\
+        the clause does not match the members, or one is named twice\n\
         fail is the line at level 0, clash the one above it\n\
         \n\n\n\
         above a ceiling\n\

@@ -11,6 +11,7 @@ use Rattle.calculus.specs.Terms
 use Rattle.calculus.specs.Trail
 use Rattle.calculus.specs.Inputs
 use Rattle.calculus.specs.Rules
+use Rattle.calculus.specs.Clauses
 use Rattle.calculus.specs.Steps
 use Rattle.calculus.specs.Run
 use Rattle.text_fields.specs.Split.{bytes}
@@ -51,6 +52,12 @@ board =
     bytes "sort index value\nS - -\n\nterm head sort a b c d\na A S - - - -\nb B S - - - -\ne eq prop a b - -\n"
     ++ bytes "fa F S a - - -\nfb F S b - - -\ng eq prop fa fb - -\n\nterm value\n"
 
+-- three props, their and, which is false, and two clauses: or(not(r), not(q)), or(q, not(r))
+props : List ℕ
+props =
+    bytes "sort index value\n\nterm head sort a b c d\np P prop - - - -\nq Q prop - - - -\nr R prop - - - -\nall and prop p q r -\n"
+    ++ bytes "no-q not prop q - - -\nno-r not prop r - - -\nclause or prop no-r no-q - -\nother or prop q no-r - -\n\nterm value\nall false\n"
+
 -- the end of the input, and the header of the steps
 steps : List ℕ
 steps = bytes "\nstep rule term value p q r s t\n"
@@ -58,6 +65,12 @@ steps = bytes "\nstep rule term value p q r s t\n"
 -- the board, an input and a log
 log : String → String → List ℕ
 log input rows = board ++ bytes input ++ steps ++ bytes rows
+
+-- p, q and r decided true against the and, a learn line, and more
+learned : String → String → List ℕ
+learned line rows =
+    props ++ steps ++ bytes "decide - p true - - - - -\ndecide - q true - - - - -\ndecide - r true - - - - -\nclash eval all true p q r - -\n"
+    ++ bytes line ++ bytes rows
 
 pub table : List Example
 table =
@@ -73,6 +86,21 @@ table =
     "line 17: 26 fail is the line at level 0, clash the one above it: fail was meant\n"
     ∷ example (log "g false\n" "decide - e true - - - - -\nfail cong g true e - - - -\n") "refused 1 26 2\n"
     "line 17: 26 fail is the line at level 0, clash the one above it: clash was meant\n"
+    -- learn, with its level as a number and as a word; the clause is used
+    ∷ example (learned "learn - clause 2 q r - - -\n" "deduce eval no-q false q - - - -\ndeduce unit no-r true clause no-q - - -\n") "open 7 0 6\n" ""
+    ∷ example (learned "learn - clause true q r - - -\n" "") "open 5 0 3\n" ""
+    -- the level is that of the members, or below the rest; the clause is another; a member twice; one member
+    ∷ example (learned "learn - clause 3 q r - - -\n" "") "refused 4 21 4\n"
+    "line 21: 21 its level is not above the rest, or learn's level is outside its range\n"
+    ∷ example (learned "learn - clause false q r - - -\n" "") "refused 4 21 4\n"
+    "line 21: 21 its level is not above the rest, or learn's level is outside its range\n"
+    ∷ example (learned "learn - other 1 q r - - -\n" "") "refused 4 25 4\n"
+    "line 21: 25 the clause does not match the members, or one is named twice\n"
+    ∷ example (learned "learn - clause 1 q q - - -\n" "") "refused 4 25 4\n"
+    "line 21: 25 the clause does not match the members, or one is named twice\n"
+    ∷ example (learned "learn - no-q 1 q r - - -\n" "") "refused 4 22 4\n"
+    "line 21: 22 a term's sort or head is wrong for the step, or the value does not suit it\n"
+    ∷ example (learned "learn - clause 1 q - - - -\n" "") "refused 4 9 4\n" "line 21: 9 a step's columns are wrong\n"
     -- an input row: a prop has no value 2
     ∷ example (log "g false\ne 2\n" "") "refused 0 7 0\n" "line 14: 7 a value that the term cannot have\n"
     -- a term row whose argument stands below, and a sort row that names itself
@@ -86,5 +114,5 @@ table =
     ∷ []
 
 pub answers : map (λ (e : Example). seen (e .text)) table ≡ map (λ (e : Example). e .seen) table
-unfolding table example board steps log Lists.firstWhere Numbers.unless Numbers.orElse Numbers.firstRefusal Sheets.lengthRefusal Sorts.isArray Sorts.isPlain Sorts.sortRefusal Sorts.sortsRefusal Terms.cells Terms.args Terms.arg Terms.earlier Terms.sameUse Terms.firstUse Terms.suits Terms.twins Terms.fresh Terms.termRefusal Terms.termsRefusal Trail.on Trail.entry Trail.holds Trail.levelOf Trail.keptTo Trail.trailNumbersOf Inputs.inputTrail Inputs.inputRefusal Inputs.inputsRefusal Rules.ruleOf Rules.bare Rules.single Rules.double Rules.leading Rules.unitAt Rules.fits Steps.answer Steps.premises Steps.kindOf Steps.shaped Steps.ready Steps.known Steps.decideRefusal Steps.decide Steps.inferenceRefusal Steps.deduceRefusal Steps.deduce Steps.contradictionRefusal Steps.clashRefusal Steps.clash Steps.failRefusal Steps.fail Steps.resolveRefusal Steps.resolve Steps.clearRefusal Steps.clear Steps.jumpRefusal Steps.jump Steps.flipRefusal Steps.flip Steps.rowRefusal Steps.stepBy Steps.step Run.follow Run.run Run.sheetsRefusal Run.callRefusal Run.endingOf Run.ending Run.outcome refOf shapeOf isTaken headOf sortRow termRow inputRow stepRow headerWhy rowWhy readLine lineEffect lineStep textState textFault digitsOf decimal verdictWord numberField Printed.printed meaning cause fieldPart wherePart whatPart whyPart complained verdictOf cutRefused refusedRow lineOf lineMeant complaintOf
+unfolding table example board props steps log learned Lists.firstWhere Numbers.unless Numbers.orElse Numbers.firstRefusal Sheets.lengthRefusal Sorts.isArray Sorts.isPlain Sorts.sortRefusal Sorts.sortsRefusal Terms.cells Terms.args Terms.arg Terms.earlier Terms.sameUse Terms.firstUse Terms.suits Terms.twins Terms.fresh Terms.termRefusal Terms.termsRefusal Trail.on Trail.entry Trail.holds Trail.levelOf Trail.keptTo Trail.trailNumbersOf Inputs.inputTrail Inputs.inputRefusal Inputs.inputsRefusal Rules.ruleOf Rules.bare Rules.single Rules.double Rules.leading Rules.unitAt Rules.fits Clauses.literal Clauses.paired Steps.answer Steps.premises Steps.kindOf Steps.shaped Steps.ready Steps.known Steps.decideRefusal Steps.decide Steps.inferenceRefusal Steps.deduceRefusal Steps.deduce Steps.contradictionRefusal Steps.clashRefusal Steps.clash Steps.failRefusal Steps.fail Steps.resolveRefusal Steps.resolve Steps.clearRefusal Steps.clear Steps.jumpRefusal Steps.jump Steps.flipRefusal Steps.flip Steps.learnRefusal Steps.learn Steps.rowRefusal Steps.stepBy Steps.step Run.follow Run.run Run.sheetsRefusal Run.callRefusal Run.endingOf Run.ending Run.outcome refOf shapeOf isTaken headOf sortRow termRow inputRow stepRow headerWhy rowWhy readLine lineEffect lineStep textState textFault digitsOf decimal verdictWord numberField Printed.printed meaning cause fieldPart wherePart whatPart whyPart complained verdictOf cutRefused refusedRow lineOf lineMeant complaintOf
 answers = refl
