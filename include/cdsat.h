@@ -82,8 +82,8 @@ enum cdsat_head {
  * fifth premise are blank. In an or a member that is true on the trail appears
  * as its not, one that is false as itself, and the or becomes true; in an and
  * it is the reverse, and the and becomes false. The trail is kept to the level,
- * which is at least that of the other members and below that of the named ones.
- * The clause has the level of the other members.
+ * which is at least that of the other members and below the greatest of the
+ * named ones. The clause itself has the level of the other members.
  */
 enum cdsat_step {
     CDSAT_DECIDE = 0,
