@@ -73,7 +73,17 @@ enum cdsat_head {
  * and the trail has the other. fail is for premises and opposite that are all at
  * level 0, where nothing they rest on was decided: it refutes the input and ends
  * the run. clash is for those above level 0: it opens a conflict, which resolve,
- * clear, jump and flip work on. Either in the other's place is refused with 26.
+ * clear, jump, flip and learn work on. Either in the other's place is refused
+ * with 26.
+ *
+ * learn takes the clause, an or or an and, in the term column, a level in the
+ * value column, and in the first two to four premise columns different members
+ * of the conflict, one for each argument of the clause; the rule column and the
+ * fifth premise are blank. In an or a member that is true on the trail appears
+ * as its not, one that is false as itself, and the or becomes true; in an and
+ * it is the reverse, and the and becomes false. The trail is kept to the level,
+ * which is at least that of the other members and below the greatest of the
+ * named ones. The clause itself has the level of the other members.
  */
 enum cdsat_step {
     CDSAT_DECIDE = 0,
@@ -83,7 +93,8 @@ enum cdsat_step {
     CDSAT_CLEAR = 4,
     CDSAT_JUMP = 5,
     CDSAT_FLIP = 6,
-    CDSAT_FAIL = 7
+    CDSAT_FAIL = 7,
+    CDSAT_LEARN = 8
 };
 
 /* Rules of deduce, clash and fail. */
@@ -129,10 +140,11 @@ enum cdsat_why {
 /* The result of a run.
  *
  * The number is 0 for no trouble. 1 to 8: the sort, term and input sheets.
- * 9 to 23 and 26: the first step that is not allowed; 26 is a clash at level 0,
- * where fail was meant, or a fail above it, where clash was meant. 30: a sheet
- * with too many rows. 31: a length that is no whole number of rows. 32: a buffer
- * too short. From cdsat_check it can also be a number of cdsat_read.
+ * 9 to 23, 25 and 26: the first step that is not allowed; 25 is a learn whose
+ * clause does not match the members, or that names one twice; 26 is a clash at
+ * level 0, where fail was meant, or a fail above it, where clash was meant. 30: a
+ * sheet with too many rows. 31: a length that is no whole number of rows. 32: a
+ * buffer too short. From cdsat_check it can also be a number of cdsat_read.
  */
 typedef struct {
     uint16_t verdict; /* enum cdsat_verdict */

@@ -23,7 +23,7 @@ _Static_assert(CDSAT_SORT_COLUMNS == 2 && CDSAT_TERM_COLUMNS == 6, "columns");
 _Static_assert(CDSAT_INPUT_COLUMNS == 2 && CDSAT_STEP_COLUMNS == 9 && CDSAT_ENTRY_COLUMNS == 4, "columns");
 _Static_assert(CDSAT_WORK_WORDS(256) == 2060 && CDSAT_TRAIL_NUMBERS(256) == 1024, "buffers");
 _Static_assert(CDSAT_EQ == 0 && CDSAT_STORE == 5 && CDSAT_FREE == 16 && CDSAT_LAST_FREE == 65534, "heads");
-_Static_assert(CDSAT_DECIDE == 0 && CDSAT_CLASH == 2 && CDSAT_FLIP == 6 && CDSAT_FAIL == 7, "steps");
+_Static_assert(CDSAT_DECIDE == 0 && CDSAT_CLASH == 2 && CDSAT_FLIP == 6 && CDSAT_FAIL == 7 && CDSAT_LEARN == 8, "steps");
 _Static_assert(CDSAT_RULE_SAME == 0 && CDSAT_RULE_SKIP == 12, "rules");
 _Static_assert(CDSAT_OPEN == 0 && CDSAT_REFUTED == 1 && CDSAT_REFUSED == 2, "verdicts");
 _Static_assert(CDSAT_WHY_FINE == 0 && CDSAT_WHY_CUT == 11 && CDSAT_SAID == 256, "causes");
@@ -33,12 +33,17 @@ _Static_assert(CDSAT_WHY_FINE == 0 && CDSAT_WHY_CUT == 11 && CDSAT_SAID == 256, 
 
 /* Document 01's listing, in parts. */
 #define SORTS "sort index value\nS - -\n\n"
-#define TERMS \
+#define ROWS \
     "term head sort a b c d\na A S - - - -\nb B S - - - -\ne eq prop a b - -\n" \
-    "fa F S a - - -\nfb F S b - - -\ng eq prop fa fb - -\n\n"
+    "fa F S a - - -\nfb F S b - - -\ng eq prop fa fb - -\n"
+#define TERMS ROWS "\n"
 #define STEPS "step rule term value p q r s t\n"
 #define INPUTS "term value\ne true\ng false\n\n"
 #define LISTING SORTS TERMS INPUTS STEPS "fail cong g true e - - - -\n"
+/* A conflict of e, true at level 1, and g, false at level 2; l is the clause for them. The next row is the fourth step, on line 20. */
+#define CONFLICT \
+    SORTS ROWS "n not prop e - - -\nl or prop n g - -\n\nterm value\n\n" STEPS \
+    "decide - e true - - - - -\ndecide - g false - - - - -\nclash cong g true e - - - -\n"
 #define HEADERS "sort index value\n\nterm head sort a b c d\n\nterm value\n\n" STEPS
 
 /* The sheets and buffers that are lent, full of old contents. */
@@ -136,18 +141,63 @@ static void test_run(void) {
     same_outcome("listing run with whole sheets", o, CDSAT_REFUSED, 0, 1, 0);
 }
 
-/* The listing's row with the numbers of other steps: clash at level 0, and the first that no step has. */
+/* The listing's row with the numbers of other steps: clash at level 0, learn, which has other columns, and the first that no step has. */
 static void test_steps(void) {
     static const struct {
         const char *what;
         unsigned step, number;
-    } rows[] = {{"the listing as a clash", CDSAT_CLASH, 26}, {"the listing as step 8", CDSAT_FAIL + 1, 9}};
+    } rows[] = {{"the listing as a clash", CDSAT_CLASH, 26}, {"the listing as a learn", CDSAT_LEARN, 9}, {"the listing as step 9", CDSAT_LEARN + 1, 9}};
     for (size_t i = 0; i < LENGTH(rows); i++) {
         read_text(LISTING, strlen(LISTING));
         steps[0] = (uint16_t)rows[i].step;
         cdsat_outcome o = cdsat_run(
             sorts, 2, terms, 36, inputs, 4, steps, CDSAT_STEP_COLUMNS, work, CDSAT_WORK_WORDS(6), trail, CDSAT_TRAIL_NUMBERS(6));
         same_outcome(rows[i].what, o, CDSAT_REFUSED, 0, rows[i].number, 2);
+    }
+}
+
+/* A learn row, allowed at both levels that it may keep the trail to; then with one column after the other changed, which leaves the trail as it was. */
+static void test_learn(void) {
+    static const char text[] = CONFLICT "learn - l 1 e g - - -\n";
+    static const uint16_t want_steps[] = {CDSAT_LEARN, B, 7, 1, 2, 5, B, B, B};
+    static const uint16_t kept[] = {2, 1, 1, 1, 7, 1, 0, 0}, conflict[] = {2, 1, 1, 1, 5, 0, 2, 1};
+    static const struct {
+        const char *what;
+        unsigned column, number, code, entries;
+        const uint16_t *trail;
+    } rows[] = {
+        {"learn", 0, CDSAT_LEARN, 0, 2, kept},
+        {"learn at level 0", 3, 0, 0, 1, kept + 4},
+        {"learn as step 9", 0, CDSAT_LEARN + 1, 9, 2, conflict},
+        {"learn with a rule", 1, CDSAT_RULE_UNIT, 9, 2, conflict},
+        {"learn without a term", 2, B, 9, 2, conflict},
+        {"learn without a level", 3, B, 9, 2, conflict},
+        {"learn with one member", 5, B, 9, 2, conflict},
+        {"learn with a gap", 7, 5, 9, 2, conflict},
+        {"learn with a fifth premise", 8, 5, 9, 2, conflict},
+        {"learn of no row", 2, 8, 11, 2, conflict},
+        {"learn with a member that is no row", 4, 8, 11, 2, conflict},
+        {"learn with a member outside the conflict", 5, 6, 17, 2, conflict},
+        {"learn of a not", 2, 6, 22, 2, conflict},
+        {"learn with a member twice", 5, 2, 25, 2, conflict},
+        {"learn with a member again", 6, 2, 25, 2, conflict},
+        {"learn at the members' level", 3, 2, 21, 2, conflict},
+        {"learn at the greatest level", 3, CDSAT_BLANK - 1, 21, 2, conflict},
+    };
+    for (size_t i = 0; i < LENGTH(rows); i++) {
+        cdsat_read_result r = read_text(text, strlen(text));
+        size_t n = r.rows[1];
+        uint16_t *row = steps + 3 * CDSAT_STEP_COLUMNS;
+        unsigned allowed = rows[i].code == 0;
+        same_bytes("learn read", row, want_steps, sizeof want_steps);
+        row[rows[i].column] = (uint16_t)rows[i].number;
+        cdsat_outcome o = cdsat_run(
+            sorts, r.rows[0] * CDSAT_SORT_COLUMNS, terms, n * CDSAT_TERM_COLUMNS, inputs, r.rows[2] * CDSAT_INPUT_COLUMNS,
+            steps, r.rows[3] * CDSAT_STEP_COLUMNS, work, CDSAT_WORK_WORDS(n), trail, CDSAT_TRAIL_NUMBERS(n));
+        same_outcome(rows[i].what, o, allowed ? CDSAT_OPEN : CDSAT_REFUSED, 3 + allowed, rows[i].code, rows[i].entries);
+        same_bytes(rows[i].what, trail, rows[i].trail, 8 * rows[i].entries);
+        same(rows[i].what, "trail behind the entries", others(trail + 4 * o.entries, sizeof trail - 8 * (size_t)o.entries, 0xaa), 0);
+        same(rows[i].what, "workspace", others(work, 8 * CDSAT_WORK_WORDS(n), 0), 0);
     }
 }
 
@@ -240,6 +290,15 @@ static void test_checks(void) {
          "line 16: 16 the opposite is not there\n"},
         {"a clash too early", SORTS TERMS "term value\ne true\n\n" STEPS "clash cong g true e - - - -\n", {CDSAT_REFUSED, 0, 16, 1},
          "line 16: 16 the opposite is not there\n"},
+        {"a clause learned", CONFLICT "learn - l 1 e g - - -\n", {CDSAT_OPEN, 4, 0, 2}, ""},
+        {"a clause learned at false", CONFLICT "learn - l false e g - - -\n", {CDSAT_OPEN, 4, 0, 1}, ""},
+        {"a clause used", CONFLICT "learn - l 0 e g - - -\ndecide - g false - - - - -\ndeduce unit n true l g - - -\n", {CDSAT_OPEN, 6, 0, 3}, ""},
+        {"a member twice", CONFLICT "learn - l 1 e e - - -\n", {CDSAT_REFUSED, 3, 25, 2},
+         "line 20: 25 the clause does not match the members, or one is named twice\n"},
+        {"a level too great", CONFLICT "learn - l 2 e g - - -\n", {CDSAT_REFUSED, 3, 21, 2},
+         "line 20: 21 its level is not above the rest, or learn's level is outside its range\n"},
+        {"a clause that is none", CONFLICT "learn - n 1 e g - - -\n", {CDSAT_REFUSED, 3, 22, 2},
+         "line 20: 22 a term's sort or head is wrong for the step, or the value does not suit it\n"},
         {"a decision twice", SORTS TERMS "term value\n\n" STEPS "decide - a 7 - - - - -\ndecide - a 7 - - - - -\n", {CDSAT_REFUSED, 1, 14, 1},
          "line 16: 14 the value is there already\n"},
         {"a sort row", "sort index value\nS - -\nT S -\n\nterm head sort a b c d\n\nterm value\n\n" STEPS, {CDSAT_REFUSED, 0, 1, 0},
@@ -283,6 +342,7 @@ int main(void) {
     test_read();
     test_run();
     test_steps();
+    test_learn();
     test_lengths();
     test_bad_texts();
     test_checks();
