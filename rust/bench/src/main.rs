@@ -265,6 +265,7 @@ fn all(bench: &Bench) -> Result<(), String> {
     bench.run("deduce-heavy log", &work::deduce_heavy(), true)?;
     bench.run("conflict-heavy log", &work::conflict_heavy(), true)?;
     bench.run("cut-heavy log", &work::cut_heavy(), true)?;
+    bench.run("learn-heavy log", &work::learn_heavy(), true)?;
     bench.run("wide conflicts", &work::wide_conflicts(256), true)?;
     bench.run("wide conflicts, 64", &work::wide_conflicts(64), true)?;
     bench.run("terms, distinct heads", &work::distinct_heads(), false)?;

@@ -10,6 +10,7 @@ const CLASH: u16 = 2;
 const RESOLVE: u16 = 3;
 const CLEAR: u16 = 4;
 const JUMP: u16 = 5;
+const LEARN: u16 = 8;
 
 const EQ: u16 = 0;
 const NOT: u16 = 1;
@@ -307,6 +308,128 @@ pub fn wide_conflicts(rows: usize) -> Sheets {
     s.steps.splice(0..0, once);
     s.steps.truncate(9 * MAX_STEPS);
     s
+}
+
+/// Conflicts that end with a learn: rounds of two to four decisions that a rule of
+/// level 1 excludes, and a clause that says so, an or or an and in turns. Two rounds
+/// of three keep all decisions but the last, whose opposite the clause then gives by
+/// unit; the third goes back to the rule's level. A clear of level 1 ends the cycle.
+pub fn learn_heavy() -> Sheets {
+    const ROUNDS: usize = 24;
+    let mut s = Sheets::new();
+    let clearable = s.clearable();
+    let c = clearable[0];
+    let d = s.constant(SORT);
+    s.input(d, 7);
+    let low = s.prop(EQ, &[c, d]);
+    let not_low = s.prop(NOT, &[low]);
+    s.step(DECIDE, X, c, 7, &[]);
+    s.step(DEDUCE, SAME, low, 1, &[c, d]);
+    s.step(DEDUCE, EVAL, not_low, 0, &[low]);
+    let mut top = 1;
+    for round in 0..ROUNDS {
+        let count = 2 + round % 3;
+        let rule = s.excluded(count, round % 4 < 2, not_low);
+        let clause = s.learned(&rule, round % 2 == 0, round % 3 != 2, &mut top);
+        if round % 3 != 2 {
+            s.use_learned(&rule, &clause);
+        }
+    }
+    s.clash_and_clear(clearable);
+    s.pad(256);
+    let cycle = s.step_rows();
+    let rows = s.steps.chunks(9);
+    let deduces = rows.filter(|row| row[0] == DEDUCE).count();
+    s.about = format!("{ROUNDS} learns, {deduces} deduces of a cycle of {cycle} steps, 256 terms");
+    s.repeat();
+    s
+}
+
+/// Props that a rule excludes to have these values all at once.
+struct Excluded {
+    whole: u16,
+    props: Vec<u16>,
+    nots: Vec<u16>,
+    values: Vec<u16>,
+}
+
+/// A clause that says so, by its row, its head and its argument for each prop.
+struct Learned {
+    row: u16,
+    head: u16,
+    literals: Vec<u16>,
+}
+
+impl Sheets {
+    /// A connective that is false at the level of `not_low`: an and of props, to be true,
+    /// or an or of props, of which the first is to be true and the others false.
+    fn excluded(&mut self, count: usize, all: bool, not_low: u16) -> Excluded {
+        let props: Vec<u16> = (0..count).map(|_| self.constant(0)).collect();
+        let nots = props.iter().map(|&prop| self.prop(NOT, &[prop])).collect();
+        let whole = self.prop(if all { AND } else { OR }, &props);
+        let not_whole = self.prop(NOT, &[whole]);
+        let rule = self.prop(OR, &[not_low, not_whole]);
+        self.input(rule, 1);
+        self.step(DEDUCE, UNIT, not_whole, 1, &[rule, not_low]);
+        self.step(DEDUCE, NEG, whole, 0, &[not_whole]);
+        let values = (0..count).map(|at| u16::from(all || at == 0)).collect();
+        Excluded {
+            whole,
+            props,
+            nots,
+            values,
+        }
+    }
+
+    /// Decides the props, clashes, and learns a clause: an or or an and, keeping all
+    /// decisions but the last one or none above level 1.
+    fn learned(&mut self, rule: &Excluded, or: bool, late: bool, top: &mut u16) -> Learned {
+        let head = if or { OR } else { AND };
+        let count = rule.props.len();
+        let literals: Vec<u16> = (0..count)
+            .map(|at| match (rule.values[at] == 1) == or {
+                true => rule.nots[at],
+                false => rule.props[at],
+            })
+            .collect();
+        let args: Vec<u16> = literals.iter().rev().copied().collect();
+        let row = self.prop(head, &args);
+        for (&prop, &value) in rule.props.iter().zip(&rule.values) {
+            self.step(DECIDE, X, prop, value, &[]);
+        }
+        self.step(CLASH, EVAL, rule.whole, 1, &rule.props);
+        *top = if late { *top + count as u16 - 1 } else { 1 };
+        self.step(LEARN, X, row, *top, &rule.props);
+        Learned {
+            row,
+            head,
+            literals,
+        }
+    }
+
+    /// Deduces from the clause that the last prop has the other value.
+    fn use_learned(&mut self, rule: &Excluded, clause: &Learned) {
+        let last = rule.props.len() - 1;
+        for at in 0..last {
+            if clause.literals[at] == rule.nots[at] {
+                self.step(
+                    DEDUCE,
+                    EVAL,
+                    rule.nots[at],
+                    1 - rule.values[at],
+                    &[rule.props[at]],
+                );
+            }
+        }
+        let mut premises = vec![clause.row];
+        premises.extend(clause.literals[..last].iter().rev());
+        let value = u16::from(clause.head == OR);
+        self.step(DEDUCE, UNIT, clause.literals[last], value, &premises);
+        if clause.literals[last] == rule.nots[last] {
+            let other = 1 - rule.values[last];
+            self.step(DEDUCE, NEG, rule.props[last], other, &[rule.nots[last]]);
+        }
+    }
 }
 
 /// Decide, clash, clear, over a trail of inputs.

@@ -67,6 +67,7 @@ pub enum Step {
     Jump,
     Flip,
     Fail,
+    Learn,
 }
 
 /// The rules of deduce, clash and fail, with their premises in order.
@@ -310,6 +311,55 @@ impl Log {
     /// the justifications of both terms share.
     pub fn flip(&mut self, term: Term, with: Term) -> &mut Self {
         self.step(Step::Flip, BLANK, term, BLANK, &[with])
+    }
+
+    /// Adds a learn: two to four members of the conflict cannot all have their values
+    /// while the rest of it has its own, and the clause says so. The trail is kept to
+    /// the level, then the clause follows, justified by the rest, at the rest's level.
+    ///
+    /// The clause is an or or an and with as many arguments as there are members, in
+    /// any order. In an or, which becomes true, a member that is true appears as its
+    /// negation and one that is false as itself; in an and, which becomes false, it is
+    /// the other way round. Where it does not match, or a member is named twice, the
+    /// step is refused with 25. The level is at least that of the rest and below that
+    /// of the members; any other is refused with 21.
+    ///
+    /// ```
+    /// use cdsat::{Head, Log, Rule, Sort, Verdict};
+    ///
+    /// // Two circuits, and a dimmer that cannot feed both.
+    /// let mut log = Log::new();
+    /// let [one, two] = [0, 1].map(|at| log.term(Head::Free(at), Sort::PROP, &[]));
+    /// let both = log.term(Head::And, Sort::PROP, &[one, two]);
+    /// let [not_one, not_two] = [one, two].map(|on| log.term(Head::Not, Sort::PROP, &[on]));
+    /// let clause = log.term(Head::Or, Sort::PROP, &[not_two, not_one]);
+    /// log.input(both, 0).decide(one, 1).decide(two, 1);
+    /// log.clash(Rule::Eval, both, true, &[one, two]);
+    ///
+    /// let mut learned = log.clone();
+    /// learned.learn(clause, 1, &[one, two]);
+    /// learned.deduce(Rule::Eval, not_one, false, &[one]);
+    /// learned.deduce(Rule::Unit, not_two, true, &[clause, not_one]);
+    /// let run = learned.run();
+    /// assert_eq!(run.outcome.verdict, Verdict::Open);
+    /// let entry = run.trail[2];
+    /// assert_eq!((entry.term, entry.value, entry.level), (clause, 1, 0));
+    ///
+    /// let mut twice = log.clone();
+    /// twice.learn(clause, 1, &[one, one]);
+    /// assert_eq!(twice.run().outcome.number, 25);
+    ///
+    /// let mut too_high = log.clone();
+    /// too_high.learn(clause, 2, &[one, two]);
+    /// assert_eq!(too_high.run().outcome.number, 21);
+    /// ```
+    ///
+    /// # Panics
+    ///
+    /// If there are more than five members; any other number than two to four is
+    /// refused with 9.
+    pub fn learn(&mut self, clause: Term, level: u16, members: &[Term]) -> &mut Self {
+        self.step(Step::Learn, BLANK, clause, level, members)
     }
 
     fn step(

@@ -124,3 +124,145 @@ fn the_other_line_was_meant() {
     assert_eq!(run.outcome.numbers(), [2, 2, 26, 3]);
     assert_eq!(run.outcome.meaning(), meaning);
 }
+
+/// The board's two equalities as circuits that exclude each other: their and is
+/// false, and a clause says so. A conflict over both, in which the and is at level 1,
+/// a slot at level 2 and the circuits at the levels 3 and 4.
+struct Circuits {
+    log: Log,
+    a: Term,
+    e: Term,
+    g: Term,
+    both: Term,
+    clause: Term,
+}
+
+fn circuits() -> Circuits {
+    let Board {
+        mut log,
+        a,
+        e,
+        g,
+        not_e,
+        ..
+    } = board();
+    let both = log.term(Head::And, Sort::PROP, &[e, g]);
+    let not_g = log.term(Head::Not, Sort::PROP, &[g]);
+    let clause = log.term(Head::Or, Sort::PROP, &[not_g, not_e]);
+    log.decide(both, 0).decide(a, 7).decide(e, 1).decide(g, 1);
+    log.clash(Rule::Eval, both, true, &[e, g]);
+    Circuits {
+        log,
+        a,
+        e,
+        g,
+        both,
+        clause,
+    }
+}
+
+#[test]
+fn learn_keeps_a_level() {
+    let c = circuits();
+    for (level, kept) in [(1, 1), (2, 2), (3, 3)] {
+        let mut log = c.log.clone();
+        log.learn(c.clause, level, &[c.e, c.g]);
+        let row = [Step::Learn as u16, cdsat::BLANK, c.clause.row(), level];
+        assert_eq!(log.steps()[45..49], row);
+        assert_eq!(log.steps()[49..51], [c.e.row(), c.g.row()]);
+        assert_eq!(log.steps()[51..], [cdsat::BLANK; 3]);
+        let run = log.run();
+        assert_eq!(run.outcome.numbers(), [0, 6, 0, kept + 1]);
+        assert_eq!(run.outcome.verdict, Verdict::Open);
+        let terms: Vec<Term> = run.trail.iter().map(|entry| entry.term).collect();
+        let there = [c.both, c.a, c.e];
+        assert_eq!(terms[..kept.into()], there[..kept.into()]);
+        let entry = run.trail[usize::from(kept)];
+        assert_eq!((entry.term, entry.value), (c.clause, 1));
+        assert_eq!((entry.level, entry.decision), (1, false));
+    }
+}
+
+/// Every number that a learn in a conflict can get.
+#[test]
+fn learn_is_refused() {
+    let c = circuits();
+    let refused = |clause: Term, level: u16, members: &[Term]| {
+        let mut log = c.log.clone();
+        log.learn(clause, level, members);
+        let [verdict, steps, number, entries] = log.run().outcome.numbers();
+        assert_eq!((verdict, steps, entries), (2, 5, 4));
+        (number, log.run().outcome.meaning())
+    };
+    let (e, g, clause) = (c.e, c.g, c.clause);
+    let columns = (9, "a step's columns are wrong");
+    assert_eq!(refused(clause, cdsat::BLANK, &[e, g]), columns);
+    assert_eq!(refused(clause, 1, &[e]), columns);
+    assert_eq!(refused(clause, 1, &[]), columns);
+    assert_eq!(refused(clause, 1, &[e, g, e, g, e]), columns);
+    let no_row = Log::clone(&c.log).term(Head::Eq, Sort::PROP, &[]);
+    let row = (11, "the term or a premise is no row");
+    assert_eq!(refused(no_row, 1, &[e, g]), row);
+    assert_eq!(refused(clause, 1, &[e, no_row]), row);
+    let member = (17, "not a member of the conflict");
+    assert_eq!(refused(clause, 1, &[e, c.a]), member);
+    let head = "a term's sort or head is wrong for the step, or the value does not suit it";
+    assert_eq!(refused(e, 1, &[e, g]), (22, head));
+    let mismatch = "the clause does not match the members, or one is named twice";
+    assert_eq!(refused(clause, 1, &[e, e]), (25, mismatch));
+    assert_eq!(refused(clause, 1, &[e, c.both]), (25, mismatch));
+    assert_eq!(refused(clause, 1, &[e, g, c.both]), (25, mismatch));
+    let there = (14, "the value is there already");
+    assert_eq!(refused(c.both, 1, &[e, g]), there);
+    let level = "its level is not above the rest, or learn's level is outside its range";
+    for m in [0, 4, 65_534] {
+        assert_eq!(refused(clause, m, &[e, g]), (21, level));
+    }
+}
+
+#[test]
+fn learn_needs_a_conflict() {
+    let Board { mut log, e, g, .. } = board();
+    log.decide(e, 1).decide(g, 1);
+    log.learn(e, 1, &[e, g]);
+    assert_eq!(log.run().outcome.numbers(), [2, 2, 10, 2]);
+}
+
+/// A member that is no prop: the slots of a clash by same.
+#[test]
+fn learn_takes_props() {
+    let Board {
+        mut log,
+        a,
+        b,
+        e,
+        not_e,
+        ..
+    } = board();
+    let clause = log.term(Head::Or, Sort::PROP, &[e, not_e]);
+    log.input(e, 0).input(b, 7).decide(a, 7);
+    log.clash(Rule::Same, e, true, &[a, b]);
+    for members in [[a, e], [e, b]] {
+        let mut log = log.clone();
+        log.learn(clause, 0, &members);
+        assert_eq!(log.run().outcome.numbers(), [2, 2, 22, 3]);
+    }
+}
+
+/// An and that becomes false, over four members of both values, the whole conflict.
+#[test]
+fn learn_an_and() {
+    let mut log = Log::new();
+    let on = [0, 1, 2].map(|at| log.term(Head::Free(at), Sort::PROP, &[]));
+    let any = log.term(Head::Or, Sort::PROP, &on);
+    let off = [on[1], any].map(|term| log.term(Head::Not, Sort::PROP, &[term]));
+    let clause = log.term(Head::And, Sort::PROP, &[off[1], on[2], off[0], on[0]]);
+    log.input(any, 0);
+    log.decide(on[0], 1).decide(on[1], 0).decide(on[2], 1);
+    log.clash(Rule::Eval, any, true, &on);
+    log.learn(clause, 2, &[on[0], on[1], on[2], any]);
+    let run = log.run();
+    assert_eq!(run.outcome.numbers(), [0, 5, 0, 4]);
+    let entry = run.trail[3];
+    assert_eq!((entry.term, entry.value, entry.level), (clause, 0, 0));
+}

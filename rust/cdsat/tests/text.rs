@@ -190,6 +190,68 @@ fn which_line_was_meant() {
     assert_eq!(open.said, "");
 }
 
+/// The paper's text as one that learns: two circuits that exclude each other.
+fn learning(learn: &str) -> String {
+    let terms =
+        "n not prop e - - -\nm not prop g - - -\nboth and prop e g - -\nc or prop m n - -\n";
+    let inputs = "\nterm value\nboth false\n";
+    let steps =
+        "decide - e true - - - - -\ndecide - g true - - - - -\nclash eval both true e g - - -\n";
+    with(
+        "\nterm value\ne true\ng false\n",
+        &format!("{terms}{inputs}"),
+    )
+    .replace("fail cong g true e - - - -\n", &format!("{steps}{learn}\n"))
+}
+
+#[test]
+fn learn_in_texts() {
+    let words = [("0", 2), ("false", 2), ("1", 3), ("true", 3)];
+    for (level, entries) in words {
+        let text = learning(&format!("learn - c {level} e g - - -"));
+        let checked = check(text.as_bytes());
+        assert_eq!(checked.outcome.numbers(), [0, 4, 0, entries], "{text}");
+        assert_eq!(checked.said, "");
+        let log = Log::read(text.as_bytes()).unwrap();
+        let row = [8, cdsat::BLANK, 9, entries - 2, 2, 5];
+        assert_eq!(log.steps()[27..33], row);
+        assert_eq!(log.run().outcome, checked.outcome);
+    }
+}
+
+#[test]
+fn lines_of_learn() {
+    let head = "22 a term's sort or head is wrong for the step, or the value does not suit it";
+    for (row, said) in [
+        (
+            "learn - c 2 e g - - -",
+            "21 its level is not above the rest, or learn's level is outside its range",
+        ),
+        ("learn - n 0 e g - - -", head),
+        (
+            "learn - c 0 e e - - -",
+            "25 the clause does not match the members, or one is named twice",
+        ),
+        ("learn - both 0 e g - - -", "14 the value is there already"),
+        ("learn - c 0 e n - - -", "17 not a member of the conflict"),
+        (
+            "learn - c 0 e x - - -",
+            "11 the term or a premise is no row",
+        ),
+        ("learn - c - e g - - -", "9 a step's columns are wrong"),
+        ("learns - c 0 e g - - -", "9 a step's columns are wrong"),
+    ] {
+        let checked = check(learning(row).as_bytes());
+        assert_eq!(checked.said, format!("line 23: {said}"), "{row}");
+        assert_eq!(checked.outcome.numbers()[..2], [2, 3]);
+    }
+    let early = learning("learn - c 0 e g - - -").replace("clash eval both true e g - - -\n", "");
+    assert_eq!(
+        check(early.as_bytes()).said,
+        "line 22: 10 wrong state for the step"
+    );
+}
+
 #[test]
 fn outcomes_of_texts() {
     assert_eq!(check(TEXT.as_bytes()).outcome.numbers(), [1, 1, 0, 2]);

@@ -1,6 +1,7 @@
 //! A case: four sheets and two buffers, in good order or damaged.
 
 use crate::grow;
+use crate::learn::Shown;
 use crate::problem::{self, X};
 use crate::rng::Rng;
 
@@ -22,6 +23,9 @@ pub struct Made {
     /// Steps to try in place of the rest of the log after so many rows; none if
     /// the sheets are damaged.
     pub probes: Vec<(usize, grow::Row)>,
+    /// What the learns of the log and of the probes show; none if the sheets are
+    /// damaged.
+    pub learns: Vec<Shown>,
 }
 
 pub fn make(rng: &mut Rng) -> Made {
@@ -30,6 +34,7 @@ pub fn make(rng: &mut Rng) -> Made {
         rows,
         late,
         mut probes,
+        mut learns,
     } = grow::log(rng, &problem);
     let mut case = Case {
         sorts: problem.sorts.into_flattened(),
@@ -41,12 +46,18 @@ pub fn make(rng: &mut Rng) -> Made {
     };
     if rng.percent(30) {
         probes.clear();
+        learns.clear();
         for _ in 0..rng.within(1, 2) {
             damage(rng, &mut case);
         }
     }
     buffers(rng, &mut case);
-    Made { case, late, probes }
+    Made {
+        case,
+        late,
+        probes,
+        learns,
+    }
 }
 
 /// Buffers of about the least length, full of old contents.

@@ -1,6 +1,7 @@
 //! Logs grown step by step, each chosen among those allowed at the state the
 //! earlier ones made, then perhaps a step that is not allowed.
 
+use crate::learn::{self, Lesson, Shown, LEARN};
 use crate::naive::{Entry, Model, Next};
 use crate::problem::{value, Problem, X};
 use crate::rng::Rng;
@@ -51,9 +52,9 @@ const TRIED: [u16; 31] = [
 ];
 
 /// The numbers to aim at: those of steps, the hard ones more often.
-const TARGETS: [u16; 27] = [
+const TARGETS: [u16; 29] = [
     9, 10, 11, 12, 13, 14, 15, 15, 16, 17, 18, 19, 19, 19, 19, 19, 20, 21, 22, 22, 23, 23, 23, 13,
-    21, 26, 26,
+    21, 25, 25, 26, 26,
 ];
 
 struct Grower<'a> {
@@ -61,6 +62,8 @@ struct Grower<'a> {
     model: Model,
     /// Whether this log evaluates equalities first and clashes later.
     eager: bool,
+    /// Whether this log makes conflicts that clauses can be learned from often.
+    keen: bool,
     /// Steps to take next where they are allowed, the next one last.
     plan: Vec<Row>,
     /// Whether uses that come close to a rule are taken for uses of it.
@@ -69,6 +72,7 @@ struct Grower<'a> {
     values: Vec<Option<u16>>,
     late: u64,
     probes: Vec<(usize, Row)>,
+    learns: Vec<Shown>,
 }
 
 /// A grown log.
@@ -78,6 +82,8 @@ pub struct Log {
     pub late: u64,
     /// Steps to try in place of the rest of the log after so many rows.
     pub probes: Vec<(usize, Row)>,
+    /// What the learns show that were grown or are to be tried.
+    pub learns: Vec<Shown>,
 }
 
 /// A log for the problem.
@@ -97,6 +103,7 @@ pub fn log(rng: &mut Rng, problem: &Problem) -> Log {
         .collect();
     let mut grower = Grower {
         eager: rng.percent(50),
+        keen: rng.percent(40),
         plan: Vec::new(),
         loose: false,
         rng,
@@ -105,12 +112,14 @@ pub fn log(rng: &mut Rng, problem: &Problem) -> Log {
         values: Vec::new(),
         late: 0,
         probes: Vec::new(),
+        learns: Vec::new(),
     };
     let rows = grower.grow();
     Log {
         rows,
         late: grower.late,
         probes: grower.probes,
+        learns: grower.learns,
     }
 }
 
@@ -132,17 +141,28 @@ impl Grower<'_> {
             }
             if let Some(target) = target.filter(|_| rows.len() >= earliest) {
                 if let Some(barred) = self.barred(target) {
+                    self.show(&barred);
                     rows.push(barred);
                     break;
                 }
             }
-            if self.rng.percent(25) {
+            let often = if self.model.conflict.is_some() {
+                40
+            } else {
+                25
+            };
+            if self.rng.percent(often) {
                 let row = self.attempt();
+                self.show(&row);
                 self.probes.push((rows.len(), row));
             }
             let Some(row) = self.allowed() else {
                 break;
             };
+            self.show(&row);
+            if row[0] == LEARN {
+                self.around(&row, rows.len());
+            }
             rows.push(row);
             match self.model.next(&row).expect("an allowed step") {
                 Next::Refuted => break,
@@ -153,6 +173,28 @@ impl Grower<'_> {
             rows.push(self.noise());
         }
         rows
+    }
+
+    /// Probes close to a learn that is allowed, and perhaps a use of its clause.
+    fn around(&mut self, learn: &Row, rows: usize) {
+        for _ in 0..self.rng.below(3) {
+            let mut row = *learn;
+            for _ in 0..self.rng.within(1, 2) {
+                self.spoil_learn(&mut row);
+            }
+            self.show(&row);
+            self.probes.push((rows, row));
+        }
+        if self.rng.percent(50) {
+            self.plan_unit(learn[2]);
+        }
+    }
+
+    /// Notes what the row shows, if it is a learn.
+    fn show(&mut self, row: &Row) {
+        if row[0] == LEARN {
+            self.learns.push(learn::shown(&self.model, row));
+        }
     }
 
     fn enter(&mut self, next: Next) {
@@ -205,6 +247,8 @@ impl Grower<'_> {
         match self.rng.below(20) {
             0..=1 => self.plan_split(),
             2..=3 => self.plan_use(),
+            4 => self.plan_lesson(),
+            5..=12 if self.keen => self.plan_lesson(),
             _ => None,
         };
         if let Some(row) = self.planned() {
@@ -309,6 +353,106 @@ impl Grower<'_> {
         Some(())
     }
 
+    /// Plans a conflict that a clause without a value can be learned from: decide a
+    /// connective whose arguments are among what the clause speaks of, then these,
+    /// each as the clause denies it, and clash.
+    fn plan_lesson(&mut self) -> Option<()> {
+        let terms = 0..self.model.terms.len() as u16;
+        let clauses: Vec<u16> = terms.filter(|&term| self.is_clause(term)).collect();
+        let (clause, members, wholes) = (0..8).find_map(|_| {
+            let (clause, members) = self.spoken_of(&clauses)?;
+            let wholes: Vec<(u16, u16)> = clauses
+                .iter()
+                .filter(|&&whole| whole != clause)
+                .filter_map(|&whole| Some((whole, self.given_by(whole, &members)?)))
+                .collect();
+            (!wholes.is_empty()).then_some((clause, members, wholes))
+        })?;
+        let (whole, value) = *self.rng.pick(&wholes);
+        let mut rows: Vec<Row> = members
+            .iter()
+            .filter(|member| member.0 != whole)
+            .map(|&(term, value)| row(0, X, term, value, &[]))
+            .collect();
+        let decision = self.decision();
+        rows.extend(decision.filter(|row| row[2] != clause && self.rng.percent(40)));
+        let at = if self.rng.percent(80) { 0 } else { rows.len() };
+        rows.insert(at, row(0, X, whole, 1 - value, &[]));
+        rows.push(row(CLASH, 8, whole, value, &self.term(whole).1));
+        rows.reverse();
+        self.plan = rows;
+        Some(())
+    }
+
+    fn is_clause(&self, term: u16) -> bool {
+        matches!(self.model.terms[usize::from(term)][0], 2 | 3)
+    }
+
+    /// Some clause without a value, and terms that it can speak of, each with the
+    /// value that it denies, which is the term's if it has one.
+    fn spoken_of(&mut self, clauses: &[u16]) -> Option<(u16, Vec<(u16, u16)>)> {
+        if clauses.is_empty() {
+            return None;
+        }
+        let clause = *self.rng.pick(clauses);
+        if self.value(clause).is_some() {
+            return None;
+        }
+        let (head, args) = self.term(clause);
+        let mut members: Vec<(u16, u16)> = Vec::new();
+        for arg in args {
+            let mut readings = learn::readings(&self.model, head, arg);
+            if self.rng.percent(80) {
+                readings.reverse();
+            }
+            let reading = readings.into_iter().find(|&(term, value)| {
+                let fresh = members.iter().all(|member| member.0 != term);
+                fresh && self.value(term).is_none_or(|there| there == value)
+            });
+            members.push(reading?);
+        }
+        Some((clause, members))
+    }
+
+    /// The value that a connective gets from these terms with their values, if its
+    /// arguments are among them and it has not that value.
+    fn given_by(&self, whole: u16, members: &[(u16, u16)]) -> Option<u16> {
+        let row = self.model.terms[usize::from(whole)];
+        let (head, args) = (row[0], row[2..].iter().filter(|&&arg| arg != X));
+        let value = |arg: &u16| {
+            let member = members.iter().find(|member| member.0 == *arg);
+            member.map(|member| member.1)
+        };
+        let values: Option<Vec<u16>> = args.map(value).collect();
+        let values = values?;
+        let given = if head == 2 {
+            values.iter().min()
+        } else {
+            values.iter().max()
+        };
+        given.copied().filter(|&given| !self.is(whole, given))
+    }
+
+    /// Plans a use of a clause that is learned: decide all positions but one, then
+    /// deduce the remaining one, or clash where it is decided too.
+    fn plan_unit(&mut self, clause: u16) {
+        let (head, mut args) = self.term(clause);
+        let remaining = args.remove(self.rng.below(args.len()));
+        let mut rows: Vec<Row> = args
+            .iter()
+            .map(|&arg| row(0, X, arg, 3 - head, &[]))
+            .collect();
+        let clash = self.rng.percent(25);
+        if clash {
+            rows.push(row(0, X, remaining, 3 - head, &[]));
+        }
+        let premises = [&[clause], &args[..]].concat();
+        let step = if clash { CLASH } else { DEDUCE };
+        rows.push(row(step, 7, remaining, head - 2, &premises));
+        rows.reverse();
+        self.plan = rows;
+    }
+
     /// Some term row that will do.
     fn any_row(&mut self, will_do: impl Fn(&Self, u16) -> bool) -> Option<u16> {
         let rows: Vec<u16> = (0..self.model.terms.len() as u16)
@@ -374,6 +518,11 @@ impl Grower<'_> {
     /// the others where there is one of it.
     fn allowed_in_conflict(&mut self) -> Option<Row> {
         let members = self.model.conflict.clone().unwrap();
+        if self.rng.percent(if self.keen { 70 } else { 40 }) {
+            if let Some(row) = self.learn() {
+                return Some(row);
+            }
+        }
         let mut kinds = vec![3, 3, 4, 5, 6, 6, 6];
         while !kinds.is_empty() {
             let kind = *self.rng.pick(&kinds);
@@ -398,6 +547,144 @@ impl Grower<'_> {
             kinds.retain(|&other| other != kind);
         }
         None
+    }
+
+    /// A learn that is allowed, if there is one.
+    fn learn(&mut self) -> Option<Row> {
+        let mut lessons = learn::lessons(&self.model, false);
+        lessons.retain(|lesson| {
+            let (rest, level) = learn::range(&self.model, &lesson.members);
+            self.value(lesson.clause).is_none() && rest < level
+        });
+        if lessons.is_empty() {
+            return None;
+        }
+        let lesson = self.rng.pick(&lessons).clone();
+        Some(self.learn_row(&lesson))
+    }
+
+    /// The learn of a clause, its members in some order, with a level in its range
+    /// where there is one.
+    fn learn_row(&mut self, lesson: &Lesson) -> Row {
+        let mut members = lesson.members.clone();
+        if self.rng.percent(50) {
+            let (one, two) = (self.rng.below(members.len()), self.rng.below(members.len()));
+            members.swap(one, two);
+        }
+        let (rest, level) = learn::range(&self.model, &members);
+        let last = level.max(rest + 1) - 1;
+        let to = match self.rng.percent(50) {
+            true => rest,
+            false => self.rng.within(rest.into(), last.into()) as u16,
+        };
+        row(LEARN, X, lesson.clause, to, &members)
+    }
+
+    /// A learn that may or may not be allowed: one that matches, exactly or loosely,
+    /// or one over other members, with up to three faults.
+    fn near_learn(&mut self) -> Option<Row> {
+        let loose = self.rng.percent(25);
+        let mut lessons = learn::lessons(&self.model, loose);
+        if loose && lessons.iter().any(|one| !one.is_exact(&self.model)) {
+            lessons.retain(|one| !one.is_exact(&self.model));
+        }
+        if self.rng.percent(30) && lessons.iter().any(|one| self.value(one.clause).is_some()) {
+            lessons.retain(|one| self.value(one.clause).is_some());
+        }
+        let mut row = match !lessons.is_empty() && self.rng.percent(90) {
+            true => {
+                let lesson = self.rng.pick(&lessons).clone();
+                self.learn_row(&lesson)
+            }
+            false => self.any_learn()?,
+        };
+        for _ in 0..*self.rng.pick(&[0, 1, 1, 1, 1, 2, 2, 3]) {
+            self.spoil_learn(&mut row);
+        }
+        Some(row)
+    }
+
+    /// A learn of some clause, over terms that it speaks of or other members.
+    fn any_learn(&mut self) -> Option<Row> {
+        let clause = self.any_row(|grower, term| grower.is_clause(term))?;
+        let (head, args) = self.term(clause);
+        let mut members = Vec::new();
+        for arg in args {
+            let readings = learn::readings(&self.model, head, arg);
+            let reading = self.rng.pick(&readings).0;
+            let other = self.any_member().filter(|_| self.rng.percent(70));
+            members.push(other.unwrap_or(reading));
+        }
+        let level = self.rng.below(3) as u16;
+        Some(row(LEARN, X, clause, level, &members))
+    }
+
+    fn any_member(&mut self) -> Option<u16> {
+        let members = self.model.conflict.as_ref()?;
+        Some(*self.rng.pick(members))
+    }
+
+    /// One fault more of a learn, of any number but 10.
+    fn spoil_learn(&mut self, row: &mut Row) {
+        let filled = row[4..8].iter().filter(|&&member| member != X).count();
+        let at = 4 + self.rng.below(filled.max(1));
+        let any = Self::any_term(self.rng, &self.model);
+        match *self
+            .rng
+            .pick(&[9, 11, 17, 17, 22, 22, 25, 25, 25, 14, 21, 21, 21, 21])
+        {
+            9 => match self.rng.below(5) {
+                0 => row[1] = self.rng.below(14) as u16,
+                1 => row[3] = X,
+                2 => row[8] = any,
+                3 => row[7] = any,
+                _ => row[*self.rng.pick(&[2, 4, 5])] = X,
+            },
+            11 => {
+                let column = if self.rng.percent(50) { 2 } else { at };
+                row[column] = *self.rng.pick(&[self.model.terms.len() as u16, 65_534]);
+            }
+            17 => {
+                let on_trail = self.rng.percent(60);
+                let other = self.any_row(|grower, term| {
+                    let is_member = grower.model.conflict.iter().flatten().any(|&m| m == term);
+                    grower.value(term).is_some() == on_trail && !is_member
+                });
+                row[at] = other.unwrap_or(any);
+            }
+            22 if self.rng.percent(50) => row[2] = any,
+            22 => {
+                let mut members = self.model.conflict.iter().flatten().copied();
+                let slot = members.rfind(|&member| !self.model.is_prop(member));
+                row[at] = slot.unwrap_or(any);
+            }
+            25 => match self.rng.below(5) {
+                0..=1 => row[at] = row[4],
+                2 if filled > 2 => row[3 + filled] = X,
+                3 if filled < 4 => row[4 + filled] = self.any_member().unwrap_or(any),
+                4 => {
+                    row[2] = self
+                        .any_row(|grower, term| grower.is_clause(term))
+                        .unwrap_or(any)
+                }
+                _ => row[at] = self.any_member().unwrap_or(any),
+            },
+            14 => {
+                let other = self
+                    .any_row(|grower, term| grower.is_clause(term) && grower.value(term).is_some());
+                row[2] = other.unwrap_or(any);
+            }
+            _ => {
+                let top = self.model.trail.iter().map(|entry| entry.level).max();
+                let top = usize::from(top.unwrap_or(0));
+                row[3] = match self.rng.below(5) {
+                    0 => row[3].wrapping_sub(1).min(65_534),
+                    1 => 0,
+                    2 => *self.rng.pick(&[top as u16, 65_534, 256]),
+                    _ => self.rng.below(top + 2) as u16,
+                };
+            }
+        }
     }
 
     fn value(&self, term: u16) -> Option<u16> {
@@ -578,7 +865,7 @@ impl Grower<'_> {
     fn barred(&mut self, target: u16) -> Option<Row> {
         let in_conflict = self.model.conflict.is_some();
         let fits = match target {
-            9..=11 | 22 => true,
+            9..=11 | 14 | 22 => true,
             12..=16 | 26 => !in_conflict,
             _ => in_conflict,
         };
@@ -593,6 +880,12 @@ impl Grower<'_> {
 
     /// A step that may or may not be allowed, near one that is.
     fn attempt(&mut self) -> Row {
+        let learns = if self.model.conflict.is_some() { 45 } else { 2 };
+        if self.rng.percent(learns) {
+            if let Some(row) = self.near_learn() {
+                return row;
+            }
+        }
         if self.model.conflict.is_some() && self.rng.percent(70) {
             return self.conflict_step();
         }
@@ -703,7 +996,7 @@ impl Grower<'_> {
             5 if row[3] < 2 => row[3] = 1 - row[3],
             6 if row[0] == CLASH || row[0] == FAIL => row[0] = other_line(row[0]),
             7 => row[3] = 2,
-            8 => row[0] = FAIL + 1,
+            8 => row[0] = LEARN + 1,
             _ => {
                 let column = self.rng.below(9);
                 row[column] = match self.rng.percent(70) {
@@ -722,7 +1015,7 @@ impl Grower<'_> {
             }
         }
         if self.rng.percent(70) {
-            made[0] = self.rng.below(8) as u16;
+            made[0] = self.rng.below(9) as u16;
         }
         made
     }

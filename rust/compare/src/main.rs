@@ -12,6 +12,7 @@
 
 mod case;
 mod grow;
+mod learn;
 mod naive;
 mod naive_text;
 mod print;
@@ -158,6 +159,7 @@ impl Session {
             mut case,
             late,
             probes,
+            learns,
         } = case::make(rng);
         let ran = compare_run(&case)?;
         let outcome = ran.0;
@@ -168,7 +170,12 @@ impl Session {
             self.text(rng, &case, damaged)?;
         }
         // With a buffer too short a probe says no more than the case.
-        let probes = if outcome[2] == 32 { Vec::new() } else { probes };
+        if outcome[2] == 32 {
+            return Ok(());
+        }
+        for shown in &learns {
+            self.stats.learn(shown);
+        }
         for (rows, row) in probes.into_iter().rev() {
             case.steps.truncate(9 * rows);
             case.steps.extend(row);

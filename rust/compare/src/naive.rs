@@ -281,7 +281,8 @@ impl Model {
             4 => self.clear(term),
             5 => self.jump(term),
             6 => self.flip(term, premises[0]),
-            _ => self.fail(rule, term, value, &premises),
+            7 => self.fail(rule, term, value, &premises),
+            _ => self.learn(term, value, &premises),
         }
     }
 
@@ -468,6 +469,69 @@ impl Model {
         Ok(self.with_decision(&self.kept(level - 1), term, 1 - entry.value))
     }
 
+    fn learn(&self, clause: u16, to: u16, named: &[u16]) -> Result<Next, u16> {
+        if !named.iter().all(|member| self.members().contains(member)) {
+            return Err(17);
+        }
+        let is_clause = matches!(self.row(clause)[0], 2 | 3);
+        if !is_clause || !named.iter().all(|&member| self.is_prop(member)) {
+            return Err(22);
+        }
+        if as_set(named) != named || !self.matches(clause, named) {
+            return Err(25);
+        }
+        if self.entry(clause).is_some() {
+            return Err(14);
+        }
+        let rest = self.rest_of(named);
+        let level = self.level_of(&rest);
+        let in_range = level <= to && to < self.level_of(named);
+        if !in_range {
+            return Err(21);
+        }
+        let mut trail = self.kept(to);
+        trail.push(Entry {
+            term: clause,
+            value: if self.row(clause)[0] == 3 { 1 } else { 0 },
+            level,
+            reason: Some(rest),
+        });
+        Ok(Next::Searching(trail))
+    }
+
+    /// The members of the conflict that are not named.
+    pub fn rest_of(&self, named: &[u16]) -> Vec<u16> {
+        self.members()
+            .iter()
+            .copied()
+            .filter(|member| !named.contains(member))
+            .collect()
+    }
+
+    /// Whether some order of the clause's arguments pairs them with the members.
+    pub fn matches(&self, clause: u16, members: &[u16]) -> bool {
+        let args = self.args(clause);
+        let head = self.row(clause)[0];
+        let pairs = |&(&arg, &member): &(&u16, &u16)| self.appears(head, member, arg);
+        args.len() == members.len()
+            && orders(&args)
+                .iter()
+                .any(|order| order.iter().zip(members).all(|pair| pairs(&pair)))
+    }
+
+    /// Whether the member appears as the argument. In an or a true one appears as its
+    /// negation and a false one as itself, in an and the other way round.
+    pub fn appears(&self, head: u16, member: u16, arg: u16) -> bool {
+        let negation = self.row(arg) == [1, 0, member, X, X, X];
+        match head {
+            3 if self.is_true(member) => negation,
+            3 if self.is_false(member) => arg == member,
+            2 if self.is_true(member) => arg == member,
+            2 if self.is_false(member) => negation,
+            _ => false,
+        }
+    }
+
     fn row(&self, term: u16) -> [u16; 6] {
         self.terms[usize::from(term)]
     }
@@ -611,6 +675,22 @@ fn eq_row(left: u16, right: u16) -> [u16; 6] {
     [0, 0, left, right, X, X]
 }
 
+/// The list in every order.
+fn orders(list: &[u16]) -> Vec<Vec<u16>> {
+    let Some((&first, others)) = list.split_first() else {
+        return vec![Vec::new()];
+    };
+    let mut all = Vec::new();
+    for order in orders(others) {
+        for at in 0..list.len() {
+            let mut longer = order.clone();
+            longer.insert(at, first);
+            all.push(longer);
+        }
+    }
+    all
+}
+
 fn as_set(terms: &[u16]) -> Vec<u16> {
     let mut set = Vec::new();
     for &term in terms {
@@ -622,7 +702,7 @@ fn as_set(terms: &[u16]) -> Vec<u16> {
 }
 
 /// Everything under the number 9.
-fn columns_fit(row: &[u16; 9]) -> bool {
+pub fn columns_fit(row: &[u16; 9]) -> bool {
     let [step, rule, term, value, premises @ ..] = *row;
     let blank = |column: u16| column == X;
     let none_after = |count: usize| premises[count..].iter().all(|&column| blank(column));
@@ -637,6 +717,10 @@ fn columns_fit(row: &[u16; 9]) -> bool {
         }
         3..=5 => blank(rule) && blank(value) && none_after(0),
         6 => blank(rule) && blank(value) && !blank(premises[0]) && none_after(1),
+        8 => {
+            let count = premises.iter().filter(|&&column| !blank(column)).count();
+            blank(rule) && !blank(value) && (2..=4).contains(&count) && none_after(count)
+        }
         _ => false,
     }
 }

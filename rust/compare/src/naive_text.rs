@@ -12,8 +12,8 @@ const HEADERS: [&str; 4] = [
     "term value",
     "step rule term value p q r s t",
 ];
-pub const STEP_WORDS: [&str; 8] = [
-    "decide", "deduce", "clash", "resolve", "clear", "jump", "flip", "fail",
+pub const STEP_WORDS: [&str; 9] = [
+    "decide", "deduce", "clash", "resolve", "clear", "jump", "flip", "fail", "learn",
 ];
 pub const RULE_WORDS: [&str; 13] = [
     "same", "differ", "refl", "sym", "trans", "neg", "part", "unit", "eval", "cong", "pred",

@@ -16,14 +16,15 @@ const HEADERS: [&str; 4] = [
 ];
 
 /// Names that look like something else.
-const ODD: [&str; 16] = [
-    "true", "false", "eq", "store", "decide", "clash", "fail", "same", "term", "sort", "0", "17",
-    "--", "prop1", "~", "!",
+const ODD: [&str; 17] = [
+    "true", "false", "eq", "store", "decide", "clash", "fail", "learn", "same", "term", "sort",
+    "0", "17", "--", "prop1", "~", "!",
 ];
 
 /// Words that no step and no rule has.
-const NO_WORDS: [&str; 11] = [
-    "learn", "Clash", "samen", "sam", "0", "clashes", "eq", "Fail", "fails", "fai", "7",
+const NO_WORDS: [&str; 14] = [
+    "Clash", "samen", "sam", "0", "clashes", "eq", "Fail", "fails", "fai", "7", "Learn", "learns",
+    "lear", "8",
 ];
 
 /// A text of a case, and the sheets that it stands for.

@@ -48,13 +48,17 @@ pub fn make(rng: &mut Rng) -> Problem {
         heads: Vec::new(),
         limit,
     };
-    let splits = maker.rng.percent(20);
+    let (splits, lessons) = match maker.rng.below(100) {
+        0..=17 => (true, false),
+        18..=37 => (false, true),
+        _ => (false, false),
+    };
     for _ in 0..3 * limit {
-        if splits && maker.rng.percent(85) {
-            maker.split();
-        } else {
-            maker.bundle();
-        }
+        match maker.rng.percent(85) {
+            true if splits => maker.split(),
+            true if lessons => maker.lesson(),
+            _ => maker.bundle(),
+        };
     }
     let (sorts, terms) = (maker.sorts, maker.terms);
     let inputs = match splits {
@@ -268,11 +272,12 @@ impl Maker<'_> {
 
     /// A few terms that belong together. None says that there was no room.
     fn bundle(&mut self) -> Option<()> {
-        match self.rng.below(24) {
+        match self.rng.below(26) {
             20..=23 => self.split(),
+            24 => self.lesson(),
             0..=4 => self.equalities(),
             5..=7 => self.congruence(),
-            8..=9 => self.predicate(),
+            8..=9 | 25 => self.predicate(),
             10..=11 => self.array_read(),
             12..=13 => self.array_skip(),
             _ => self.connective(),
@@ -319,6 +324,80 @@ impl Maker<'_> {
         }
         let head = if self.rng.percent(70) { 3 } else { 2 };
         self.term(head, 0, &args)?;
+        Some(())
+    }
+
+    /// A connective over two to four props, and clauses that deny their values, as
+    /// can be learned where the connective has the other value than they give it.
+    fn lesson(&mut self) -> Option<()> {
+        let mut props: Vec<u16> = Vec::new();
+        for _ in 0..self.rng.within(2, 4) {
+            let prop = match self.rng.below(10) {
+                0..=1 if !props.is_empty() => self.term(1, 0, &[props[0]])?,
+                0..=6 => self.prop()?,
+                _ => {
+                    let head = self.head(|_| false, 0, Vec::new());
+                    self.term(head.number, 0, &[])?
+                }
+            };
+            if !props.contains(&prop) {
+                props.push(prop);
+            }
+        }
+        if props.len() < 2 {
+            return None;
+        }
+        let head = *self.rng.pick(&[2, 3]);
+        let whole = self.term(head, 0, &props)?;
+        let values: Vec<u16> = match self.rng.below(3) {
+            0 => vec![1; props.len()],
+            1 => vec![0; props.len()],
+            _ => props.iter().map(|_| self.rng.below(2) as u16).collect(),
+        };
+        let gives = match head {
+            2 => *values.iter().min()?,
+            _ => *values.iter().max()?,
+        };
+        let mut spoken: Vec<(u16, u16)> = props.into_iter().zip(values).collect();
+        if spoken.len() < 4 && self.rng.percent(25) {
+            spoken.push((whole, 1 - gives));
+        }
+        for _ in 0..self.rng.within(1, 2) {
+            let (one, two) = (self.rng.below(spoken.len()), self.rng.below(spoken.len()));
+            spoken.swap(one, two);
+            let clause = *self.rng.pick(&[2, 3]);
+            self.denial(clause, &spoken)?;
+        }
+        if self.rng.percent(20) {
+            self.opposites(spoken[0].0)?;
+        }
+        Some(())
+    }
+
+    /// A clause that says that not all of the terms have these values. Now and then
+    /// it speaks of what a negation negates, where that is not the same.
+    fn denial(&mut self, clause: u16, spoken: &[(u16, u16)]) -> Option<()> {
+        let mut args = Vec::new();
+        for &(term, value) in spoken {
+            let negated = (value == 1) == (clause == 3);
+            let row = self.terms[usize::from(term)];
+            args.push(match negated {
+                true if row[0] == 1 && self.rng.percent(30) => row[2],
+                true => self.term(1, 0, &[term])?,
+                false => term,
+            });
+        }
+        self.term(clause, 0, &args)?;
+        Some(())
+    }
+
+    /// A connective over a term and its negation, and a clause that has the negation
+    /// at both positions: it speaks of both.
+    fn opposites(&mut self, term: u16) -> Option<()> {
+        let not = self.term(1, 0, &[term])?;
+        let (whole, clause) = (*self.rng.pick(&[2, 3]), *self.rng.pick(&[2, 3]));
+        self.term(whole, 0, &[term, not])?;
+        self.term(clause, 0, &[not, not])?;
         Some(())
     }
 

@@ -1,5 +1,6 @@
 //! How often everything occurred.
 
+use crate::learn::{self, Shown};
 use crate::naive_text::{RULE_WORDS, STEP_WORDS};
 use crate::problem::X;
 use crate::Ran;
@@ -7,21 +8,22 @@ use plain::{Checked, Meant, Why};
 use std::collections::BTreeMap;
 
 /// The numbers that a run can be refused with.
-const RUN_NUMBERS: [u16; 27] = [
-    0, 1, 3, 4, 5, 6, 7, 8, 9, 10, 11, 12, 13, 14, 15, 16, 17, 18, 19, 20, 21, 22, 23, 26, 30, 31,
-    32,
+const RUN_NUMBERS: [u16; 28] = [
+    0, 1, 3, 4, 5, 6, 7, 8, 9, 10, 11, 12, 13, 14, 15, 16, 17, 18, 19, 20, 21, 22, 23, 25, 26, 30,
+    31, 32,
 ];
 
 /// The numbers that a person is told of a text.
-const TOLD: [u16; 26] = [
-    1, 2, 3, 4, 5, 6, 7, 8, 9, 10, 11, 12, 13, 14, 15, 16, 17, 18, 19, 20, 21, 22, 23, 26, 30, 31,
+const TOLD: [u16; 27] = [
+    1, 2, 3, 4, 5, 6, 7, 8, 9, 10, 11, 12, 13, 14, 15, 16, 17, 18, 19, 20, 21, 22, 23, 25, 26, 30,
+    31,
 ];
 
 /// The numbers of the text reader.
 const TEXT_NUMBERS: [u16; 5] = [0, 2, 30, 31, 32];
 
 /// The numbers that each step can be refused with, in the order of its tests.
-const ORDERS: [&[u16]; 8] = [
+const ORDERS: [&[u16]; 9] = [
     &[9, 10, 11, 22, 14],
     &[9, 10, 11, 22, 12, 13, 14, 15],
     &[9, 10, 11, 22, 12, 13, 16, 26],
@@ -30,6 +32,7 @@ const ORDERS: [&[u16]; 8] = [
     &[9, 10, 11, 17, 22, 21],
     &[9, 10, 11, 17, 22, 18, 23],
     &[9, 10, 11, 22, 12, 13, 16, 26],
+    &learn::NUMBERS,
 ];
 
 const VERDICTS: [&str; 3] = ["open", "refuted", "refused"];
@@ -56,6 +59,8 @@ enum Heading {
     Numbers,
     Refusals,
     Standing,
+    Learns,
+    Before,
     Events,
     TextNumbers,
     TextVerdicts,
@@ -75,6 +80,8 @@ impl Heading {
             Heading::Numbers => "numbers of runs",
             Heading::Refusals => "numbers of each step",
             Heading::Standing => "levels of clashes and fails that ended a run",
+            Heading::Learns => "what learns showed",
+            Heading::Before => "numbers of learns with a later one's fault too",
             Heading::Events => "other events",
             Heading::TextNumbers => "numbers of texts",
             Heading::TextVerdicts => "verdicts of texts",
@@ -86,8 +93,12 @@ impl Heading {
 }
 
 /// Events that are counted besides.
-pub const EVENTS: [&str; 13] = [
+pub const EVENTS: [&str; 17] = [
     "late entries kept by a cut",
+    "learned clauses used by a unit deduce",
+    "learned clauses in a clash or a fail",
+    "learns allowed in texts",
+    "learns allowed, the level as a word",
     "workspace exactly long enough",
     "workspace one short",
     "trail buffer exactly long enough",
@@ -104,7 +115,7 @@ pub const EVENTS: [&str; 13] = [
 
 /// Whether a step was refused with the number.
 pub fn is_of_a_step(number: u16) -> bool {
-    matches!(number, 9..=23 | 26)
+    matches!(number, 9..=23 | 25 | 26)
 }
 
 impl Stats {
@@ -117,6 +128,7 @@ impl Stats {
             stats.expect(uses, &RULE_WORDS);
         }
         stats.expect(Heading::Verdicts, &VERDICTS);
+        stats.expect(Heading::Learns, &learn::NOTES);
         stats.expect(Heading::Events, &EVENTS);
         stats.expect(Heading::TextVerdicts, &VERDICTS);
         stats.expect(Heading::Meant, &MEANT.map(Meant::words));
@@ -128,6 +140,7 @@ impl Stats {
         }
         stats.expect_refusals();
         stats.expect_standing();
+        stats.expect_before();
         stats
     }
 
@@ -168,6 +181,16 @@ impl Stats {
         }
     }
 
+    /// Every number of learn before every later one.
+    fn expect_before(&mut self) {
+        for (at, &number) in learn::NUMBERS.iter().enumerate() {
+            for (later, &other) in learn::NUMBERS.iter().enumerate().skip(at + 1) {
+                let name = format!("{number} before {other}");
+                self.expect_one(Heading::Before, before(at, later), name);
+            }
+        }
+    }
+
     fn add(&mut self, heading: Heading, at: u16, more: u64) {
         let count = self
             .counts
@@ -182,8 +205,17 @@ impl Stats {
         let [verdict, allowed, number, entries] = *outcome;
         self.add(Heading::Verdicts, verdict, 1);
         self.add(Heading::Numbers, number, 1);
-        for row in steps.chunks(9).take(usize::from(allowed)).skip(from) {
-            self.step(row);
+        let mut learned = Vec::new();
+        for (at, row) in steps.chunks(9).take(usize::from(allowed)).enumerate() {
+            if at >= from {
+                self.step(row);
+                self.lesson(row, &learned);
+            }
+            match row[0] {
+                learn::LEARN => learned.push(row[2]),
+                0 | 1 | 5 | 6 => learned.retain(|&term| term != row[2]),
+                _ => (),
+            }
         }
         let refused = is_of_a_step(number);
         let read = usize::from(allowed) + usize::from(refused);
@@ -203,6 +235,36 @@ impl Stats {
             2 => self.add(Heading::Clashes, row[1], 1),
             7 => self.add(Heading::Fails, row[1], 1),
             _ => (),
+        }
+    }
+
+    /// Counts an allowed step by the premises that are learned clauses: the terms
+    /// that learn was the last to put on the trail.
+    fn lesson(&mut self, row: &[u16], learned: &[u16]) {
+        if matches!(row[..2], [1, 7]) && learned.contains(&row[4]) {
+            self.event("learned clauses used by a unit deduce", 1);
+        }
+        let closes = matches!(row[0], 2 | 7);
+        let mut terms = row[4..].iter().chain([&row[2]]);
+        if closes && terms.any(|term| learned.contains(term)) {
+            self.event("learned clauses in a clash or a fail", 1);
+        }
+    }
+
+    /// Counts what a learn that was tried showed.
+    pub fn learn(&mut self, shown: &Shown) {
+        for name in &shown.notes {
+            let at = learn::NOTES.iter().position(|note| note == name);
+            self.add(Heading::Learns, at.expect("a note listed") as u16, 1);
+        }
+        let place = |number: u16| learn::NUMBERS.iter().position(|&other| other == number);
+        let Some(at) = place(shown.number) else {
+            return;
+        };
+        for later in shown.faults.iter().filter_map(|&number| place(number)) {
+            if later > at {
+                self.add(Heading::Before, before(at, later), 1);
+            }
         }
     }
 
@@ -284,4 +346,9 @@ fn refusal(step: u16, number: u16) -> u16 {
 /// The place of a step in the counts by where its premises and opposite stand.
 fn standing(step: u16, premises: usize, opposite: usize) -> u16 {
     100 * step + (3 * premises + opposite) as u16
+}
+
+/// The place in the counts of a number of learn before a later one.
+fn before(at: usize, later: usize) -> u16 {
+    (learn::NUMBERS.len() * at + later) as u16
 }

@@ -2,6 +2,7 @@
 //! program prints.
 
 use crate::case::Case;
+use crate::learn::LEARN;
 use crate::rng::Rng;
 use crate::{compare_run, naive, naive_text, print, Session};
 use plain::{Checked, Read};
@@ -109,8 +110,10 @@ impl Session {
         }
         let checked = plain::check(&printed.text);
         if read.number == 0 {
-            let (outcome, ..) = compare_run(&read_case(&read, sheets))?;
+            let case = read_case(&read, sheets);
+            let (outcome, ..) = compare_run(&case)?;
             self.stats.text_verdict(outcome[0]);
+            self.learns(&printed.text, &case, outcome[1].into());
             expect_outcome(&printed.text, &checked, outcome)?;
         } else if read.number != 32 {
             expect_refusal(&printed.text, &checked, &read)?;
@@ -140,6 +143,20 @@ impl Session {
             through_program(program, text, checked)?;
         }
         Ok(())
+    }
+
+    /// Counts the learns that were allowed, and those whose level is a word.
+    fn learns(&mut self, text: &[u8], case: &Case, allowed: usize) {
+        let rows = case.steps.len() / 9;
+        for at in (0..allowed).filter(|at| case.steps[9 * at] == LEARN) {
+            let mut from_end = text.rsplit(|&byte| byte == b'\n');
+            let line = from_end.nth(rows - at).unwrap_or_default();
+            let level = line.split(|&byte| byte == b' ').nth(3);
+            let word = matches!(level, Some(b"true" | b"false"));
+            self.stats.event("learns allowed in texts", 1);
+            self.stats
+                .event("learns allowed, the level as a word", word.into());
+        }
     }
 
     /// Counts the lines that are as long as lines may be, or one byte longer.
@@ -268,7 +285,7 @@ fn expect_refusal(text: &[u8], checked: &Checked, read: &Read) -> Result<(), Str
 /// by the slow reader and the slow checker: so with it, and open without it.
 fn expect_line(text: &[u8], checked: &Checked) -> Result<(), String> {
     let number = checked.outcome.number;
-    if !matches!(number, 1 | 3..=23 | 26) {
+    if !matches!(number, 1 | 3..=23 | 25 | 26) {
         return Ok(());
     }
     let line = checked.line as usize;

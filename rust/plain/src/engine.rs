@@ -1,6 +1,6 @@
 //! The trail, the conflict and the steps.
 
-use crate::problem::{self, BadRow, Terms, PROP};
+use crate::problem::{self, BadRow, Terms, AND, NOT, OR, PROP};
 use crate::rules::{Premises, View, RULES};
 use crate::set::Set;
 use crate::{BLANK, ENTRY_COLUMNS, INPUT_COLUMNS, MAX_TERMS, OPEN, REFUSED, REFUTED, STEP_COLUMNS};
@@ -14,6 +14,7 @@ const CLEAR: u16 = 4;
 const JUMP: u16 = 5;
 const FLIP: u16 = 6;
 const FAIL: u16 = 7;
+const LEARN: u16 = 8;
 
 /// What the trail says of a term. The value is blank for a term not on it, and
 /// then the rest counts for nothing.
@@ -174,6 +175,18 @@ impl State {
                     JUMP => self.jump(row)?,
                     _ => self.flip(row, self.row(second).ok_or(11u16)?)?,
                 }
+            }
+            LEARN => {
+                let Some(count @ 2..=4) = from_left(&premises) else {
+                    return Err(9);
+                };
+                if rule != BLANK || term == BLANK || value == BLANK {
+                    return Err(9);
+                }
+                if !self.in_conflict() {
+                    return Err(10);
+                }
+                self.learn(term, value, &premises[..count])?;
             }
             _ => return Err(9),
         }
@@ -341,6 +354,78 @@ impl State {
         Ok(())
     }
 
+    /// Learn: back to a level below that of the members named, with a clause that
+    /// says that they do not all have their values, which follows from the rest.
+    fn learn(&mut self, term: u16, to: u16, columns: &[u16]) -> Result<(), u16> {
+        let clause = self.row(term).ok_or(11u16)?;
+        let mut rows = [0; 4];
+        for (row, &column) in rows.iter_mut().zip(columns) {
+            *row = self.row(column).ok_or(11u16)?;
+        }
+        let members = &rows[..columns.len()];
+        let among = |&member: &u8| self.conflict.set.contains(member);
+        if !members.iter().all(among) {
+            return Err(17);
+        }
+        let head = self.terms.terms[usize::from(clause)].head;
+        let is_prop = |&member: &u8| self.sort(member) == PROP;
+        if !matches!(head, OR | AND) || !members.iter().all(is_prop) {
+            return Err(22);
+        }
+        if !self.denies(clause, members) {
+            return Err(25);
+        }
+        if self.is_assigned(clause) {
+            return Err(14);
+        }
+        let mut rest = self.conflict.set;
+        let mut above = 0;
+        for &member in members {
+            rest.remove(member);
+            above = above.max(self.entry(member).level);
+        }
+        let level = self.level_of(&rest);
+        if to < level || to >= above {
+            return Err(21);
+        }
+        self.keep(to);
+        self.reasons[usize::from(clause)] = rest;
+        self.justify(clause, u16::from(head == OR), level);
+        Ok(())
+    }
+
+    /// Whether an or that is true, or an and that is false, says of members that are
+    /// all different that they do not all have their values: its positions and the
+    /// members pair off, one to one.
+    ///
+    /// A member pairs with the positions of one row alone, itself or its negation,
+    /// and these are all alike, so that the first one left will do.
+    fn denies(&self, clause: u8, members: &[u8]) -> bool {
+        let clause = &self.terms.terms[usize::from(clause)];
+        let mut paired = [false; 4];
+        for (at, &member) in members.iter().enumerate() {
+            let negated = (self.entry(member).value == 1) == (clause.head == OR);
+            let mut positions = (0..clause.args().len()).filter(|&position| !paired[position]);
+            let found = positions.find(|&position| {
+                let arg = clause.args[position];
+                match negated {
+                    true => self.is_negation(arg, member),
+                    false => arg == member,
+                }
+            });
+            match found {
+                Some(position) if !members[..at].contains(&member) => paired[position] = true,
+                _ => return false,
+            }
+        }
+        clause.args().len() == members.len()
+    }
+
+    fn is_negation(&self, row: u8, of: u8) -> bool {
+        let term = &self.terms.terms[usize::from(row)];
+        term.head == NOT && term.args() == [of]
+    }
+
     fn in_conflict(&self) -> bool {
         self.conflict.level > 0
     }
@@ -381,6 +466,13 @@ impl State {
                 level = level.max(self.entry(row).level);
             }
         });
+        level
+    }
+
+    /// The greatest level of the members, 0 if there are none.
+    fn level_of(&self, set: &Set) -> u16 {
+        let mut level = 0;
+        set.for_each(|row| level = level.max(self.entry(row).level));
         level
     }
 

@@ -448,6 +448,7 @@ fn step_word(word: &Field) -> u16 {
         b"jump" => 5,
         b"flip" => 6,
         b"fail" => 7,
+        b"learn" => 8,
         _ => UNKNOWN,
     }
 }

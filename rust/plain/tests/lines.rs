@@ -183,7 +183,9 @@ fn lines_of_the_run() {
         "line 16: 8 a term given twice\n"
     );
     let step = "line 19: 9 a step's columns are wrong\n";
-    for word in ["crash", "Fail", "fails", "fai", "learn"] {
+    for word in [
+        "crash", "Fail", "fails", "fai", "learn", "Learn", "learns", "lear", "8",
+    ] {
         assert_eq!(said_of("fail", word), step);
     }
     let step = "line 20: 14 the value is there already\n";
@@ -236,4 +238,139 @@ fn no_line_was_meant() {
     }
     assert_eq!(check(TEXT.as_bytes()).meant, None);
     assert_eq!(check(b"").meant, None);
+}
+
+/// Two circuits that a dimmer cannot feed at once, and a clause that says so. The
+/// patch is checked line by line; the learn is line 27.
+const LEARNT: &str = "\
+sort index value
+S - -
+
+term head sort a b c d
+a A S - - - -
+b B S - - - -
+one eq prop a b - -
+p on1 prop - - - -
+q on2 prop - - - -
+np not prop p - - -
+nq not prop q - - -
+both and prop p q - -
+swap and prop q p - -
+either or prop nq np - -
+pq or prop p nq - -
+
+term value
+both false
+b 7
+one false
+
+step rule term value p q r s t
+decide - swap true - - - - -
+decide - p true - - - - -
+decide - q true - - - - -
+clash eval both true p q - - -
+learn - either 0 p q - - -
+deduce neg p false np - - - -
+";
+
+/// The learn's line with something in its place, with what is said of it.
+fn learn_said(row: &str) -> String {
+    assert!(LEARNT.contains("learn - either 0 p q - - -"));
+    said(&LEARNT.replace("learn - either 0 p q - - -", row))
+}
+
+#[test]
+fn lines_of_learn() {
+    assert_eq!(
+        said(LEARNT),
+        "line 28: 12 a premise is not on the trail\n",
+        "the clause is learned, and what it does not give is not there"
+    );
+    let level =
+        "line 27: 21 its level is not above the rest, or learn's level is outside its range\n";
+    let head =
+        "line 27: 22 a term's sort or head is wrong for the step, or the value does not suit it\n";
+    let clause = "line 27: 25 the clause does not match the members, or one is named twice\n";
+    let columns = "line 27: 9 a step's columns are wrong\n";
+    for (row, said) in [
+        ("learn - either 3 p q - - -", level),
+        ("learn - either 65534 p q - - -", level),
+        ("learn - np 0 p q - - -", head),
+        ("learn - one 0 p p - - -", head),
+        ("learn - pq 0 p q - - -", clause),
+        ("learn - either 0 p p - - -", clause),
+        ("learn - either 0 p q both - -", clause),
+        ("learn - either - p q - - -", columns),
+        ("learn eval either 0 p q - - -", columns),
+        ("learn - either 0 p - - - -", columns),
+        ("learn - either 0 p q - - p", columns),
+        ("learn - either 0 p - q - -", columns),
+        ("learns - either 0 p q - - -", columns),
+        ("Learn - either 0 p q - - -", columns),
+        ("lear - either 0 p q - - -", columns),
+        ("8 - either 0 p q - - -", columns),
+        (
+            "learn - nor 0 p q - - -",
+            "line 27: 11 the term or a premise is no row\n",
+        ),
+        (
+            "learn - either 0 p x - - -",
+            "line 27: 11 the term or a premise is no row\n",
+        ),
+        (
+            "learn - either 0 p swap - - -",
+            "line 27: 17 not a member of the conflict\n",
+        ),
+        (
+            "learn - both 0 p q - - -",
+            "line 27: 14 the value is there already\n",
+        ),
+        (
+            "learn - swap 0 p q - - -",
+            "line 27: 14 the value is there already\n",
+        ),
+    ] {
+        assert_eq!(learn_said(row), said, "{row}");
+        let checked = check(LEARNT.replace("learn - either 0 p q - - -", row).as_bytes());
+        assert_eq!((checked.meant, checked.cause()), (None, ""), "{row}");
+    }
+    let early = LEARNT.replace("clash eval both true p q - - -\n", "");
+    assert_eq!(said(&early), "line 26: 10 wrong state for the step\n");
+    let malformed = learn_said("learn - either 00 p q - - -");
+    assert!(malformed.starts_with("line 27, field 4: 31 malformed: "));
+}
+
+/// 22 by a member that is not of sort prop.
+#[test]
+fn a_slot_is_no_literal() {
+    let text = LEARNT.replace(
+        "clash eval both true p q - - -",
+        "decide - a 7 - - - - -\nclash same one true a b - - -",
+    );
+    for members in ["a one", "one a", "a b"] {
+        let text = text.replace("either 0 p q", &format!("either 0 {members}"));
+        assert_eq!(
+            said(&text),
+            "line 28: 22 a term's sort or head is wrong for the step, or the value does not suit it\n"
+        );
+    }
+}
+
+/// Levels are read like values: `false` is 0 and `true` is 1.
+#[test]
+fn levels_as_words() {
+    for (row, entries) in [
+        ("learn - either 0 p q - - -", 4),
+        ("learn - either false p q - - -", 4),
+        ("learn - either 1 q p - - -", 5),
+        ("learn - either true p q - - -", 5),
+        ("learn - either 2 p q - - -", 6),
+    ] {
+        let text = LEARNT
+            .replace("learn - either 0 p q - - -", row)
+            .replace("deduce neg p false np - - - -\n", "");
+        let outcome = check(text.as_bytes()).outcome;
+        assert_eq!((outcome.verdict, outcome.steps), (0, 5), "{row}");
+        assert_eq!(outcome.entries, entries, "{row}");
+    }
 }

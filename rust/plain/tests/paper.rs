@@ -31,6 +31,7 @@ const E_OR_G: u16 = 7;
 
 const CLASH: u16 = 2;
 const FAIL: u16 = 7;
+const LEARN: u16 = 8;
 
 fn step(kind: u16, rule: u16, term: u16, value: u16, premises: &[u16]) -> [u16; 9] {
     let mut row = [X; 9];
@@ -115,6 +116,36 @@ fn barred_resolve_and_jump() {
         result(&[[G, 0]], &with(step(5, X, E, X, &[]))),
         [OPEN, 5, 0, 2]
     );
+}
+
+/// The same conflict with a row for or(not(e),g), which can be learned: neither that
+/// a member is barred from resolving nor that one was given stands in the way.
+#[test]
+fn learn_where_resolve_is_barred() {
+    let terms = [TERMS, &[3, 0, NOT_E, G, X, X]].concat();
+    let clause = 8;
+    let end = |level: u16, members: &[u16]| {
+        let steps = [
+            decide(A, 7),
+            decide(B, 7),
+            step(1, 0, E, 1, &[A, B]),
+            the_clash(),
+            step(LEARN, X, clause, level, members),
+        ];
+        let mut work = [0; work_words(9)];
+        let mut trail = [0; trail_numbers(9)];
+        let steps = steps.concat();
+        let out = run(SORTS, &terms, &[G, 0], &steps, &mut work, &mut trail);
+        let entries = 4 * usize::from(out.entries);
+        ((out.verdict, out.number), trail[..entries].to_vec())
+    };
+    let low = [G, 0, 0, 0, clause, 1, 0, 0];
+    assert_eq!(end(0, &[E, G]), ((OPEN, 0), low.to_vec()));
+    let high = [G, 0, 0, 0, A, 7, 1, 1, clause, 1, 0, 0];
+    assert_eq!(end(1, &[G, E]), ((OPEN, 0), high.to_vec()));
+    assert_eq!(end(2, &[E, G]).0, (REFUSED, 21));
+    assert_eq!(end(0, &[E, E]).0, (REFUSED, 25));
+    assert_eq!(end(0, &[E, NOT_E]).0, (REFUSED, 17));
 }
 
 #[test]
@@ -220,8 +251,10 @@ fn the_order_of_clash_and_fail() {
         assert_eq!(conflict(step(kind, 9, G, 2, &[E])), 9);
         assert_eq!(conflict(step(kind, 9, 8, 1, &[8])), 10);
     }
-    let unlisted = step(8, 9, G, 1, &[E]);
-    assert_eq!(result(&[[E, 1], [G, 0]], &[unlisted])[2], 9);
+    for other in [LEARN, LEARN + 1] {
+        let row = step(other, 9, G, 1, &[E]);
+        assert_eq!(result(&[[E, 1], [G, 0]], &[row])[2], 9);
+    }
 }
 
 /// Where the opposite is absent it is 16, whatever the level of the premises.
