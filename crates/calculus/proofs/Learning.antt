@@ -16,7 +16,7 @@ use Rattle.calculus.specs.Steps
 use Rattle.calculus.specs.Steps.{trailOf}
 use Rattle.calculus.specs.Run
 use Rattle.calculus.specs.Run.{ending}
-use Rattle.calculus.proofs.Boards.{Case, sheets, callOf, given, asked, nothing, plain, row, differ, unit, eval, decide, deduce, clash, fail, resolve, learn, remains, refutes, refuses, entry}
+use Rattle.calculus.proofs.Boards.{Case, sheets, callOf, given, asked, nothing, plain, row, differ, unit, eval, decide, deduce, clash, fail, resolve, learn, remains, refuses, entry}
 
 -- ---- the board
 

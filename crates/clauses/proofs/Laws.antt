@@ -18,7 +18,7 @@ module _ (f : ℕ → List ℕ → Bool) (a b c d : ℕ) where
   byCells a′ b′ c′ d′ =
       not (eqb a blank) && (a′ || (not (eqb b blank) && (b′ || (not (eqb c blank) && (c′ || (not (eqb d blank) && d′))))))
 
-  -- cells cells, with whether each is blank
+  -- three cells, with whether each is blank
   abbrev cells : Bool → ℕ → Bool → ℕ → Bool → ℕ → List ℕ
   cells g x h y k z = cond g [] (x ∷ cond h [] (y ∷ cond k [] (z ∷ [])))
 
@@ -27,7 +27,9 @@ module _ (f : ℕ → List ℕ → Bool) (a b c d : ℕ) where
   taking-cells = go (eqb a blank) (eqb b blank) (eqb c blank) (eqb d blank)
     where
       go : (g h k l : Bool)
-          → not g && (f a (cells h b k c l d) || (not h && (f b (cells g a k c l d) || (not k && (f c (cells g a h b l d) || (not l && f d (cells g a h b k c)))))))
+          → not g
+          && (f a (cells h b k c l d)
+          || (not h && (f b (cells g a k c l d) || (not k && (f c (cells g a h b l d) || (not l && f d (cells g a h b k c)))))))
           ≡ takingOne (cond g [] (a ∷ cells h b k c l d)) f
       go true h k l = refl
       go false true k l = refl

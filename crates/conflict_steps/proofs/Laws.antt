@@ -19,10 +19,8 @@ use Rattle.trail.proofs.Laws.{why-in, trail-length, room-all}
 use Rattle.calculus.proofs.Trails.{holds-wider}
 use Rattle.trail.proofs.Frames.{why-words}
 use Rattle.moves.specs.Post.{conflictIn}
-use Rattle.state.specs.declared.Status.{Status}
-use Rattle.state.proofs.States.{trail-well-formed, conflict-within}
 use Rattle.state.proofs.Tests.{told, told-yes}
-use Rattle.conflicts.specs.Conflicts.{Conflicted, Found, Member, Justified, whyIn, conflictLevel, holdsFirstOrder}
+use Rattle.conflicts.specs.Conflicts.{Found, Member, Justified, whyIn, conflictLevel, holdsFirstOrder}
 
 -- ---- levels are small
 

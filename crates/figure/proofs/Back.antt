@@ -237,10 +237,12 @@ module _ (ts : List ℕ) where
       -- a member of the conflict is looked up on the trail
       module _ (I : Within E tr) where
         -- the members hs of the conflict, with their values
-        members-is : (hs : List ℕ) → 2 ≤ length hs → length hs ≤ 4 → T (different hs) → T (all E hs) → T (all (prop ts) hs) → Members ts tr E (premisesAt tr hs)
+        members-is : (hs : List ℕ) → 2 ≤ length hs → length hs ≤ 4 → T (different hs) → T (all E hs) → T (all (prop ts) hs)
+            → Members ts tr E (premisesAt tr hs)
         members-is hs l k d a b =
             let rows = premises-rows tr hs in
-            let into : (p : Premise) → List·Memᴰ p (premisesAt tr hs) → List·Memᴰ (p .row) hs = λ p m. subst (List·Memᴰ (p .row)) rows (Memᴰ·map rowOf m) in
+            let into : (p : Premise) → List·Memᴰ p (premisesAt tr hs) → List·Memᴰ (p .row) hs =
+            λ p m. subst (List·Memᴰ (p .row)) rows (Memᴰ·map rowOf m) in
             let n : length (premisesAt tr hs) ≡ length hs = length-map hs (λ p. record { row = p; value = valueAt tr p }) in
             record {
               several = omega arith;
@@ -251,7 +253,13 @@ module _ (ts : List ℕ) where
               boolean = λ p m. eqb→eq _ _ (all-at (prop ts) hs b (into p m));
             }
 
-        learn-at : (t m : ℕ) (hs : List ℕ) → t < termRows ts → 2 ≤ length hs → length hs ≤ 4 → steps.learn ts tr E t m hs ≡ answerOf r → Transition ts (conflict tr E) (learn t m hs) r
+        -- from the members hs to the clause t on the trail kept to m, whose level is n
+        abbrev Learned : ℕ → ℕ → List ℕ → ℕ → Type 0
+        Learned t m hs n =
+            Transition ts (conflict tr E) (learn t m hs) (next (searching (justifiedAt t (clauseValue ts t) n (without E hs) ∷ keptTo m tr)))
+
+        learn-at : (t m : ℕ) (hs : List ℕ) → t < termRows ts → 2 ≤ length hs → length hs ≤ 4 → steps.learn ts tr E t m hs ≡ answerOf r
+            → Transition ts (conflict tr E) (learn t m hs) r
         unfolding steps.learn steps.learnRefusal
         learn-at t m hs l two four h =
             let y = answer-ok _ _ r h in
@@ -271,10 +279,10 @@ module _ (ts : List ℕ) where
             let g : levelOf (keptTo m tr) S ≡ levelOf tr S = level-kept m tr S low in
             let off = off-is tr t (d .0) in
             settle _ r (y .1)
-            (subst (λ n. Transition ts (conflict tr E) (learn t m hs) (next (searching (justifiedAt t (clauseValue ts t) n S ∷ keptTo m tr)))) (sym g)
-            (subst (λ qs. levelOf tr (without E qs) ≤ m → m < levelOf tr (has qs)
-            → Transition ts (conflict tr E) (learn t m qs) (next (searching (justifiedAt t (clauseValue ts t) (levelOf tr (without E qs)) (without E qs) ∷ keptTo m tr)))) (premises-rows tr hs)
-            (λ i j. LearnBackjump M l form (search) (level-is tr (without E (map rowOf H))) i (level-is tr (has (map rowOf H))) j (restricted-is m tr)) low high))
+            (subst (Learned t m hs) (sym g)
+            (subst (λ qs. levelOf tr (without E qs) ≤ m → m < levelOf tr (has qs) → Learned t m qs (levelOf tr (without E qs))) (premises-rows tr hs)
+            (λ i j. let qs = map rowOf H in LearnBackjump M l form (search) (level-is tr (without E qs)) i (level-is tr (has qs)) j (restricted-is m tr))
+            low high))
 
         at-entry : (P : ℕ → Type 0) (l : ℕ) → E l ≡ true → ((e : Entry) → e ∈ tr → P (e .term)) → P l
         at-entry P l m f = let y = entry-in tr l (true-T _ (I l m)) in subst P (y .1) (f (entry tr l) (y .0))

@@ -6,7 +6,6 @@ use native.Mathlib.Omega.{arith}
 use lib.ListN.{length, getD, length-map}
 use Rattle.calculus.specs.declared.Step.{Step}
 use Rattle.calculus.specs.declared.Kind.{Kind}
-use Rattle.calculus.specs.declared.Kind.the-variants as kinds
 use Rattle.calculus.specs.declared.Premise.{Premise}
 use Rattle.calculus.specs.declared.Rule.{Rule}
 use Rattle.calculus.specs.Lists.{has}
@@ -136,7 +135,6 @@ module _ (ts : List ℕ) (short : termRows ts ≤ 256) where
       let y = write 6 blank (l .term) blank (k .term ∷ []) (omega arith) (omega arith) (omega arith) (omega arith) (omega arith)
       (λ p m. let q = List·Memᴰ·eq-of-singleton m in omega arith) in
       (y .row, y .sheet, (y .cols, y .rule, y .value))
-
   row-of h w (LearnBackjump {tr} {H = H} {t = t} {m = m} M b form a z low y high r) =
       let R = h .wellFormed .0 in
       let n = length-map H rowOf in

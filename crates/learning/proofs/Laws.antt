@@ -11,7 +11,7 @@ use Rattle.calculus.specs.Lists.{all, has}
 use Rattle.calculus.specs.Numbers.{unless}
 use Rattle.calculus.specs.Terms.{prop, filled}
 use Rattle.calculus.specs.Clauses.{different, isClause, clauseValue, clausal}
-use Rattle.calculus.specs.Trail.{Set, Trail, without, on, premisesAt, levelOf, keptTo}
+use Rattle.calculus.specs.Trail.{Set, Trail, without, on, premisesAt, levelOf}
 use Rattle.calculus.specs.Steps as calculus
 use Rattle.calculus.specs.Steps.{premiseCells, premises, learnRefusal}
 use Rattle.calculus.specs.WellFormed.{Within}
@@ -27,7 +27,7 @@ use Rattle.state.specs.States.{Answers}
 use Rattle.state.proofs.States.{refused-by, passed-by}
 use Rattle.state.proofs.Tests.{told, told-not, told-yes, past, stops}
 use Rattle.premises.specs.Columns.{Premised}
-use Rattle.conflicts.specs.Conflicts.{Found, inSearch}
+use Rattle.conflicts.specs.Conflicts.{inSearch}
 use Rattle.conflicts.proofs.Laws.{found, search-on}
 use Rattle.learning.specs.Learns.{Members, ToLearn}
 

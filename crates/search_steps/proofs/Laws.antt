@@ -1,24 +1,17 @@
 -- What a rule answers, and the level of a clash.
 use mathlib.Core.Path.{_≡_, refl, sym, _∙_}
 use mathlib.Core.Bool.{Bool, true, false}
-use mathlib.Core.List.{List, _∷_}
+use mathlib.Core.List.{List}
 use Prim.Native.Nat.{ℕ, max}
 use native.Mathlib.Omega.{arith}
-use lib.Dec.{eqb}
 use Rattle.calculus.specs.declared.Fit.{Fit}
 use Rattle.calculus.specs.declared.Fit.the-variants.{Fits, Unfit}
 use Rattle.calculus.specs.declared.Rule.{Rule}
 use Rattle.calculus.specs.declared.Step.{Step}
 use Rattle.calculus.specs.Lists.{has}
-use Rattle.calculus.specs.Sheets.{blank}
-use Rattle.calculus.specs.Terms.{filled}
 use Rattle.calculus.specs.Trail.{Trail, on, levelAt, levelOf, premisesAt}
-use Rattle.calculus.specs.WellFormed.{Distinct}
 use Rattle.calculus.specs.Rules.{fits, fitOf, ruleOf}
 use Rattle.calculus.specs.Steps.{premises, clashSet}
-use Rattle.calculus.proofs.Entries.{level-empty}
-use Rattle.calculus.proofs.Facts.{both-true}
-use Rattle.calculus.proofs.Forms.{all-filled}
 use Rattle.calculus.proofs.WellFormed.{level-more}
 use Rattle.rule_claims.specs.declared.Claim.{Claim}
 use Rattle.rule_claims.specs.Claims.{premisesOf}

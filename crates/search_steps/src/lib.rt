@@ -71,7 +71,11 @@ fn inference_refusal(terms: &[u16], work: &[u64], w: usize, n: usize, count: usi
     if !premises::all_on(work, w, n, count, x) {
         return 12;
     }
-    let fit = rules::test(terms, kinds::rule_of(x.rule), premises::claim(work, w, n, count, x));
+    let fit = rules::test(
+        terms,
+        kinds::rule_of(x.rule),
+        premises::claim(work, w, n, count, x),
+    );
     let Fit::Fits = fit else {
         return 13;
     };

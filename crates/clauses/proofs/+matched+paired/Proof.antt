@@ -1,6 +1,6 @@
 -- The cycle of calls {matched, paired}. `paired` calls `matched` with the premises that it has, and `matched` calls `paired` with one fewer, so that the
 -- measures are twice their number, and one more for `paired`.
-use mathlib.Core.Path.{_≡_, refl, sym, ap, _∙_}
+use mathlib.Core.Path.{sym, ap, _∙_}
 use mathlib.Core.List.{[]}
 use Prim.Native.Nat.{ℕ, _+_, _<_}
 use native.Mathlib.Omega.{arith}

@@ -4,7 +4,7 @@ use mathlib.Core.Path.{refl, sym}
 use mathlib.Core.Bool.{true}
 use native.Mathlib.Omega.{arith}
 use borrow.Author.Needs.{needs}
-use borrow.Author.Tests.{ltb-true, not-true, not-false}
+use borrow.Author.Tests.{ltb-true}
 use lib.Dec.{ltb}
 use lib.ListN.{length}
 use Rattle.calculus.specs.Lists.{all}
@@ -16,7 +16,7 @@ use Rattle.conflicts.proofs.all_in_conflict.Statement.{statement}
 use Rattle.conflicts.proofs.all_in_conflict.Tie as tie
 
 abbrev Inv-loop : tie.InvT-loop
-Inv-loop work w n ps k₀ k-end k =     Passed (conflictIn w n work) (all (conflictIn w n work) (filled ps)) ps k × Passed (λ p. ltb p n) true ps k
+Inv-loop work w n ps k₀ k-end k = Passed (conflictIn w n work) (all (conflictIn w n work) (filled ps)) ps k × Passed (λ p. ltb p n) true ps k
 
 abbrev μ-loop : tie.MeasureT-loop
 μ-loop work w n ps k₀ k-end k = length ps - k

@@ -1,7 +1,6 @@
 -- `learning::learn` meets its contract.
 use mathlib.Core.Path.{refl}
 use borrow.Author.Needs.{needs}
-use Rattle.calculus.specs.Steps.{premises}
 use Rattle.conflicts.proofs.Laws.{found}
 use Rattle.learning.proofs.Laws.{learn-refused, learn-back, learn-done}
 use Rattle.learning.proofs.learn.Statement.{statement}

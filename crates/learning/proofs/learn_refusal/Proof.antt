@@ -1,6 +1,5 @@
 -- `learning::learn_refusal` meets its contract.
 use borrow.Author.Needs.{needs}
-use mathlib.Core.Path.{sym}
 use Rattle.learning.proofs.Laws.{members, premised, learn-17, learn-22, learn-25, learn-14, learn-21, learn-0}
 use Rattle.learning.proofs.learn_refusal.Statement.{statement}
 use Rattle.learning.proofs.learn_refusal.Tie as tie
