@@ -180,6 +180,8 @@ fn table() {
     run(b"clash at level 0/2150/29512....");
     run(b"fail above level 0/50/0.21.....79512....");
     run(b"fail after a jump/5060/0.21.....29512....5.2......75216....29512....");
+    run(b"learn what is there/71/0.20.....0.50.....287025...8.7025...");
+    run(b"learn by one member/71/0.20.....0.50.....287025...8.702....");
 }
 
 // ---- ceilings
