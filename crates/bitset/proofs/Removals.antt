@@ -7,9 +7,13 @@ use mathlib.Core.List.{List}
 use lib.ListN.{length, getD, drop}
 use Rattle.calculus.specs.Sheets.{blank}
 use Rattle.calculus.specs.Terms.{filled}
-use Rattle.calculus.specs.Trail.{Set, remove, without}
+use Rattle.calculus.specs.Trail.{Set, empty, remove, without}
 use Rattle.calculus.proofs.Walks.{left-blank, left-more, left-none}
 use Rattle.calculus.proofs.Trails.{without-none, without-more}
+
+-- nothing is removed from nothing
+pub empty-rest : (s : Set) (ps : List ℕ) → s ≡ empty → s ≡ without s ps
+empty-rest s ps e = e ∙ sym (ap (λ (r : Set). without r ps) e)
 
 -- after the first k of ps, none of them blank, r is left of s: the others are still to be removed
 pub record Removing (s : Set) (ps : List ℕ) (k : ℕ) (r : Set) : Type 0 where

@@ -77,10 +77,13 @@ pub fn word_without(k: usize, x: u64, a: Row) -> u64
     x
 }
 
-// Word k of a set, which is x, without the rows in ps before the first blank, one after the other.
+// Word k of a set, which is x, without the rows in ps before the first blank, one after the other. Most words have no member, and nothing is removed there.
 pub fn word_without_all(k: usize, x: u64, ps: &[u16]) -> u64
     ensures { λ r. ⌜ wordOf k r ≡ without (wordOf k x) (filled (now (ps .entry))) ⌝ }
 {
+    if x == 0 {
+        return x;
+    }
     let mut y = x;
     for i in 0..ps.len() {
         let p = ps[i];

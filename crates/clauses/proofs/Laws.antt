@@ -1,9 +1,10 @@
--- One of at most four arguments taken out, by cells; premises and arguments in pairs, one pair more.
+-- One of at most four arguments taken out, cell by cell; premises and arguments in pairs, one pair more.
 use mathlib.Core.Path.{_≡_, refl, sym, ap, _∙_}
 use mathlib.Core.Bool.{Bool, true, false, not, _&&_, _||_, cond, or-false}
 use mathlib.Core.List.{List, [], _∷_}
 use Prim.Native.Nat.{ℕ, suc}
 use lib.Dec.{eqb}
+use borrow.Author.Tests.{eq-eqb, ne-eqb}
 use lib.ListN.{length}
 use Rattle.calculus.specs.declared.Term.{Term}
 use Rattle.calculus.specs.Sheets.{blank}
@@ -12,61 +13,116 @@ use Rattle.calculus.specs.Clauses.{takingOne, literal, paired}
 use Rattle.rule_claims.specs.declared.Claim.{Claim}
 use Rattle.rule_claims.specs.Claims.{gap, stated, premisesOf, afterFirst}
 
-module _ (f : ℕ → List ℕ → Bool) (a b c d : ℕ) where
-  -- one of the cells that are filled, with the other cells
-  abbrev byCells : Bool → Bool → Bool → Bool → Bool
-  byCells a′ b′ c′ d′ =
-      not (eqb a blank) && (a′ || (not (eqb b blank) && (b′ || (not (eqb c blank) && (c′ || (not (eqb d blank) && d′))))))
+-- ---- one cell more in front, where one of the filled cells is taken out
 
-  -- three cells, with whether each is blank
-  abbrev cells : Bool → ℕ → Bool → ℕ → Bool → ℕ → List ℕ
-  cells g x h y k z = cond g [] (x ∷ cond h [] (y ∷ cond k [] (z ∷ [])))
+front : {x : ℕ} (xs : List ℕ) → (x ≡ blank → ⊥) → filled (x ∷ xs) ≡ x ∷ filled xs
+front xs h = rw (ne-eqb _ blank h)
 
-  taking-cells : byCells (f a (filled (b ∷ c ∷ d ∷ []))) (f b (filled (a ∷ c ∷ d ∷ []))) (f c (filled (a ∷ b ∷ d ∷ []))) (f d (filled (a ∷ b ∷ c ∷ [])))
-      ≡ takingOne (filled (a ∷ b ∷ c ∷ d ∷ [])) f
-  taking-cells = go (eqb a blank) (eqb b blank) (eqb c blank) (eqb d blank)
-    where
-      go : (g h k l : Bool)
-          → not g
-          && (f a (cells h b k c l d)
-          || (not h && (f b (cells g a k c l d) || (not k && (f c (cells g a h b l d) || (not l && f d (cells g a h b k c)))))))
-          ≡ takingOne (cond g [] (a ∷ cells h b k c l d)) f
-      go true h k l = refl
-      go false true k l = refl
-      go false false true l = refl
-      go false false false true = refl
-      go false false false false =
-          ap (λ x. f a (b ∷ c ∷ d ∷ []) || (f b (a ∷ c ∷ d ∷ []) || (f c (a ∷ b ∷ d ∷ []) || x))) (sym (or-false (f d (a ∷ b ∷ c ∷ []))))
+module _ (f : ℕ → List ℕ → Bool) (x : ℕ) (xs : List ℕ) where
+  blank-first : x ≡ blank → false ≡ takingOne (filled (x ∷ xs)) f
+  blank-first e = rw (eq-eqb x blank e)
 
-  pub taking-four : {a′ b′ c′ d′ : Bool} → a′ ≡ f a (filled (b ∷ c ∷ d ∷ [])) → b′ ≡ f b (filled (a ∷ c ∷ d ∷ []))
-      → c′ ≡ f c (filled (a ∷ b ∷ d ∷ [])) → d′ ≡ f d (filled (a ∷ b ∷ c ∷ [])) → byCells a′ b′ c′ d′ ≡ takingOne (filled (a ∷ b ∷ c ∷ d ∷ [])) f
-  taking-four p q r s = (λ i. byCells (p i) (q i) (r i) (s i)) ∙ taking-cells
+  taken-first : (x ≡ blank → ⊥) → f x (filled xs) ≡ true → true ≡ takingOne (filled (x ∷ xs)) f
+  taken-first h e = rw (ne-eqb x blank h, e)
+
+  past-first : (x ≡ blank → ⊥) → f x (filled xs) ≡ false → takingOne (filled xs) (λ y rest. f y (x ∷ rest)) ≡ takingOne (filled (x ∷ xs)) f
+  past-first h e = rw (ne-eqb x blank h, e)
 
 -- ---- premises and arguments in pairs
 
-module _ (ts : List ℕ) (v : ℕ) (x : Claim) where
-  -- there is a first premise, and it is one of those that are left
-  module _ (there : gap (x .p) ≡ false) where
-    first-stated : premisesOf x ≡ x .p ∷ premisesOf (afterFirst x)
-    unfolding stated
-    first-stated = rw there
+-- no premise is paired with no argument
+pub paired-none : (ts : List ℕ) (v : ℕ) (x : Claim) → gap (x .p) ≡ true → (e : Term) → eqb (e .a) blank ≡ paired ts v (premisesOf x) (argsOf e)
+unfolding paired stated
+paired-none ts v x none e = rw none (go (eqb (e .a) blank))
+  where
+    go : (b : Bool) → b ≡ paired ts v [] (cond b [] (e .a ∷ filled (e .b ∷ e .c ∷ e .d ∷ [])))
+    go true = refl
+    go false = refl
 
-    pub one-fewer : suc (length (premisesOf (afterFirst x))) ≡ length (premisesOf x)
-    one-fewer = sym (ap length first-stated)
+-- there is a first premise: it and those that are left
+first-stated : (x : Claim) → gap (x .p) ≡ false → premisesOf x ≡ x .p ∷ premisesOf (afterFirst x)
+unfolding stated
+first-stated x there = rw there
 
-    -- the first premise appears as y, and the others are paired with the rest
-    abbrev pub firstAs : ℕ → List ℕ → Bool
-    firstAs y rest = literal ts v (x .p) y && paired ts v (premisesOf (afterFirst x)) rest
+pub one-fewer : (x : Claim) → gap (x .p) ≡ false → suc (length (premisesOf (afterFirst x))) ≡ length (premisesOf x)
+one-fewer x there = sym (ap length (first-stated x there))
 
-    pub paired-first : (xs : List ℕ) → takingOne xs firstAs ≡ paired ts v (premisesOf x) xs
-    unfolding paired
-    paired-first xs = rw first-stated
+module _ (ts : List ℕ) (v : ℕ) (x : Claim) (e : Term) (x-in : x .p .row ≡ blank → ⊥) where
+  -- the first premise appears as y, and the others are paired with the rest
+  abbrev pair : ℕ → List ℕ → Bool
+  pair y rest = literal ts v (x .p) y && paired ts v (premisesOf (afterFirst x)) rest
 
-  -- no premise is paired with no argument
-  pub paired-none : gap (x .p) ≡ true → (e : Term) → eqb (e .a) blank ≡ paired ts v (premisesOf x) (argsOf e)
-  unfolding paired stated
-  paired-none none e = rw none (go (eqb (e .a) blank))
-    where
-      go : (b : Bool) → b ≡ paired ts v [] (cond b [] (e .a ∷ filled (e .b ∷ e .c ∷ e .d ∷ [])))
-      go true = refl
-      go false = refl
+  abbrev a : ℕ
+  a = e .a
+
+  abbrev b : ℕ
+  b = e .b
+
+  abbrev c : ℕ
+  c = e .c
+
+  abbrev d : ℕ
+  d = e .d
+
+  abbrev found : Bool
+  found = paired ts v (premisesOf x) (argsOf e)
+
+  by-first : takingOne (argsOf e) pair ≡ found
+  unfolding paired
+  by-first = rw (first-stated x (ne-eqb _ blank x-in))
+
+  -- one argument after the other, up to the first blank
+  pub none-a : a ≡ blank → false ≡ found
+  none-a h = blank-first pair a (b ∷ c ∷ d ∷ []) h ∙ by-first
+
+  module _ (a-in : a ≡ blank → ⊥) (ta : Term) (ta-is : argsOf ta ≡ filled (b ∷ c ∷ d ∷ [])) {ra : Bool} (ra-is : ra ≡ pair a (argsOf ta)) where
+    at-a : {v : Bool} → ra ≡ v → pair a (filled (b ∷ c ∷ d ∷ [])) ≡ v
+    at-a h = sym (ra-is ∙ ap (pair a) ta-is) ∙ h
+
+    pub takes-a : ra ≡ true → true ≡ found
+    takes-a h = taken-first pair a (b ∷ c ∷ d ∷ []) a-in (at-a h) ∙ by-first
+
+    module _ (a-no : ra ≡ false) where
+      past-a : takingOne (filled (b ∷ c ∷ d ∷ [])) (λ y rest. pair y (a ∷ rest)) ≡ found
+      past-a = past-first pair a (b ∷ c ∷ d ∷ []) a-in (at-a a-no) ∙ by-first
+
+      pub none-b : b ≡ blank → false ≡ found
+      none-b h = blank-first _ b (c ∷ d ∷ []) h ∙ past-a
+
+      module _ (b-in : b ≡ blank → ⊥) (tb : Term) (tb-is : argsOf tb ≡ filled (a ∷ c ∷ d ∷ [])) {rb : Bool} (rb-is : rb ≡ pair b (argsOf tb)) where
+        at-b : {v : Bool} → rb ≡ v → pair b (a ∷ filled (c ∷ d ∷ [])) ≡ v
+        at-b h = sym (rb-is ∙ ap (pair b) (tb-is ∙ front (c ∷ d ∷ []) a-in)) ∙ h
+
+        pub takes-b : rb ≡ true → true ≡ found
+        takes-b h = taken-first (λ y rest. pair y (a ∷ rest)) b (c ∷ d ∷ []) b-in (at-b h) ∙ past-a
+
+        module _ (b-no : rb ≡ false) where
+          past-b : takingOne (filled (c ∷ d ∷ [])) (λ y rest. pair y (a ∷ b ∷ rest)) ≡ found
+          past-b = past-first (λ y rest. pair y (a ∷ rest)) b (c ∷ d ∷ []) b-in (at-b b-no) ∙ past-a
+
+          pub none-c : c ≡ blank → false ≡ found
+          none-c h = blank-first _ c (d ∷ []) h ∙ past-b
+
+          module _ (c-in : c ≡ blank → ⊥) (tc : Term) (tc-is : argsOf tc ≡ filled (a ∷ b ∷ d ∷ [])) {rc : Bool} (rc-is : rc ≡ pair c (argsOf tc)) where
+            -- the cells before the third
+            two : (xs : List ℕ) → filled (a ∷ b ∷ xs) ≡ a ∷ b ∷ filled xs
+            two xs = front (b ∷ xs) a-in ∙ ap (λ (l : List ℕ). a ∷ l) (front xs b-in)
+
+            at-c : {v : Bool} → rc ≡ v → pair c (a ∷ b ∷ filled (d ∷ [])) ≡ v
+            at-c h = sym (rc-is ∙ ap (pair c) (tc-is ∙ two (d ∷ []))) ∙ h
+
+            pub takes-c : rc ≡ true → true ≡ found
+            takes-c h = taken-first (λ y rest. pair y (a ∷ b ∷ rest)) c (d ∷ []) c-in (at-c h) ∙ past-b
+
+            module _ (c-no : rc ≡ false) where
+              past-c : takingOne (filled (d ∷ [])) (λ y rest. pair y (a ∷ b ∷ c ∷ rest)) ≡ found
+              past-c = past-first (λ y rest. pair y (a ∷ b ∷ rest)) c (d ∷ []) c-in (at-c c-no) ∙ past-b
+
+              pub none-d : d ≡ blank → false ≡ found
+              none-d h = blank-first _ d [] h ∙ past-c
+
+              pub last-d : (d ≡ blank → ⊥) → (td : Term) → argsOf td ≡ filled (a ∷ b ∷ c ∷ []) → {rd : Bool} → rd ≡ pair d (argsOf td) → rd ≡ found
+              last-d d-in td td-is rd-is =
+                  let three : filled (a ∷ b ∷ c ∷ []) ≡ a ∷ b ∷ c ∷ [] = two (c ∷ []) ∙ ap (λ (l : List ℕ). a ∷ b ∷ l) (front [] c-in) in
+                  rd-is ∙ ap (pair d) (td-is ∙ three) ∙ sym (or-false (pair d (a ∷ b ∷ c ∷ [])))
+                  ∙ ap (λ (l : List ℕ). takingOne l (λ y rest. pair y (a ∷ b ∷ c ∷ rest))) (sym (front [] d-in)) ∙ past-c

@@ -133,12 +133,28 @@ fn paired(terms: &[u16], v: u16, x: Claim, e: Term) -> bool
     if x.p.row == BLANK {
         return e.a == BLANK;
     }
-    let a = matched(terms, v, x, e.a, three(e.b, e.c, e.d));
-    let b = matched(terms, v, x, e.b, three(e.a, e.c, e.d));
-    let c = matched(terms, v, x, e.c, three(e.a, e.b, e.d));
-    let d = matched(terms, v, x, e.d, three(e.a, e.b, e.c));
-    let late = !(e.c == BLANK) & (c | (!(e.d == BLANK) & d));
-    !(e.a == BLANK) & (a | (!(e.b == BLANK) & (b | late)))
+    if e.a == BLANK {
+        return false;
+    }
+    if matched(terms, v, x, e.a, three(e.b, e.c, e.d)) {
+        return true;
+    }
+    if e.b == BLANK {
+        return false;
+    }
+    if matched(terms, v, x, e.b, three(e.a, e.c, e.d)) {
+        return true;
+    }
+    if e.c == BLANK {
+        return false;
+    }
+    if matched(terms, v, x, e.c, three(e.a, e.b, e.d)) {
+        return true;
+    }
+    if e.d == BLANK {
+        return false;
+    }
+    matched(terms, v, x, e.d, three(e.a, e.b, e.c))
 }
 
 // Whether the claim's term is a clausal form of its premises.

@@ -1,7 +1,6 @@
 -- The cycle of calls {matched, paired}. `paired` calls `matched` with the premises that it has, and `matched` calls `paired` with one fewer, so that the
 -- measures are twice their number, and one more for `paired`.
-use mathlib.Core.Path.{sym, ap, _∙_}
-use mathlib.Core.List.{[]}
+use mathlib.Core.Path.{sym, _∙_}
 use Prim.Native.Nat.{ℕ, _+_, _<_}
 use native.Mathlib.Omega.{arith}
 use lib.ListN.{length}
@@ -12,7 +11,7 @@ use borrow.Fn.PlainCycle.{Measures, is, falls, and}
 use Rattle.rule_claims.specs.declared.Claim.{Claim}
 use Rattle.rule_claims.specs.Claims.{premisesOf}
 use Rattle.rule_claims.proofs.after_first.Reads as after-first-reads
-use Rattle.clauses.proofs.Laws.{taking-four, one-fewer, paired-first, paired-none, firstAs}
+use Rattle.clauses.proofs.Laws.{one-fewer, paired-none, none-a, takes-a, none-b, takes-b, none-c, takes-c, none-d, last-d}
 use Rattle.clauses.proofs.matched.Reads as matched
 use Rattle.clauses.proofs.matched.Kinds as matched-kinds
 use Rattle.clauses.proofs.+matched+paired.Lts-matched as matched-lts
@@ -65,7 +64,7 @@ matched-after-first-requires t c κs = search needs
 matched-paired-requires : (t : ℕ) → matched-lts.Need-paired-requires (matched-calls t) (matched-at t) matched.Post
 matched-paired-requires t c κs =
     let start = c .before .before .before .before in
-    let fewer = one-fewer [] 0 (start .args .x) (start .pre .1) in
+    let fewer = one-fewer (start .args .x) (start .pre .1) in
     (rw (c .after-first .ensures) (omega (arith, fewer, start .pre .0)), tt)
 
 matched-returns : (t : ℕ) → matched-lts.Need-returns (matched-calls t) (matched-at t) matched.Post
@@ -80,58 +79,111 @@ matched-returns-2 t c = rw (sym (c .before .literal .ensures) ∙ c .if1 .left)
 -- ---- paired
 
 paired-returns : (t : ℕ) → paired-lts.Need-returns (paired-calls t) (paired-at t) paired.Post
-paired-returns t c = let start = c .before .before .before .before in paired-none _ _ (start .args .x) (eq-eqb _ _ (c .before .if1 .taken)) (start .args .e)
+paired-returns t c =
+    let start = c .before .before .before .before in
+    paired-none _ _ (start .args .x) (eq-eqb _ _ (c .before .if1 .taken)) (start .args .e)
+
+paired-returns-2 : (t : ℕ) → paired-lts.Need-returns-2 (paired-calls t) (paired-at t) paired.Post
+paired-returns-2 t c = search none-a
 
 paired-three-requires : (t : ℕ) → paired-lts.Need-three-requires (paired-calls t) (paired-at t) paired.Post
 paired-three-requires t c κs = search needs
 
 paired-matched-requires : (t : ℕ) → paired-lts.Need-matched-requires (paired-calls t) (paired-at t) paired.Post
-paired-matched-requires t c κs =
-    let tested = c .before in
+paired-matched-requires t c κs = 
+    let tested = c .before .before .before in
     (omega (arith, tested .before .before .before .pre .0), ne-eqb _ _ (tested .if1 .left))
+
+paired-returns-3 : (t : ℕ) → paired-lts.Need-returns-3 (paired-calls t) (paired-at t) paired.Post
+paired-returns-3 t c = search takes-a
+
+paired-returns-4 : (t : ℕ) → paired-lts.Need-returns-4 (paired-calls t) (paired-at t) paired.Post
+paired-returns-4 t c = search none-b
 
 paired-three-requires-2 : (t : ℕ) → paired-lts.Need-three-requires-2 (paired-calls t) (paired-at t) paired.Post
 paired-three-requires-2 t c κs = search needs
 
 paired-matched-requires-2 : (t : ℕ) → paired-lts.Need-matched-requires-2 (paired-calls t) (paired-at t) paired.Post
-paired-matched-requires-2 t c κs =
-    let tested = c .before .before .before in
+paired-matched-requires-2 t c κs = 
+    let tested = c .before .before .before .before .before .before .before .before in
     (omega (arith, tested .before .before .before .pre .0), ne-eqb _ _ (tested .if1 .left))
+
+paired-returns-5 : (t : ℕ) → paired-lts.Need-returns-5 (paired-calls t) (paired-at t) paired.Post
+paired-returns-5 t c = search takes-b
+
+paired-returns-6 : (t : ℕ) → paired-lts.Need-returns-6 (paired-calls t) (paired-at t) paired.Post
+paired-returns-6 t c = search none-c
 
 paired-three-requires-3 : (t : ℕ) → paired-lts.Need-three-requires-3 (paired-calls t) (paired-at t) paired.Post
 paired-three-requires-3 t c κs = search needs
 
 paired-matched-requires-3 : (t : ℕ) → paired-lts.Need-matched-requires-3 (paired-calls t) (paired-at t) paired.Post
-paired-matched-requires-3 t c κs =
-    let tested = c .before .before .before .before .before in
+paired-matched-requires-3 t c κs = 
+    let tested = c .before .before .before .before .before .before .before .before .before .before .before .before .before in
     (omega (arith, tested .before .before .before .pre .0), ne-eqb _ _ (tested .if1 .left))
+
+paired-returns-7 : (t : ℕ) → paired-lts.Need-returns-7 (paired-calls t) (paired-at t) paired.Post
+paired-returns-7 t c =
+    let third = c .before in
+    let filled-c = third .before .before in
+    let missed-b = filled-c .before .before in
+    let second = missed-b .before in
+    let filled-b = second .before .before in
+    let missed-a = filled-b .before .before in
+    let first = missed-a .before in
+    let filled-a = first .before .before in
+    let some = filled-a .before .before in
+    let start = some .before .before .before in
+    takes-c _ _ (start .args .x) (start .args .e) (some .if1 .left)
+    (filled-a .if2 .left) (first .before .three .result) (first .before .three .ensures) (first .matched .ensures) (missed-a .if3 .left)
+    (filled-b .if4 .left) (second .before .three2 .result) (second .before .three2 .ensures) (second .matched2 .ensures) (missed-b .if5 .left)
+    (filled-c .if6 .left) (third .before .three3 .result) (third .before .three3 .ensures) (third .matched3 .ensures) (c .if7 .taken)
+
+paired-returns-8 : (t : ℕ) → paired-lts.Need-returns-8 (paired-calls t) (paired-at t) paired.Post
+paired-returns-8 t c =
+    let missed-c = c .before .before in
+    let third = missed-c .before in
+    let filled-c = third .before .before in
+    let missed-b = filled-c .before .before in
+    let second = missed-b .before in
+    let filled-b = second .before .before in
+    let missed-a = filled-b .before .before in
+    let first = missed-a .before in
+    let filled-a = first .before .before in
+    let some = filled-a .before .before in
+    let start = some .before .before .before in
+    none-d _ _ (start .args .x) (start .args .e) (some .if1 .left)
+    (filled-a .if2 .left) (first .before .three .result) (first .before .three .ensures) (first .matched .ensures) (missed-a .if3 .left)
+    (filled-b .if4 .left) (second .before .three2 .result) (second .before .three2 .ensures) (second .matched2 .ensures) (missed-b .if5 .left)
+    (filled-c .if6 .left) (third .before .three3 .result) (third .before .three3 .ensures) (third .matched3 .ensures) (missed-c .if7 .left) (c .if8 .taken)
 
 paired-three-requires-4 : (t : ℕ) → paired-lts.Need-three-requires-4 (paired-calls t) (paired-at t) paired.Post
 paired-three-requires-4 t c κs = search needs
 
 paired-matched-requires-4 : (t : ℕ) → paired-lts.Need-matched-requires-4 (paired-calls t) (paired-at t) paired.Post
-paired-matched-requires-4 t c κs =
-    let tested = c .before .before .before .before .before .before .before in
+paired-matched-requires-4 t c κs = 
+    let tested = c .before .before .before .before .before .before .before .before .before .before .before .before .before .before .before .before .before .before in
     (omega (arith, tested .before .before .before .pre .0), ne-eqb _ _ (tested .if1 .left))
 
-paired-returns-2 : (t : ℕ) → paired-lts.Need-returns-2 (paired-calls t) (paired-at t) paired.Post
-paired-returns-2 t c =
-    let fourth = c .before .before .before .before in
-    let third = fourth .before .before in
-    let second = third .before .before in
-    let first = second .before .before in
-    let tested = first .before .before in
-    let start = tested .before .before .before in
-    let x = start .args .x in
-    let e = start .args .e in
-    let there = ne-eqb _ _ (tested .if1 .left) in
-    let pair = firstAs (start .args .terms .now) (start .args .v) x there in
-    taking-four pair (e .a) (e .b) (e .c) (e .d)
-    (first .matched .ensures ∙ ap (pair (e .a)) (first .before .three .ensures))
-    (second .matched2 .ensures ∙ ap (pair (e .b)) (second .before .three2 .ensures))
-    (third .matched3 .ensures ∙ ap (pair (e .c)) (third .before .three3 .ensures))
-    (fourth .matched4 .ensures ∙ ap (pair (e .d)) (fourth .before .three4 .ensures))
-    ∙ paired-first _ _ x there _
+paired-returns-9 : (t : ℕ) → paired-lts.Need-returns-9 (paired-calls t) (paired-at t) paired.Post
+paired-returns-9 t c =
+    let filled-d = c .before .before in
+    let missed-c = filled-d .before .before in
+    let third = missed-c .before in
+    let filled-c = third .before .before in
+    let missed-b = filled-c .before .before in
+    let second = missed-b .before in
+    let filled-b = second .before .before in
+    let missed-a = filled-b .before .before in
+    let first = missed-a .before in
+    let filled-a = first .before .before in
+    let some = filled-a .before .before in
+    let start = some .before .before .before in
+    last-d _ _ (start .args .x) (start .args .e) (some .if1 .left)
+    (filled-a .if2 .left) (first .before .three .result) (first .before .three .ensures) (first .matched .ensures) (missed-a .if3 .left)
+    (filled-b .if4 .left) (second .before .three2 .result) (second .before .three2 .ensures) (second .matched2 .ensures) (missed-b .if5 .left)
+    (filled-c .if6 .left) (third .before .three3 .result) (third .before .three3 .ensures) (third .matched3 .ensures) (missed-c .if7 .left)
+    (filled-d .if8 .left) (c .before .three4 .result) (c .before .three4 .ensures) (c .matched4 .ensures)
 
 pub +matched+paired-spec : {M : Type 1} → statement M
 +matched+paired-spec =
@@ -146,12 +198,19 @@ pub +matched+paired-spec : {M : Type 1} → statement M
     (λ t.
     paired-lts.spec (paired-calls t) (paired-at t) paired.Post
     (paired-returns t)
+    (paired-returns-2 t)
     (paired-three-requires t)
     (paired-matched-requires t)
+    (paired-returns-3 t)
+    (paired-returns-4 t)
     (paired-three-requires-2 t)
     (paired-matched-requires-2 t)
+    (paired-returns-5 t)
+    (paired-returns-6 t)
     (paired-three-requires-3 t)
     (paired-matched-requires-3 t)
+    (paired-returns-7 t)
+    (paired-returns-8 t)
     (paired-three-requires-4 t)
     (paired-matched-requires-4 t)
-    (paired-returns-2 t))
+    (paired-returns-9 t))
