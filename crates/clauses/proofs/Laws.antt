@@ -6,12 +6,13 @@ use Prim.Native.Nat.{ℕ, suc}
 use lib.Dec.{eqb}
 use borrow.Author.Tests.{eq-eqb, ne-eqb}
 use lib.ListN.{length}
-use Rattle.calculus.specs.declared.Term.{Term}
 use Rattle.calculus.specs.Sheets.{blank}
-use Rattle.calculus.specs.Terms.{filled, argsOf}
+use Rattle.calculus.specs.Terms.{filled}
 use Rattle.calculus.specs.Clauses.{takingOne, literal, paired}
-use Rattle.rule_claims.specs.declared.Claim.{Claim}
-use Rattle.rule_claims.specs.Claims.{gap, stated, premisesOf, afterFirst}
+use Rattle.rule_claims.specs.Claims.{gap, stated}
+use Rattle.clauses.specs.declared.Members.{Members}
+use Rattle.clauses.specs.declared.Left.{Left}
+use Rattle.clauses.specs.Pairs.{membersOf, othersOf, leftOf}
 
 -- ---- one cell more in front, where one of the filled cells is taken out
 
@@ -31,26 +32,26 @@ module _ (f : ℕ → List ℕ → Bool) (x : ℕ) (xs : List ℕ) where
 -- ---- premises and arguments in pairs
 
 -- no premise is paired with no argument
-pub paired-none : (ts : List ℕ) (v : ℕ) (x : Claim) → gap (x .p) ≡ true → (e : Term) → eqb (e .a) blank ≡ paired ts v (premisesOf x) (argsOf e)
+pub paired-none : (ts : List ℕ) (v : ℕ) (h : Members) → gap (h .p) ≡ true → (e : Left) → eqb (e .a) blank ≡ paired ts v (membersOf h) (leftOf e)
 unfolding paired stated
-paired-none ts v x none e = rw none (go (eqb (e .a) blank))
+paired-none ts v h none e = rw none (go (eqb (e .a) blank))
   where
     go : (b : Bool) → b ≡ paired ts v [] (cond b [] (e .a ∷ filled (e .b ∷ e .c ∷ e .d ∷ [])))
     go true = refl
     go false = refl
 
 -- there is a first premise: it and those that are left
-first-stated : (x : Claim) → gap (x .p) ≡ false → premisesOf x ≡ x .p ∷ premisesOf (afterFirst x)
+first-stated : (h : Members) → gap (h .p) ≡ false → membersOf h ≡ h .p ∷ membersOf (othersOf h)
 unfolding stated
-first-stated x there = rw there
+first-stated h there = rw there
 
-pub one-fewer : (x : Claim) → gap (x .p) ≡ false → suc (length (premisesOf (afterFirst x))) ≡ length (premisesOf x)
-one-fewer x there = sym (ap length (first-stated x there))
+pub one-fewer : (h : Members) → gap (h .p) ≡ false → suc (length (membersOf (othersOf h))) ≡ length (membersOf h)
+one-fewer h there = sym (ap length (first-stated h there))
 
-module _ (ts : List ℕ) (v : ℕ) (x : Claim) (e : Term) (x-in : x .p .row ≡ blank → ⊥) where
+module _ (ts : List ℕ) (v : ℕ) (h : Members) (e : Left) (h-in : h .p .row ≡ blank → ⊥) where
   -- the first premise appears as y, and the others are paired with the rest
   abbrev pair : ℕ → List ℕ → Bool
-  pair y rest = literal ts v (x .p) y && paired ts v (premisesOf (afterFirst x)) rest
+  pair y rest = literal ts v (h .p) y && paired ts v (membersOf (othersOf h)) rest
 
   abbrev a : ℕ
   a = e .a
@@ -65,17 +66,17 @@ module _ (ts : List ℕ) (v : ℕ) (x : Claim) (e : Term) (x-in : x .p .row ≡ 
   d = e .d
 
   abbrev found : Bool
-  found = paired ts v (premisesOf x) (argsOf e)
+  found = paired ts v (membersOf h) (leftOf e)
 
-  by-first : takingOne (argsOf e) pair ≡ found
+  by-first : takingOne (leftOf e) pair ≡ found
   unfolding paired
-  by-first = rw (first-stated x (ne-eqb _ blank x-in))
+  by-first = rw (first-stated h (ne-eqb _ blank h-in))
 
   -- one argument after the other, up to the first blank
   pub none-a : a ≡ blank → false ≡ found
   none-a h = blank-first pair a (b ∷ c ∷ d ∷ []) h ∙ by-first
 
-  module _ (a-in : a ≡ blank → ⊥) (ta : Term) (ta-is : argsOf ta ≡ filled (b ∷ c ∷ d ∷ [])) {ra : Bool} (ra-is : ra ≡ pair a (argsOf ta)) where
+  module _ (a-in : a ≡ blank → ⊥) (ta : Left) (ta-is : leftOf ta ≡ filled (b ∷ c ∷ d ∷ [])) {ra : Bool} (ra-is : ra ≡ pair a (leftOf ta)) where
     at-a : {v : Bool} → ra ≡ v → pair a (filled (b ∷ c ∷ d ∷ [])) ≡ v
     at-a h = sym (ra-is ∙ ap (pair a) ta-is) ∙ h
 
@@ -89,7 +90,7 @@ module _ (ts : List ℕ) (v : ℕ) (x : Claim) (e : Term) (x-in : x .p .row ≡ 
       pub none-b : b ≡ blank → false ≡ found
       none-b h = blank-first _ b (c ∷ d ∷ []) h ∙ past-a
 
-      module _ (b-in : b ≡ blank → ⊥) (tb : Term) (tb-is : argsOf tb ≡ filled (a ∷ c ∷ d ∷ [])) {rb : Bool} (rb-is : rb ≡ pair b (argsOf tb)) where
+      module _ (b-in : b ≡ blank → ⊥) (tb : Left) (tb-is : leftOf tb ≡ filled (a ∷ c ∷ d ∷ [])) {rb : Bool} (rb-is : rb ≡ pair b (leftOf tb)) where
         at-b : {v : Bool} → rb ≡ v → pair b (a ∷ filled (c ∷ d ∷ [])) ≡ v
         at-b h = sym (rb-is ∙ ap (pair b) (tb-is ∙ front (c ∷ d ∷ []) a-in)) ∙ h
 
@@ -103,7 +104,7 @@ module _ (ts : List ℕ) (v : ℕ) (x : Claim) (e : Term) (x-in : x .p .row ≡ 
           pub none-c : c ≡ blank → false ≡ found
           none-c h = blank-first _ c (d ∷ []) h ∙ past-b
 
-          module _ (c-in : c ≡ blank → ⊥) (tc : Term) (tc-is : argsOf tc ≡ filled (a ∷ b ∷ d ∷ [])) {rc : Bool} (rc-is : rc ≡ pair c (argsOf tc)) where
+          module _ (c-in : c ≡ blank → ⊥) (tc : Left) (tc-is : leftOf tc ≡ filled (a ∷ b ∷ d ∷ [])) {rc : Bool} (rc-is : rc ≡ pair c (leftOf tc)) where
             -- the cells before the third
             two : (xs : List ℕ) → filled (a ∷ b ∷ xs) ≡ a ∷ b ∷ filled xs
             two xs = front (b ∷ xs) a-in ∙ ap (λ (l : List ℕ). a ∷ l) (front xs b-in)
@@ -121,7 +122,7 @@ module _ (ts : List ℕ) (v : ℕ) (x : Claim) (e : Term) (x-in : x .p .row ≡ 
               pub none-d : d ≡ blank → false ≡ found
               none-d h = blank-first _ d [] h ∙ past-c
 
-              pub last-d : (d ≡ blank → ⊥) → (td : Term) → argsOf td ≡ filled (a ∷ b ∷ c ∷ []) → {rd : Bool} → rd ≡ pair d (argsOf td) → rd ≡ found
+              pub last-d : (d ≡ blank → ⊥) → (td : Left) → leftOf td ≡ filled (a ∷ b ∷ c ∷ []) → {rd : Bool} → rd ≡ pair d (leftOf td) → rd ≡ found
               last-d d-in td td-is rd-is =
                   let three : filled (a ∷ b ∷ c ∷ []) ≡ a ∷ b ∷ c ∷ [] = two (c ∷ []) ∙ ap (λ (l : List ℕ). a ∷ b ∷ l) (front [] c-in) in
                   rd-is ∙ ap (pair d) (td-is ∙ three) ∙ sym (or-false (pair d (a ∷ b ∷ c ∷ [])))

@@ -7,18 +7,32 @@ ghost use lib.ListN.{length, drop};
 ghost use Rattle.calculus.specs.Lists.{all};
 ghost use mathlib.Core.List.{[], _∷_};
 ghost use Rattle.calculus.specs.Clauses.{different, isClause, clauseValue, literal, paired, clausal};
-ghost use Rattle.calculus.specs.Terms.{prop, filled, argsOf};
-ghost use Rattle.rule_claims.specs.Claims.{gap, premisesOf, afterFirst};
+ghost use Rattle.calculus.specs.Terms.{prop, filled};
+ghost use Rattle.rule_claims.specs.Claims.{gap};
+ghost use Rattle.clauses.specs.Pairs.{membersOf, othersOf, leftOf};
 use calculus::Premise;
 use calculus::Row;
-use calculus::Term;
 use rows::BLANK;
 use rows::term_at;
 use rule_claims::AND;
-use rule_claims::Claim;
 use rule_claims::NOT;
 use rule_claims::OR;
-use rule_claims::after_first;
+
+// Up to four members with their values. One whose row is blank is none, and those after it are not read.
+pub struct Members {
+    pub p: Premise,
+    pub q: Premise,
+    pub r: Premise,
+    pub s: Premise,
+}
+
+// The arguments that are left, before the first blank.
+pub struct Left {
+    pub a: u16,
+    pub b: u16,
+    pub c: u16,
+    pub d: u16,
+}
 
 // Whether t is a clause.
 pub fn is_clause(terms: &[u16], t: Row) -> bool
@@ -101,13 +115,30 @@ fn literal(terms: &[u16], v: u16, p: Premise, x: u16) -> bool
     x == p.row
 }
 
-// Three cells for arguments.
-fn three(a: u16, b: u16, c: u16) -> Term
-    ensures { λ r. ⌜ argsOf r ≡ filled (a ∷ b ∷ c ∷ []) ⌝ }
+// The members but the first.
+fn others(h: Members) -> Members
+    ensures { λ r. ⌜ r ≡ othersOf h ⌝ }
 {
-    Term {
-        head: BLANK,
-        sort: BLANK,
+    let p = h.q;
+    let q = h.r;
+    let r = h.s;
+    let s = Premise {
+        row: BLANK,
+        value: 0,
+    };
+    Members {
+        p: p,
+        q: q,
+        r: r,
+        s: s,
+    }
+}
+
+// Three arguments are left.
+fn three(a: u16, b: u16, c: u16) -> Left
+    ensures { λ r. ⌜ leftOf r ≡ filled (a ∷ b ∷ c ∷ []) ⌝ }
+{
+    Left {
         a,
         b,
         c,
@@ -115,53 +146,59 @@ fn three(a: u16, b: u16, c: u16) -> Term
     }
 }
 
-// Whether the first premise appears as y, and the others are paired with the arguments of `rest`.
-fn matched(terms: &[u16], v: u16, x: Claim, y: u16, rest: Term) -> bool
-    requires { ⌜ gap (x .p) ≡ false ⌝ }
-    ensures { λ r. ⌜ r ≡ (literal (now (terms .entry)) v (x .p) y && paired (now (terms .entry)) v (premisesOf (afterFirst x)) (argsOf rest)) ⌝ }
+// Whether the first member appears as y, and the others are paired with the rest.
+fn matched(terms: &[u16], v: u16, h: Members, y: u16, rest: Left) -> bool
+    requires { ⌜ gap (h .p) ≡ false ⌝ }
+    ensures { λ r. ⌜ r ≡ (literal (now (terms .entry)) v (h .p) y && paired (now (terms .entry)) v (membersOf (othersOf h)) (leftOf rest)) ⌝ }
 {
-    if literal(terms, v, x.p, y) {
-        return paired(terms, v, after_first(x), rest);
+    if literal(terms, v, h.p, y) {
+        return paired(terms, v, others(h), rest);
     }
     false
 }
 
-// Whether the claim's premises and the arguments of e are paired one to one: the first premise with one argument, the others with what is left.
-fn paired(terms: &[u16], v: u16, x: Claim, e: Term) -> bool
-    ensures { λ r. ⌜ r ≡ paired (now (terms .entry)) v (premisesOf x) (argsOf e) ⌝ }
+// Whether the members and the arguments are paired one to one: the first member with one argument, the others with what is left.
+fn paired(terms: &[u16], v: u16, h: Members, e: Left) -> bool
+    ensures { λ r. ⌜ r ≡ paired (now (terms .entry)) v (membersOf h) (leftOf e) ⌝ }
 {
-    if x.p.row == BLANK {
+    if h.p.row == BLANK {
         return e.a == BLANK;
     }
     if e.a == BLANK {
         return false;
     }
-    if matched(terms, v, x, e.a, three(e.b, e.c, e.d)) {
+    if matched(terms, v, h, e.a, three(e.b, e.c, e.d)) {
         return true;
     }
     if e.b == BLANK {
         return false;
     }
-    if matched(terms, v, x, e.b, three(e.a, e.c, e.d)) {
+    if matched(terms, v, h, e.b, three(e.a, e.c, e.d)) {
         return true;
     }
     if e.c == BLANK {
         return false;
     }
-    if matched(terms, v, x, e.c, three(e.a, e.b, e.d)) {
+    if matched(terms, v, h, e.c, three(e.a, e.b, e.d)) {
         return true;
     }
     if e.d == BLANK {
         return false;
     }
-    matched(terms, v, x, e.d, three(e.a, e.b, e.c))
+    matched(terms, v, h, e.d, three(e.a, e.b, e.c))
 }
 
-// Whether the claim's term is a clausal form of its premises.
-pub fn clausal(terms: &[u16], x: Claim) -> bool
-    ensures { λ r. ⌜ r ≡ clausal (now (terms .entry)) (x .term .0) (premisesOf x) ⌝ }
+// Whether the clause t is a clausal form of the members.
+pub fn clausal(terms: &[u16], t: Row, h: Members) -> bool
+    ensures { λ r. ⌜ r ≡ clausal (now (terms .entry)) (t .0) (membersOf h) ⌝ }
 {
-    let t = x.term;
     let v = value(terms, t);
-    paired(terms, v, x, term_at(terms, t))
+    let e = term_at(terms, t);
+    let all = Left {
+        a: e.a,
+        b: e.b,
+        c: e.c,
+        d: e.d,
+    };
+    paired(terms, v, h, all)
 }

@@ -5,13 +5,16 @@ use mathlib.Core.List.{List, [], _∷_}
 use Prim.Native.Nat.{ℕ, _≤_}
 use native.Mathlib.Omega.{arith}
 use lib.Dec.{leb, ltb, leb→le}
+use borrow.Author.Tests.{eq-eqb}
 use Rattle.calculus.specs.declared.Level.{Level}
 use Rattle.calculus.specs.declared.Step.{Step}
+use Rattle.calculus.specs.declared.Premise.{Premise}
 use Rattle.calculus.specs.Lists.{all, has}
+use Rattle.calculus.specs.Sheets.{blank}
 use Rattle.calculus.specs.Numbers.{unless}
 use Rattle.calculus.specs.Terms.{prop, filled}
 use Rattle.calculus.specs.Clauses.{different, isClause, clauseValue, clausal}
-use Rattle.calculus.specs.Trail.{Set, Trail, without, on, premisesAt, levelOf}
+use Rattle.calculus.specs.Trail.{Set, Trail, without, on, valueAt, premisesAt, levelOf}
 use Rattle.calculus.specs.Steps as calculus
 use Rattle.calculus.specs.Steps.{premiseCells, premises, learnRefusal}
 use Rattle.calculus.specs.WellFormed.{Within}
@@ -27,31 +30,46 @@ use Rattle.state.specs.States.{Answers}
 use Rattle.state.proofs.States.{refused-by, passed-by}
 use Rattle.state.proofs.Tests.{told, told-not, told-yes, past, stops}
 use Rattle.premises.specs.Columns.{Premised}
+use Rattle.rule_claims.specs.Claims.{stated}
+use Rattle.rule_claims.proofs.Laws.{AllLooked, stated-looked}
 use Rattle.conflicts.specs.Conflicts.{inSearch}
 use Rattle.conflicts.proofs.Laws.{found, search-on}
-use Rattle.learning.specs.Learns.{Members, ToLearn}
+use Rattle.learning.specs.Learns.{Named, ToTest, ToLearn}
 
 -- ---- the members
 
 -- the columns up to the first blank are the members
-pub members : (x : Step) {ps : List ℕ} → ps ≡ premiseCells x → filled ps ≡ premises x
+pub columns : (x : Step) {ps : List ℕ} → ps ≡ premiseCells x → filled ps ≡ premises x
 unfolding premises
-members x e = ap filled e
+columns x e = ap filled e
+
+-- the fifth column is blank: four members with their values
+pub four-members : (tr : Trail) (x : Step) (p q r s : Premise) → x .t ≡ blank → p .row ≡ x .p → q .row ≡ x .q → r .row ≡ x .r → s .row ≡ x .s
+    → AllLooked (on tr) (valueAt tr) (p ∷ q ∷ r ∷ s ∷ []) → all (on tr) (premises x) ≡ true → stated (p ∷ q ∷ r ∷ s ∷ []) ≡ premisesAt tr (premises x)
+unfolding premises
+four-members tr x p q r s t-no ep eq er es k h =
+    let e : filled (p .row ∷ q .row ∷ r .row ∷ s .row ∷ []) ≡ filled (premiseCells x) =
+    (λ i. filled (ep i ∷ eq i ∷ er i ∷ es i ∷ [])) ∙ sym (rw (eq-eqb (x .t) blank t-no)) in
+    rw (sym e) (stated-looked (on tr) (valueAt tr) (p ∷ q ∷ r ∷ s ∷ []) k (rw e h))
 
 -- members of a set that stands on the trail stand there
 pub all-stand : (tr : Trail) (E : Set) (xs : List ℕ) → Within E tr → all E xs ≡ true → all (on tr) xs ≡ true
 all-stand tr E [] h e = refl
 all-stand tr E (x ∷ xs) h e = let b = both-true (E x) _ e in rw (h x (b .0)) (all-stand tr E xs h (b .1))
 
-pub premised : {w n : ℕ} {ws : List ℕ} {count : ℕ} {x : Step} {ps : List ℕ} {rest : ℕ} {b : Bool} → Members w n ws count x ps rest
-    → b ≡ all (conflictIn w n ws) (filled ps) → not b ≡ false → Premised w n ws count x
-premised {w} {n} {ws} {count} {x} {ps} g e h =
-    let stand : all (on (trailIn w n ws count)) (filled ps) ≡ true = all-stand _ (conflictIn w n ws) (filled ps) (g .found .within) (told-yes e h) in
-    record { laid = g .found .laid; stand = rw (members x (g .columns)) at stand }
+module _ {w n : ℕ} {ws : List ℕ} {count : ℕ} {x : Step} {ps : List ℕ} {rest : ℕ} {b : Bool} (g : ToTest w n ws count x ps rest)
+    (e : b ≡ all (conflictIn w n ws) (filled ps)) (h : not b ≡ false) where
+  pub premised : Premised w n ws count x
+  premised =
+      let stand : all (on (trailIn w n ws count)) (filled ps) ≡ true = all-stand _ (conflictIn w n ws) (filled ps) (g .found .within) (told-yes e h) in
+      record { laid = g .found .laid; stand = rw (columns x (g .columns)) at stand }
+
+  pub named : Named w n ws count x
+  named = record { premised = premised; four = g .four }
 
 -- ---- the number, test by test
 
-module _ (w n : ℕ) (ts ws : List ℕ) (count : ℕ) (x : Step) {ps : List ℕ} {rest : ℕ} (g : Members w n ws count x ps rest) where
+module _ (w n : ℕ) (ts ws : List ℕ) (count : ℕ) (x : Step) {ps : List ℕ} {rest : ℕ} (g : ToTest w n ws count x ps rest) where
   abbrev here : Trail
   here = trailIn w n ws count
 
@@ -63,7 +81,7 @@ module _ (w n : ℕ) (ts ws : List ℕ) (count : ℕ) (x : Step) {ps : List ℕ}
 
   module _ {a : Bool} (a-is : a ≡ all set (filled ps)) where
     inside : a ≡ all set (premises x)
-    inside = a-is ∙ ap (all set) (members x (g .columns))
+    inside = a-is ∙ ap (all set) (columns x (g .columns))
 
     pub learn-17 : not a ≡ true → 17 ≡ number
     unfolding learnRefusal
@@ -95,7 +113,7 @@ module _ (w n : ℕ) (ts ws : List ℕ) (count : ℕ) (x : Step) {ps : List ℕ}
             suits =
                 f-is
                 ∙ ap (λ (m : ℕ). leb m (x .value) && ltb (x .value) (levelOf here (has (premises x))))
-                (g .level ∙ ap (λ (xs : List ℕ). levelOf here (without set xs)) (members x (g .columns)))
+                (g .level ∙ ap (λ (xs : List ℕ). levelOf here (without set xs)) (columns x (g .columns)))
 
             pub learn-21 : not f ≡ true → 21 ≡ number
             unfolding learnRefusal

@@ -11,12 +11,27 @@ ghost use Rattle.trail.specs.Words.{trailIn};
 ghost use Rattle.premises.specs.Columns.{Premised};
 ghost use Rattle.moves.specs.Post.{conflictIn};
 ghost use Rattle.state.specs.States.{Answers};
-ghost use Rattle.learning.specs.Learns.{Members, ToLearn};
+ghost use Rattle.clauses.specs.Pairs.{membersOf};
+ghost use Rattle.learning.specs.Learns.{Named, ToTest, ToLearn};
 use calculus::Level;
 use calculus::Row;
 use calculus::Step;
+use clauses::Members;
 use state::Answer;
 use state::Status;
+
+// The row's members with their values, where all stand on the trail.
+fn members(work: &[u64], w: usize, n: usize, count: usize, x: Step) -> Members
+    requires { ⌜ Named w n (now work) count x ⌝ }
+    ensures { λ r. ⌜ membersOf r ≡ premisesAt (trailIn w n (now (work .entry)) count) (premises x) ⌝ }
+{
+    Members {
+        p: premises::premise(work, w, n, count, x.p),
+        q: premises::premise(work, w, n, count, x.q),
+        r: premises::premise(work, w, n, count, x.r),
+        s: premises::premise(work, w, n, count, x.s),
+    }
+}
 
 // ---- the tests; ps are the row's columns of members
 
@@ -40,12 +55,13 @@ fn form_suits(
     x: Step,
     ps: &[u16],
 ) -> bool
-    requires { ⌜ Premised w n (now work) count x × (now ps ≡ premiseCells x) ⌝ }
+    requires { ⌜ Named w n (now work) count x × (now ps ≡ premiseCells x) ⌝ }
     ensures { λ r. ⌜ r ≡ (different (premises x)
         && clausal (now (terms .entry)) (x .term) (premisesAt (trailIn w n (now (work .entry)) count) (premises x))) ⌝ }
 {
     let d = clauses::different(ps);
-    let c = clauses::clausal(terms, premises::claim(work, w, n, count, x));
+    let h = members(work, w, n, count, x);
+    let c = clauses::clausal(terms, Row(x.term), h);
     d & c
 }
 
@@ -72,7 +88,7 @@ fn learn_refusal(
     ps: &[u16],
     rest: Level,
 ) -> u16
-    requires { ⌜ Members w n (now work) count x (now ps) (rest .0) ⌝ }
+    requires { ⌜ ToTest w n (now work) count x (now ps) (rest .0) ⌝ }
     ensures { λ r. ⌜ r ≡ learnRefusal (now (terms .entry)) (trailIn w n (now (work .entry)) count) (conflictIn w n (now (work .entry)))
         (x .term) (x .value) (premises x) ⌝ }
 {

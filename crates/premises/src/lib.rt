@@ -86,7 +86,7 @@ pub fn level(work: &[u64], w: usize, n: usize, count: usize, x: Step) -> Level
 }
 
 // A premise column with its value, where it stands on the trail.
-fn premise(work: &[u64], w: usize, n: usize, count: usize, p: u16) -> Premise
+pub fn premise(work: &[u64], w: usize, n: usize, count: usize, p: u16) -> Premise
     requires { ⌜ Laid w n (now work) count ⌝ }
     ensures { λ r. ⌜ (r .row ≡ p) × Looked (on (trailIn w n (now (work .entry)) count)) (valueAt (trailIn w n (now (work .entry)) count)) r ⌝ }
 {

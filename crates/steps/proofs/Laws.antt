@@ -14,7 +14,7 @@ use Rattle.calculus.specs.Sheets.{blank, termRows}
 use Rattle.calculus.specs.Trail.{Set, Trail}
 use Rattle.calculus.specs.Terms.{filled}
 use Rattle.calculus.specs.Steps as calculus
-use Rattle.calculus.specs.Steps.{needsConflict, isFilled, premises, pairShaped, shaped, ready, known, stepBy, answer, rowRefusal, kindOf, step}
+use Rattle.calculus.specs.Steps.{needsConflict, isFilled, premises, pairShaped, learnShaped, shaped, ready, known, stepBy, answer, rowRefusal, kindOf, step}
 use Rattle.calculus.proofs.Facts.{facts, true-T, both-true, unless-yes, unless-no}
 use Rattle.trail.specs.Words.{trailIn}
 use Rattle.moves.specs.Post.{conflictIn}
@@ -79,10 +79,12 @@ module _ (w n : ℕ) (ts ws : List ℕ) (st : Status) (x : Step) (k : Kind) (g :
   asked-p q = let h = known-p ts x (ap (shaped x) (sym q) ∙ g .shape) (g .rows) in omega (arith, g .standing .held .rows)
 
   pub asked-learn : k ≡ Learn → ToLearn w n ts ws st x
-  unfolding known
+  unfolding known shaped
   asked-learn q =
       let h : all (λ p. ltb p (termRows ts)) (premises x) ≡ true = both-true (ltb (x .term) (termRows ts)) _ (g .rows) .1 in
-      record { conflicted = asked-conflict Learn refl q; known = rw (g .standing .held .rows) h }
+      let s : T (learnShaped x) = true-T _ (ap (shaped x) (sym q) ∙ g .shape) in
+      let t : x .t ≡ blank = search facts depth 12 in
+      record { conflicted = asked-conflict Learn refl q; known = rw (g .standing .held .rows) h; four = t }
 
   -- ---- the answer of each kind
 

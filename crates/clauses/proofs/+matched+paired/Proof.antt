@@ -1,4 +1,4 @@
--- The cycle of calls {matched, paired}. `paired` calls `matched` with the premises that it has, and `matched` calls `paired` with one fewer, so that the
+-- The cycle of calls {matched, paired}. `paired` calls `matched` with the members that it has, and `matched` calls `paired` with one fewer, so that the
 -- measures are twice their number, and one more for `paired`.
 use mathlib.Core.Path.{sym, _∙_}
 use Prim.Native.Nat.{ℕ, _+_, _<_}
@@ -8,9 +8,8 @@ use borrow.Author.Needs.{needs}
 use borrow.Author.Tests.{eq-eqb, ne-eqb}
 use borrow.Fn.Kinds.{In}
 use borrow.Fn.PlainCycle.{Measures, is, falls, and}
-use Rattle.rule_claims.specs.declared.Claim.{Claim}
-use Rattle.rule_claims.specs.Claims.{premisesOf}
-use Rattle.rule_claims.proofs.after_first.Reads as after-first-reads
+use Rattle.clauses.specs.declared.Members.{Members}
+use Rattle.clauses.specs.Pairs.{membersOf}
 use Rattle.clauses.proofs.Laws.{one-fewer, paired-none, none-a, takes-a, none-b, takes-b, none-c, takes-c, none-d, last-d}
 use Rattle.clauses.proofs.matched.Reads as matched
 use Rattle.clauses.proofs.matched.Kinds as matched-kinds
@@ -19,14 +18,15 @@ use Rattle.clauses.proofs.paired.Reads as paired
 use Rattle.clauses.proofs.paired.Kinds as paired-kinds
 use Rattle.clauses.proofs.+matched+paired.Lts-paired as paired-lts
 use Rattle.clauses.proofs.literal.Reads as literal-reads
+use Rattle.clauses.proofs.others.Reads as others-reads
 use Rattle.clauses.proofs.three.Reads as three-reads
 use Rattle.clauses.proofs.+matched+paired.{statement}
 use Rattle.clauses.proofs.+matched+paired.Tie.{close}
 
 -- ---- measures, and the contracts below them
 
-abbrev twice : Claim → ℕ
-twice x = length (premisesOf x) + length (premisesOf x)
+abbrev twice : Members → ℕ
+twice h = length (membersOf h) + length (membersOf h)
 
 abbrev μ-matched : Measures 1 matched-kinds.ps ℕ
 μ-matched κs a = twice (a .1 .1 .0)
@@ -48,7 +48,7 @@ paired-below t = and 1 paired-kinds.ps (falls 1 paired-kinds.ps _<_ μ-paired t)
 
 -- what each of the two calls
 abbrev matched-calls : ℕ → matched-lts.Claims
-matched-calls t = (literal-reads.Asked, literal-reads.Learnt, after-first-reads.Asked, after-first-reads.Learnt, paired-below t, paired.Post)
+matched-calls t = (literal-reads.Asked, literal-reads.Learnt, others-reads.Asked, others-reads.Learnt, paired-below t, paired.Post)
 
 abbrev paired-calls : ℕ → paired-lts.Claims
 paired-calls t = (three-reads.Asked, three-reads.Learnt, matched-below t, matched.Post)
@@ -58,20 +58,20 @@ paired-calls t = (three-reads.Asked, three-reads.Learnt, matched-below t, matche
 matched-literal-requires : (t : ℕ) → matched-lts.Need-literal-requires (matched-calls t) (matched-at t) matched.Post
 matched-literal-requires t c κs = search needs
 
-matched-after-first-requires : (t : ℕ) → matched-lts.Need-after-first-requires (matched-calls t) (matched-at t) matched.Post
-matched-after-first-requires t c κs = search needs
+matched-others-requires : (t : ℕ) → matched-lts.Need-others-requires (matched-calls t) (matched-at t) matched.Post
+matched-others-requires t c κs = search needs
 
 matched-paired-requires : (t : ℕ) → matched-lts.Need-paired-requires (matched-calls t) (matched-at t) matched.Post
 matched-paired-requires t c κs =
     let start = c .before .before .before .before in
-    let fewer = one-fewer (start .args .x) (start .pre .1) in
-    (rw (c .after-first .ensures) (omega (arith, fewer, start .pre .0)), tt)
+    let fewer = one-fewer (start .args .h) (start .pre .1) in
+    (rw (c .others .ensures) (omega (arith, fewer, start .pre .0)), tt)
 
 matched-returns : (t : ℕ) → matched-lts.Need-returns (matched-calls t) (matched-at t) matched.Post
 matched-returns t c =
     let called = c .before in
     let tested = called .before .before in
-    rw (c .paired .ensures, called .after-first .ensures, sym (tested .literal .ensures) ∙ called .before .if1 .taken)
+    rw (c .paired .ensures, called .others .ensures, sym (tested .literal .ensures) ∙ called .before .if1 .taken)
 
 matched-returns-2 : (t : ℕ) → matched-lts.Need-returns-2 (matched-calls t) (matched-at t) matched.Post
 matched-returns-2 t c = rw (sym (c .before .literal .ensures) ∙ c .if1 .left)
@@ -81,7 +81,7 @@ matched-returns-2 t c = rw (sym (c .before .literal .ensures) ∙ c .if1 .left)
 paired-returns : (t : ℕ) → paired-lts.Need-returns (paired-calls t) (paired-at t) paired.Post
 paired-returns t c =
     let start = c .before .before .before .before in
-    paired-none _ _ (start .args .x) (eq-eqb _ _ (c .before .if1 .taken)) (start .args .e)
+    paired-none _ _ (start .args .h) (eq-eqb _ _ (c .before .if1 .taken)) (start .args .e)
 
 paired-returns-2 : (t : ℕ) → paired-lts.Need-returns-2 (paired-calls t) (paired-at t) paired.Post
 paired-returns-2 t c = search none-a
@@ -134,7 +134,7 @@ paired-returns-7 t c =
     let filled-a = first .before .before in
     let some = filled-a .before .before in
     let start = some .before .before .before in
-    takes-c _ _ (start .args .x) (start .args .e) (some .if1 .left)
+    takes-c _ _ (start .args .h) (start .args .e) (some .if1 .left)
     (filled-a .if2 .left) (first .before .three .result) (first .before .three .ensures) (first .matched .ensures) (missed-a .if3 .left)
     (filled-b .if4 .left) (second .before .three2 .result) (second .before .three2 .ensures) (second .matched2 .ensures) (missed-b .if5 .left)
     (filled-c .if6 .left) (third .before .three3 .result) (third .before .three3 .ensures) (third .matched3 .ensures) (c .if7 .taken)
@@ -152,7 +152,7 @@ paired-returns-8 t c =
     let filled-a = first .before .before in
     let some = filled-a .before .before in
     let start = some .before .before .before in
-    none-d _ _ (start .args .x) (start .args .e) (some .if1 .left)
+    none-d _ _ (start .args .h) (start .args .e) (some .if1 .left)
     (filled-a .if2 .left) (first .before .three .result) (first .before .three .ensures) (first .matched .ensures) (missed-a .if3 .left)
     (filled-b .if4 .left) (second .before .three2 .result) (second .before .three2 .ensures) (second .matched2 .ensures) (missed-b .if5 .left)
     (filled-c .if6 .left) (third .before .three3 .result) (third .before .three3 .ensures) (third .matched3 .ensures) (missed-c .if7 .left) (c .if8 .taken)
@@ -179,7 +179,7 @@ paired-returns-9 t c =
     let filled-a = first .before .before in
     let some = filled-a .before .before in
     let start = some .before .before .before in
-    last-d _ _ (start .args .x) (start .args .e) (some .if1 .left)
+    last-d _ _ (start .args .h) (start .args .e) (some .if1 .left)
     (filled-a .if2 .left) (first .before .three .result) (first .before .three .ensures) (first .matched .ensures) (missed-a .if3 .left)
     (filled-b .if4 .left) (second .before .three2 .result) (second .before .three2 .ensures) (second .matched2 .ensures) (missed-b .if5 .left)
     (filled-c .if6 .left) (third .before .three3 .result) (third .before .three3 .ensures) (third .matched3 .ensures) (missed-c .if7 .left)
@@ -191,7 +191,7 @@ pub +matched+paired-spec : {M : Type 1} → statement M
     (λ t.
     matched-lts.spec (matched-calls t) (matched-at t) matched.Post
     (matched-literal-requires t)
-    (matched-after-first-requires t)
+    (matched-others-requires t)
     (matched-paired-requires t)
     (matched-returns t)
     (matched-returns-2 t))

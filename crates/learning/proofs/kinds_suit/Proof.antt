@@ -1,6 +1,6 @@
 -- `learning::kinds_suit` meets its contract.
 use borrow.Author.Needs.{needs}
-use Rattle.learning.proofs.Laws.{members}
+use Rattle.learning.proofs.Laws.{columns}
 use Rattle.learning.proofs.kinds_suit.Statement.{statement}
 use Rattle.learning.proofs.kinds_suit.Tie as tie
 
@@ -13,7 +13,7 @@ is-clause-requires c κs = search needs
 returns : tie.Need-returns
 returns c =
     let start = c .before .before .before .before in
-    rw (c .before .all-props .ensures, members (start .args .x) (start .pre), c .is-clause .ensures)
+    rw (c .before .all-props .ensures, columns (start .args .x) (start .pre), c .is-clause .ensures)
 
 pub kinds-suit-spec : {M : Type 1} → statement M
 kinds-suit-spec = tie.close (tie.spec all-props-requires is-clause-requires returns)

@@ -22,6 +22,7 @@ learn-refusal-requires c κs =
     record {
       found = found _ _ _ _ _ (start .pre .conflicted);
       known = start .pre .known;
+      four = start .pre .four;
       columns = refl;
       level = levelled .level-of-rest .ensures;
     }

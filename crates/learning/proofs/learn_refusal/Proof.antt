@@ -1,6 +1,6 @@
 -- `learning::learn_refusal` meets its contract.
 use borrow.Author.Needs.{needs}
-use Rattle.learning.proofs.Laws.{members, premised, learn-17, learn-22, learn-25, learn-14, learn-21, learn-0}
+use Rattle.learning.proofs.Laws.{columns, premised, named, learn-17, learn-22, learn-25, learn-14, learn-21, learn-0}
 use Rattle.learning.proofs.learn_refusal.Statement.{statement}
 use Rattle.learning.proofs.learn_refusal.Tie as tie
 
@@ -8,7 +8,7 @@ all-in-conflict-requires : tie.Need-all-in-conflict-requires
 all-in-conflict-requires c κs =
     let start = c .before .before .before in
     let laid = start .pre .found .laid in
-    (laid .enough, laid .wide, rw (members (start .args .x) (start .pre .columns)) (start .pre .known))
+    (laid .enough, laid .wide, rw (columns (start .args .x) (start .pre .columns)) (start .pre .known))
 
 returns : tie.Need-returns
 returns c = search learn-17
@@ -20,7 +20,7 @@ returns-2 : tie.Need-returns-2
 returns-2 c = search learn-22
 
 form-suits-requires : tie.Need-form-suits-requires
-form-suits-requires c κs = (search premised, search needs)
+form-suits-requires c κs = (search named, search needs)
 
 returns-3 : tie.Need-returns-3
 returns-3 c = search learn-25
