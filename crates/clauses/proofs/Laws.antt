@@ -1,18 +1,23 @@
 -- One of at most four arguments taken out, cell by cell; premises and arguments in pairs, one pair more.
-use mathlib.Core.Path.{_≡_, refl, sym, ap, _∙_}
+use mathlib.Core.Path.{_≡_, refl, sym, ap, subst, _∙_}
 use mathlib.Core.Bool.{Bool, true, false, not, _&&_, _||_, cond, or-false}
 use mathlib.Core.List.{List, [], _∷_}
-use Prim.Native.Nat.{ℕ, suc}
+use Prim.Native.Nat.{ℕ, zero, suc, _+_, _-_, _≤_, _<_}
+use native.Mathlib.Numerals.{add-one}
+use native.Mathlib.Omega.{arith}
+use native.Mathlib.Decide.{decLt}
 use lib.Dec.{eqb}
 use borrow.Author.Tests.{eq-eqb, ne-eqb}
 use lib.ListN.{length}
 use Rattle.calculus.specs.Sheets.{blank}
 use Rattle.calculus.specs.Terms.{filled}
 use Rattle.calculus.specs.Clauses.{takingOne, literal, paired}
-use Rattle.rule_claims.specs.Claims.{gap, stated}
+use Rattle.calculus.specs.declared.Premise.{Premise}
+use Rattle.calculus.proofs.Facts.{true-or-false}
+use Rattle.rule_claims.specs.Claims.{gap, stated, noPremise}
 use Rattle.clauses.specs.declared.Members.{Members}
 use Rattle.clauses.specs.declared.Left.{Left}
-use Rattle.clauses.specs.Pairs.{membersOf, othersOf, leftOf}
+use Rattle.clauses.specs.Pairs.{membersOf, othersOf, from, leftOf}
 
 -- ---- one cell more in front, where one of the filled cells is taken out
 
@@ -29,29 +34,48 @@ module _ (f : ℕ → List ℕ → Bool) (x : ℕ) (xs : List ℕ) where
   past-first : (x ≡ blank → ⊥) → f x (filled xs) ≡ false → takingOne (filled xs) (λ y rest. f y (x ∷ rest)) ≡ takingOne (filled (x ∷ xs)) f
   past-first h e = rw (ne-eqb x blank h, e)
 
--- ---- premises and arguments in pairs
+-- ---- members and arguments in pairs
 
--- no premise is paired with no argument
-pub paired-none : (ts : List ℕ) (v : ℕ) (h : Members) → gap (h .p) ≡ true → (e : Left) → eqb (e .a) blank ≡ paired ts v (membersOf h) (leftOf e)
-unfolding paired stated
-paired-none ts v h none e = rw none (go (eqb (e .a) blank))
+-- past the fourth there is no member
+pub from-past : (h : Members) (k : ℕ) → 4 ≤ k → from k h .p ≡ noPremise
+unfolding from
+from-past h k l =
+    let e : suc (suc (suc (suc (k - 4)))) ≡ k = omega arith in
+    subst (λ (n : ℕ). from n h .p ≡ noPremise) e (ap (λ (m : Members). m .p) (none (k - 4)))
   where
-    go : (b : Bool) → b ≡ paired ts v [] (cond b [] (e .a ∷ filled (e .b ∷ e .c ∷ e .d ∷ [])))
-    go true = refl
-    go false = refl
+    none : (n : ℕ) → from (suc (suc (suc (suc n)))) h ≡ record { p = noPremise; q = noPremise; r = noPremise; s = noPremise }
+    none zero = refl
+    none (suc n) = ap othersOf (none n)
 
--- there is a first premise: it and those that are left
-first-stated : (h : Members) → gap (h .p) ≡ false → membersOf h ≡ h .p ∷ membersOf (othersOf h)
-unfolding stated
-first-stated h there = rw there
+module _ (h : Members) (k : ℕ) (p : Premise) (p-is : p ≡ from k h .p) where
+  -- no member is paired with no argument
+  pub paired-none : (ts : List ℕ) (v : ℕ) → gap p ≡ true → (e : Left) → eqb (e .a) blank ≡ paired ts v (membersOf (from k h)) (leftOf e)
+  unfolding paired stated
+  paired-none ts v none e = rw (ap gap (sym p-is) ∙ none) (go (eqb (e .a) blank))
+    where
+      go : (b : Bool) → b ≡ paired ts v [] (cond b [] (e .a ∷ filled (e .b ∷ e .c ∷ e .d ∷ [])))
+      go true = refl
+      go false = refl
 
-pub one-fewer : (h : Members) → gap (h .p) ≡ false → suc (length (membersOf (othersOf h))) ≡ length (membersOf h)
-one-fewer h there = sym (ap length (first-stated h there))
+  -- there is a member k: it and those behind it
+  first-stated : gap p ≡ false → membersOf (from k h) ≡ p ∷ membersOf (from (suc k) h)
+  unfolding stated from
+  first-stated there = rw (p-is, ap gap (sym p-is) ∙ there)
 
-module _ (ts : List ℕ) (v : ℕ) (h : Members) (e : Left) (h-in : h .p .row ≡ blank → ⊥) where
-  -- the first premise appears as y, and the others are paired with the rest
+  pub below-four : gap p ≡ false → k < 4
+  below-four there = go (decLt k 4)
+    where
+      go : Dec (k < 4) → k < 4
+      go (yes l) = l
+      go (no l) = absurd (true-or-false (ap gap (p-is ∙ from-past h k (omega arith))) there)
+
+  pub one-fewer : gap p ≡ false → suc (length (membersOf (from (k + 1) h))) ≡ length (membersOf (from k h))
+  one-fewer there = rw add-one (sym (ap length (first-stated there)))
+
+module _ (ts : List ℕ) (v : ℕ) (h : Members) (k : ℕ) (e : Left) (p : Premise) (p-is : p ≡ from k h .p) (p-in : p .row ≡ blank → ⊥) where
+  -- the member appears as y, and those behind it are paired with the rest
   abbrev pair : ℕ → List ℕ → Bool
-  pair y rest = literal ts v (h .p) y && paired ts v (membersOf (othersOf h)) rest
+  pair y rest = literal ts v p y && paired ts v (membersOf (from (suc k) h)) rest
 
   abbrev a : ℕ
   a = e .a
@@ -66,11 +90,11 @@ module _ (ts : List ℕ) (v : ℕ) (h : Members) (e : Left) (h-in : h .p .row �
   d = e .d
 
   abbrev found : Bool
-  found = paired ts v (membersOf h) (leftOf e)
+  found = paired ts v (membersOf (from k h)) (leftOf e)
 
   by-first : takingOne (leftOf e) pair ≡ found
   unfolding paired
-  by-first = rw (first-stated h (ne-eqb _ blank h-in))
+  by-first = rw (first-stated h k p p-is (ne-eqb _ blank p-in))
 
   -- one argument after the other, up to the first blank
   pub none-a : a ≡ blank → false ≡ found

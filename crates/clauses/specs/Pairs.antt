@@ -1,6 +1,6 @@
 -- Members and arguments by value, as lists.
 use mathlib.Core.List.{List, [], _∷_}
-use Prim.Native.Nat.{ℕ}
+use Prim.Native.Nat.{ℕ, zero, suc}
 use Rattle.calculus.specs.declared.Premise.{Premise}
 use Rattle.calculus.specs.Terms.{filled}
 use Rattle.rule_claims.specs.Claims.{stated, noPremise}
@@ -13,6 +13,11 @@ membersOf h = stated (h .p ∷ h .q ∷ h .r ∷ h .s ∷ [])
 -- the members but the first
 abbrev pub othersOf : Members → Members
 othersOf h = record { p = h .q; q = h .r; r = h .s; s = noPremise }
+
+-- those from k on
+unfoldable pub from : ℕ → Members → Members
+from zero h = h
+from (suc k) h = othersOf (from k h)
 
 abbrev pub leftOf : Left → List ℕ
 leftOf e = filled (e .a ∷ e .b ∷ e .c ∷ e .d ∷ [])

@@ -1,7 +1,7 @@
 // Clausal forms: whether a clause, which is an or or an and, has the opposites of some assignments as its arguments.
 ghost use mathlib.Core.Path.{_≡_};
 ghost use mathlib.Core.Bool.{false, not, _&&_};
-ghost use Prim.Native.Nat.{_≤_};
+ghost use Prim.Native.Nat.{suc, _≤_};
 ghost use lib.Dec.{eqb};
 ghost use lib.ListN.{length, drop};
 ghost use Rattle.calculus.specs.Lists.{all};
@@ -9,7 +9,7 @@ ghost use mathlib.Core.List.{[], _∷_};
 ghost use Rattle.calculus.specs.Clauses.{different, isClause, clauseValue, literal, paired, clausal};
 ghost use Rattle.calculus.specs.Terms.{prop, filled};
 ghost use Rattle.rule_claims.specs.Claims.{gap};
-ghost use Rattle.clauses.specs.Pairs.{membersOf, othersOf, leftOf};
+ghost use Rattle.clauses.specs.Pairs.{membersOf, from, leftOf};
 use calculus::Premise;
 use calculus::Row;
 use rows::BLANK;
@@ -115,22 +115,19 @@ fn literal(terms: &[u16], v: u16, p: Premise, x: u16) -> bool
     x == p.row
 }
 
-// The members but the first.
-fn others(h: Members) -> Members
-    ensures { λ r. ⌜ r ≡ othersOf h ⌝ }
+// Member k, counted from 0; past the last there is none.
+fn member(h: Members, k: usize) -> Premise
+    ensures { λ r. ⌜ r ≡ from k h .p ⌝ }
 {
-    let p = h.q;
-    let q = h.r;
-    let r = h.s;
-    let s = Premise {
-        row: BLANK,
-        value: 0,
-    };
-    Members {
-        p: p,
-        q: q,
-        r: r,
-        s: s,
+    match k {
+        0 => h.p,
+        1 => h.q,
+        2 => h.r,
+        3 => h.s,
+        _ => Premise {
+            row: BLANK,
+            value: 0,
+        },
     }
 }
 
@@ -146,46 +143,47 @@ fn three(a: u16, b: u16, c: u16) -> Left
     }
 }
 
-// Whether the first member appears as y, and the others are paired with the rest.
-fn matched(terms: &[u16], v: u16, h: Members, y: u16, rest: Left) -> bool
-    requires { ⌜ gap (h .p) ≡ false ⌝ }
-    ensures { λ r. ⌜ r ≡ (literal (now (terms .entry)) v (h .p) y && paired (now (terms .entry)) v (membersOf (othersOf h)) (leftOf rest)) ⌝ }
+// Whether the member p, which is member k, appears as y, and those behind it are paired with the rest.
+fn matched(terms: &[u16], v: u16, h: Members, k: usize, p: Premise, y: u16, rest: Left) -> bool
+    requires { ⌜ (p ≡ from k h .p) × (gap p ≡ false) ⌝ }
+    ensures { λ r. ⌜ r ≡ (literal (now (terms .entry)) v p y && paired (now (terms .entry)) v (membersOf (from (suc k) h)) (leftOf rest)) ⌝ }
 {
-    if literal(terms, v, h.p, y) {
-        return paired(terms, v, others(h), rest);
+    if literal(terms, v, p, y) {
+        return paired(terms, v, h, k + 1, rest);
     }
     false
 }
 
-// Whether the members and the arguments are paired one to one: the first member with one argument, the others with what is left.
-fn paired(terms: &[u16], v: u16, h: Members, e: Left) -> bool
-    ensures { λ r. ⌜ r ≡ paired (now (terms .entry)) v (membersOf h) (leftOf e) ⌝ }
+// Whether the members from k on and the arguments are paired one to one: member k with one argument, those behind it with what is left.
+fn paired(terms: &[u16], v: u16, h: Members, k: usize, e: Left) -> bool
+    ensures { λ r. ⌜ r ≡ paired (now (terms .entry)) v (membersOf (from k h)) (leftOf e) ⌝ }
 {
-    if h.p.row == BLANK {
+    let p = member(h, k);
+    if p.row == BLANK {
         return e.a == BLANK;
     }
     if e.a == BLANK {
         return false;
     }
-    if matched(terms, v, h, e.a, three(e.b, e.c, e.d)) {
+    if matched(terms, v, h, k, p, e.a, three(e.b, e.c, e.d)) {
         return true;
     }
     if e.b == BLANK {
         return false;
     }
-    if matched(terms, v, h, e.b, three(e.a, e.c, e.d)) {
+    if matched(terms, v, h, k, p, e.b, three(e.a, e.c, e.d)) {
         return true;
     }
     if e.c == BLANK {
         return false;
     }
-    if matched(terms, v, h, e.c, three(e.a, e.b, e.d)) {
+    if matched(terms, v, h, k, p, e.c, three(e.a, e.b, e.d)) {
         return true;
     }
     if e.d == BLANK {
         return false;
     }
-    matched(terms, v, h, e.d, three(e.a, e.b, e.c))
+    matched(terms, v, h, k, p, e.d, three(e.a, e.b, e.c))
 }
 
 // Whether the clause t is a clausal form of the members.
@@ -200,5 +198,5 @@ pub fn clausal(terms: &[u16], t: Row, h: Members) -> bool
         c: e.c,
         d: e.d,
     };
-    paired(terms, v, h, all)
+    paired(terms, v, h, 0, all)
 }

@@ -1,6 +1,7 @@
 -- `clauses::clausal` meets its contract.
 use borrow.Author.Needs.{needs}
 use Rattle.calculus.specs.Terms.{cells, args}
+use Rattle.clauses.specs.Pairs.{from}
 use Rattle.clauses.proofs.clausal.Statement.{statement}
 use Rattle.clauses.proofs.clausal.Tie as tie
 
@@ -14,7 +15,7 @@ paired-requires : tie.Need-paired-requires
 paired-requires c κs = search needs
 
 returns : tie.Need-returns
-unfolding args cells
+unfolding args cells from
 returns c = rw (c .paired .ensures, c .before .term-at .ensures, c .before .before .value .ensures)
 
 pub clausal-spec : {M : Type 1} → statement M
