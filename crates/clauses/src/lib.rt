@@ -135,23 +135,22 @@ fn member(h: Members, k: usize) -> Premise
 fn three(a: u16, b: u16, c: u16) -> Left
     ensures { λ r. ⌜ leftOf r ≡ filled (a ∷ b ∷ c ∷ []) ⌝ }
 {
-    Left {
-        a,
-        b,
-        c,
-        d: BLANK,
-    }
+    Left { a, b, c, d: BLANK }
 }
 
-// Whether the member p, which is member k, appears as y, and those behind it are paired with the rest.
+// Whether the member p, which is member k, appears as y, and those behind it are paired with the rest. Behind the last one nothing is left to call for.
 fn matched(terms: &[u16], v: u16, h: Members, k: usize, p: Premise, y: u16, rest: Left) -> bool
     requires { ⌜ (p ≡ from k h .p) × (gap p ≡ false) ⌝ }
     ensures { λ r. ⌜ r ≡ (literal (now (terms .entry)) v p y && paired (now (terms .entry)) v (membersOf (from (suc k) h)) (leftOf rest)) ⌝ }
 {
-    if literal(terms, v, p, y) {
-        return paired(terms, v, h, k + 1, rest);
+    if !literal(terms, v, p, y) {
+        return false;
     }
-    false
+    let q = member(h, k + 1);
+    if q.row == BLANK {
+        return rest.a == BLANK;
+    }
+    paired(terms, v, h, k + 1, rest)
 }
 
 // Whether the members from k on and the arguments are paired one to one: member k with one argument, those behind it with what is left.

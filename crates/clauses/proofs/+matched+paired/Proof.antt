@@ -6,7 +6,7 @@ use native.Mathlib.Numerals.{add-one}
 use native.Mathlib.Omega.{arith}
 use lib.ListN.{length}
 use borrow.Author.Needs.{needs}
-use borrow.Author.Tests.{eq-eqb, ne-eqb}
+use borrow.Author.Tests.{eq-eqb, ne-eqb, not-true, not-false}
 use borrow.Fn.Kinds.{In}
 use borrow.Fn.PlainCycle.{Measures, is, falls, and}
 use Rattle.clauses.specs.declared.Members.{Members}
@@ -49,7 +49,7 @@ paired-below t = and 1 paired-kinds.ps (falls 1 paired-kinds.ps _<_ μ-paired t)
 
 -- what each of the two calls
 abbrev matched-calls : ℕ → matched-lts.Claims
-matched-calls t = (literal-reads.Asked, literal-reads.Learnt, paired-below t, paired.Post)
+matched-calls t = (literal-reads.Asked, literal-reads.Learnt, member-reads.Asked, member-reads.Learnt, paired-below t, paired.Post)
 
 abbrev paired-calls : ℕ → paired-lts.Claims
 paired-calls t = (member-reads.Asked, member-reads.Learnt, three-reads.Asked, three-reads.Learnt, matched-below t, matched.Post)
@@ -59,24 +59,41 @@ paired-calls t = (member-reads.Asked, member-reads.Learnt, three-reads.Asked, th
 matched-literal-requires : (t : ℕ) → matched-lts.Need-literal-requires (matched-calls t) (matched-at t) matched.Post
 matched-literal-requires t c κs = search needs
 
+matched-returns : (t : ℕ) → matched-lts.Need-returns (matched-calls t) (matched-at t) matched.Post
+matched-returns t c = rw (sym (c .before .literal .ensures) ∙ not-true _ (c .if1 .taken))
+
+matched-add-member : (t : ℕ) → matched-lts.Need-add-member (matched-calls t) (matched-at t) matched.Post
+matched-add-member t c =
+    let start = c .before .before .before in
+    omega (arith, below-four (start .args .h) (start .args .k) (start .args .p) (start .pre .1 .0) (start .pre .1 .1))
+
+matched-member-requires : (t : ℕ) → matched-lts.Need-member-requires (matched-calls t) (matched-at t) matched.Post
+matched-member-requires t c κs = search needs
+
+matched-returns-2 : (t : ℕ) → matched-lts.Need-returns-2 (matched-calls t) (matched-at t) matched.Post
+matched-returns-2 t c =
+    let looked = c .before .before .before in
+    let tested = looked .before in
+    let start = tested .before .before .before in
+    let none = paired-none (start .args .h) (start .args .k + 1) (looked .member .result) (looked .member .ensures)
+    (start .args .terms .now) (start .args .v) (eq-eqb _ _ (c .before .if2 .taken)) (start .args .rest) in
+    rw (sym (tested .before .literal .ensures) ∙ not-false _ (tested .if1 .left)) (rw add-one at none)
+
 matched-add-paired : (t : ℕ) → matched-lts.Need-add-paired (matched-calls t) (matched-at t) matched.Post
 matched-add-paired t c =
-    let start = c .before .before .before in
+    let start = c .before .before .before .before .before .before in
     omega (arith, below-four (start .args .h) (start .args .k) (start .args .p) (start .pre .1 .0) (start .pre .1 .1))
 
 matched-paired-requires : (t : ℕ) → matched-lts.Need-paired-requires (matched-calls t) (matched-at t) matched.Post
 matched-paired-requires t c κs =
-    let start = c .before .before .before in
+    let start = c .before .before .before .before .before .before in
     let fewer = one-fewer (start .args .h) (start .args .k) (start .args .p) (start .pre .1 .0) (start .pre .1 .1) in
     (omega (arith, fewer, start .pre .0), tt)
 
-matched-returns : (t : ℕ) → matched-lts.Need-returns (matched-calls t) (matched-at t) matched.Post
-matched-returns t c =
-    let tested = c .before in
-    rw (c .paired .ensures, add-one, sym (tested .before .literal .ensures) ∙ tested .if1 .taken)
-
-matched-returns-2 : (t : ℕ) → matched-lts.Need-returns-2 (matched-calls t) (matched-at t) matched.Post
-matched-returns-2 t c = rw (sym (c .before .literal .ensures) ∙ c .if1 .left)
+matched-returns-3 : (t : ℕ) → matched-lts.Need-returns-3 (matched-calls t) (matched-at t) matched.Post
+matched-returns-3 t c =
+    let tested = c .before .before .before .before in
+    rw (c .paired .ensures, add-one, sym (tested .before .literal .ensures) ∙ not-false _ (tested .if1 .left))
 
 -- ---- paired
 
@@ -96,7 +113,7 @@ paired-three-requires : (t : ℕ) → paired-lts.Need-three-requires (paired-cal
 paired-three-requires t c κs = search needs
 
 paired-matched-requires : (t : ℕ) → paired-lts.Need-matched-requires (paired-calls t) (paired-at t) paired.Post
-paired-matched-requires t c κs = 
+paired-matched-requires t c κs =
     let some = c .before .before .before in
     let looked = some .before .before in
     (omega (arith, looked .before .before .pre .0), (looked .member .ensures, ne-eqb _ _ (some .if1 .left)))
@@ -111,7 +128,7 @@ paired-three-requires-2 : (t : ℕ) → paired-lts.Need-three-requires-2 (paired
 paired-three-requires-2 t c κs = search needs
 
 paired-matched-requires-2 : (t : ℕ) → paired-lts.Need-matched-requires-2 (paired-calls t) (paired-at t) paired.Post
-paired-matched-requires-2 t c κs = 
+paired-matched-requires-2 t c κs =
     let some = c .before .before .before .before .before .before .before .before in
     let looked = some .before .before in
     (omega (arith, looked .before .before .pre .0), (looked .member .ensures, ne-eqb _ _ (some .if1 .left)))
@@ -126,7 +143,7 @@ paired-three-requires-3 : (t : ℕ) → paired-lts.Need-three-requires-3 (paired
 paired-three-requires-3 t c κs = search needs
 
 paired-matched-requires-3 : (t : ℕ) → paired-lts.Need-matched-requires-3 (paired-calls t) (paired-at t) paired.Post
-paired-matched-requires-3 t c κs = 
+paired-matched-requires-3 t c κs =
     let some = c .before .before .before .before .before .before .before .before .before .before .before .before .before in
     let looked = some .before .before in
     (omega (arith, looked .before .before .pre .0), (looked .member .ensures, ne-eqb _ _ (some .if1 .left)))
@@ -172,7 +189,7 @@ paired-three-requires-4 : (t : ℕ) → paired-lts.Need-three-requires-4 (paired
 paired-three-requires-4 t c κs = search needs
 
 paired-matched-requires-4 : (t : ℕ) → paired-lts.Need-matched-requires-4 (paired-calls t) (paired-at t) paired.Post
-paired-matched-requires-4 t c κs = 
+paired-matched-requires-4 t c κs =
     let some = c .before .before .before .before .before .before .before .before .before .before .before .before .before .before .before .before .before .before in
     let looked = some .before .before in
     (omega (arith, looked .before .before .pre .0), (looked .member .ensures, ne-eqb _ _ (some .if1 .left)))
@@ -204,10 +221,13 @@ pub +matched+paired-spec : {M : Type 1} → statement M
     (λ t.
     matched-lts.spec (matched-calls t) (matched-at t) matched.Post
     (matched-literal-requires t)
+    (matched-returns t)
+    (matched-add-member t)
+    (matched-member-requires t)
+    (matched-returns-2 t)
     (matched-add-paired t)
     (matched-paired-requires t)
-    (matched-returns t)
-    (matched-returns-2 t))
+    (matched-returns-3 t))
     (λ t.
     paired-lts.spec (paired-calls t) (paired-at t) paired.Post
     (paired-member-requires t)
