@@ -1,6 +1,6 @@
--- One of at most four arguments taken out, cell by cell; premises and arguments in pairs, one pair more.
+-- One of at most four arguments taken out, cell by cell; members and arguments in pairs, one pair more.
 use mathlib.Core.Path.{_≡_, refl, sym, ap, subst, _∙_}
-use mathlib.Core.Bool.{Bool, true, false, not, _&&_, _||_, cond, or-false}
+use mathlib.Core.Bool.{Bool, true, false, _&&_, cond, or-false}
 use mathlib.Core.List.{List, [], _∷_}
 use Prim.Native.Nat.{ℕ, zero, suc, _+_, _-_, _≤_, _<_}
 use native.Mathlib.Numerals.{add-one}

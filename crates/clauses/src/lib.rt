@@ -138,7 +138,7 @@ fn three(a: u16, b: u16, c: u16) -> Left
     Left { a, b, c, d: BLANK }
 }
 
-// Whether the member p, which is member k, appears as y, and those behind it are paired with the rest. Behind the last one nothing is left to call for.
+// Whether the member p, which is member k, appears as y, and those behind it are paired with the rest. Behind the last member there is no call.
 fn matched(terms: &[u16], v: u16, h: Members, k: usize, p: Premise, y: u16, rest: Left) -> bool
     requires { ⌜ (p ≡ from k h .p) × (gap p ≡ false) ⌝ }
     ensures { λ r. ⌜ r ≡ (literal (now (terms .entry)) v p y && paired (now (terms .entry)) v (membersOf (from (suc k) h)) (leftOf rest)) ⌝ }

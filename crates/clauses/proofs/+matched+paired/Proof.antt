@@ -190,7 +190,10 @@ paired-three-requires-4 t c κs = search needs
 
 paired-matched-requires-4 : (t : ℕ) → paired-lts.Need-matched-requires-4 (paired-calls t) (paired-at t) paired.Post
 paired-matched-requires-4 t c κs =
-    let some = c .before .before .before .before .before .before .before .before .before .before .before .before .before .before .before .before .before .before in
+    let missed-c = c .before .before .before in
+    let missed-b = missed-c .before .before .before .before .before in
+    let missed-a = missed-b .before .before .before .before .before in
+    let some = missed-a .before .before .before .before .before in
     let looked = some .before .before in
     (omega (arith, looked .before .before .pre .0), (looked .member .ensures, ne-eqb _ _ (some .if1 .left)))
 
