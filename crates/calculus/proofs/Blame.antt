@@ -125,19 +125,19 @@ module _ (ts log : List ℕ) where
   abbrev EndBlame : Ending → ℕ → Type 0
   EndBlame e end = (e .number ≡ 0 → ⊥) → OfStep (kindOf (stepAt log (e .steps) .step)) (e .number) × (e .steps < end)
 
-  follow-blame : (go : State → Ending) (s : State) (n end : ℕ) (a : Answer) → StepBlame (kindOf (stepAt log n .step)) a → n < end
-      → ((s′ : State) → EndBlame (go s′) end) → EndBlame (follow go s n a) end
+  follow-blame : (go : State → Ending) (at : ℕ → ℕ) (s : State) (n end : ℕ) (a : Answer) → StepBlame (kindOf (stepAt log n .step)) a → n < end
+      → ((s′ : State) → EndBlame (go s′) end) → EndBlame (follow go at s n a) end
   unfolding follow
-  follow-blame go s n end (allowed s′) h l k = k s′
-  follow-blame go s n end refuted h l k = λ z. absurd (z refl)
-  follow-blame go s n end (refused c) h l k = λ z. (h, l)
+  follow-blame go at s n end (allowed s′) h l k = k s′
+  follow-blame go at s n end refuted h l k = λ z. absurd (z refl)
+  follow-blame go at s n end (refused c) h l k = λ z. (h, l)
 
   run-blame : (s : State) (n k : ℕ) → EndBlame (run ts log s n k) (n + k)
   unfolding run
   run-blame s n zero = λ z. absurd (z refl)
   run-blame s n (suc k) =
       let e : n + suc k ≡ suc n + k = omega arith in
-      follow-blame _ s n (n + suc k) _ (step-blame ts s (stepAt log n)) (omega arith) (λ s′. rw e (run-blame s′ (suc n) k))
+      follow-blame _ _ s n (n + suc k) _ (step-blame ts s (stepAt log n)) (omega arith) (λ s′. rw e (run-blame s′ (suc n) k))
 
 -- ---- the call
 

@@ -16,6 +16,7 @@ use Rattle.calculus.specs.Trail.{Trail, Entry, keptTo, decision}
 use Rattle.calculus.specs.Inputs.{given, inputTerm, inputValue, inputTrail, valueSuits, inputRefusal, inputsRefusal}
 use Rattle.calculus.specs.Steps.{State, searching, trailOf, Answer, allowed, refuted, refused, answer, stepAt, kindOf, shaped, decideRefusal, decide, deduce, clash, fail, resolve, clear, jump, flip, learn, rowRefusal, stepBy, step}
 use Rattle.calculus.specs.WellFormed.{WellFormedState, Truthful, Coherent}
+use Rattle.calculus.specs.Place.{placeOf}
 use Rattle.calculus.specs.Run.{follow, run}
 use Rattle.calculus.proofs.Facts.{num-le, eqb-of, and-r, or-cases, facts, unless-ok, first-ok, answer-case}
 use Rattle.calculus.proofs.Entries.{kept-out}
@@ -87,7 +88,7 @@ module _ (ts : List ℕ) where
   run-coherent log s n (suc k) h = go (λ s′ q. run-coherent log s′ (suc n) k q) (step ts s (stepAt log n)) refl
     where
       go : ((s′ : State) → Coherent ts s′ → Coherent ts (run ts log s′ (suc n) k .state)) → (a : Answer) → step ts s (stepAt log n) ≡ a
-          → Coherent ts (follow (λ s′. run ts log s′ (suc n) k) s n a .state)
+          → Coherent ts (follow (λ s′. run ts log s′ (suc n) k) (placeOf ts s (stepAt log n)) s n a .state)
       go f (allowed s′) e = f s′ (step-coherent s s′ (stepAt log n) h e)
       go f refuted e = h
       go f (refused c) e = h

@@ -17,6 +17,7 @@ use Rattle.calculus.specs.Terms.{prop, termsRefusal}
 use Rattle.calculus.specs.Trail.{Set, Trail, Entry, remove, without, intersection, on, entry, levelAt, whyAt, holds, firstOrder, levelOf, topLevel, keptTo, decision, justified}
 use Rattle.calculus.specs.Inputs.{given, inputTerm, inputValue, inputTrail, inputRefusal, inputsRefusal}
 use Rattle.calculus.specs.Steps.{State, searching, conflict, trailOf, conflictOf, Answer, allowed, refuted, refused, answer, stepAt, premises, known, kindOf, decideRefusal, decide, inferenceRefusal, deduceRefusal, deduce, contradictionRefusal, clashRefusal, clash, fail, resolve, clear, jumpRefusal, jump, flipRefusal, flip, learnRefusal, learn, rowRefusal, stepBy, step}
+use Rattle.calculus.specs.Place.{placeOf}
 use Rattle.calculus.specs.Run.{follow, run, sheetsRefusal, callRefusal, start, endingOf, ending}
 use Rattle.calculus.specs.WellFormed.{Within, Distinct, Below, Grounded, relevelled, WellFormed, WellFormedState}
 use Rattle.calculus.proofs.Facts.{and-l, and-r, T-true, T-false, true-T, is-or-not, true-or-false, both-true, one-true, cond-case, all-at, has-at, unless-ok, orElse-ok, first-ok, answer-case}
@@ -358,7 +359,7 @@ module _ (ts : List ℕ) where
   run-well-formed log s n (suc k) r = go (λ s′ q. run-well-formed log s′ (suc n) k q) (step ts s (stepAt log n)) (step-kept s (stepAt log n) r)
     where
       go : ((s′ : State) → WellFormedState rows s′ → WellFormedState rows (run ts log s′ (suc n) k .state)) → (a : Answer) → Kept rows a
-          → WellFormedState rows (follow (λ s′. run ts log s′ (suc n) k) s n a .state)
+          → WellFormedState rows (follow (λ s′. run ts log s′ (suc n) k) (placeOf ts s (stepAt log n)) s n a .state)
       go f (allowed s′) q = f s′ q
       go f refuted q = r
       go f (refused c) q = r

@@ -9,6 +9,7 @@ pub mod Inputs
 pub mod Rules
 pub mod Clauses
 pub mod Steps
+pub mod Place
 pub mod Run
 pub mod WellFormed
 pub mod Blame

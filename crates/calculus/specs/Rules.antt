@@ -186,7 +186,7 @@ module _ (ts : List ℕ) where
       && (equates (arg ts a 1) (arg ts s 1) 0 p && eqb v 1)))))))
   fits Unlisted l v ps = false
 
--- the answer of a rule test
-abbrev pub fitOf : Bool → Fit
-fitOf true = Fits
-fitOf false = Unfit
+-- the answer of a rule test, where c is the column at which a row that does not fit went wrong
+abbrev pub fitOf : Bool → ℕ → Fit
+fitOf true c = Fits
+fitOf false c = Unfit c

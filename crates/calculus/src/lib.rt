@@ -83,10 +83,16 @@ pub struct Premise {
     pub value: u16,
 }
 
-// Whether a rule gives a term its value.
+// Whether a rule gives a term its value, or the column, counted from 1 at "step", after which nothing to its right would make it fit.
 pub enum Fit {
     Fits,
-    Unfit,
+    Unfit(u16),
+}
+
+// The number that a row is refused with, and the column at which it went wrong, or 0.
+pub struct Refusal {
+    pub number: u16,
+    pub place: u16,
 }
 
 // Whether the sheets can be run, or the number that they are refused with.
@@ -102,11 +108,13 @@ pub enum Verdict {
     Refused,
 }
 
-// What a call answers: the verdict's number, the steps allowed, the number of the refusal or 0, and the entries on the trail.
+// What a call answers: the verdict's number, the steps allowed, the number of the refusal or 0, the entries on the trail, and with 11, 12, 13
+// the column at which the row went wrong, counted from 1 at "step", else 0.
 #[repr(C)]
 pub struct Outcome {
     pub verdict: u16,
     pub steps: u16,
     pub number: u16,
     pub entries: u16,
+    pub place: u16,
 }

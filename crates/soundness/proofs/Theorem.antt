@@ -10,6 +10,7 @@ use Rattle.calculus.specs.Sorts.{sortsRefusal}
 use Rattle.calculus.specs.Terms.{termsRefusal}
 use Rattle.calculus.specs.Inputs.{given, inputTerm, inputValue, inputTrail}
 use Rattle.calculus.specs.Steps.{State, trailOf, conflictOf, inConflict, Answer, allowed, refuted, refused, stepAt, step}
+use Rattle.calculus.specs.Place.{placeOf}
 use Rattle.calculus.specs.Run.{Ending, follow, run, sheetsRefusal, callRefusal, start, endingOf, ending, verdictNumber, outcome}
 use Rattle.calculus.specs.WellFormed.{Coherent}
 use Rattle.calculus.proofs.Facts.{true-or-false, orElse-ok}
@@ -53,7 +54,7 @@ module _ {ss ts : List ℕ} (W : WellSorted ss ts) (is log : List ℕ) where
     where
       go : ((s′ : State) → Coherent ts s′ → Good W (Given is) s′ → SoundEnding ss ts is (run ts log s′ (suc n) k))
           → (a : Answer) → step ts s (stepAt log n) ≡ a → GoodAnswer W (Given is) a
-          → SoundEnding ss ts is (follow (λ s′. run ts log s′ (suc n) k) s n a)
+          → SoundEnding ss ts is (follow (λ s′. run ts log s′ (suc n) k) (placeOf ts s (stepAt log n)) s n a)
       go f (allowed s′) e c = f s′ (step-coherent ts s s′ (stepAt log n) r e) c
       go f refuted e c = record { refutation = λ _. c; entries = g .entries; conflicts = g .conflicting }
       go f (refused q) e c = record { refutation = λ h. absurd (omega arith); entries = g .entries; conflicts = g .conflicting }
