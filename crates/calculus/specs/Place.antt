@@ -69,8 +69,8 @@ module _ (ts : List ℕ) (k : Rule) (l : ℕ) where
   unfoldable pub completable : ℕ → List Premise → ℕ → Bool
   completable v ps c =
       cond (ltb c valueColumn)
-        (completes 5 0 [] || completes 5 1 [])
-        (completes (openAfter ps c) v (take (c - valueColumn) ps))
+      (completes 5 0 [] || completes 5 1 [])
+      (completes (openAfter ps c) v (take (c - valueColumn) ps))
 
   unfoldable pub unfitPlace : ℕ → List Premise → ℕ
   unfitPlace v ps = termColumn + firstWhere 7 (λ j. not (completable v ps (termColumn + j)))

@@ -1,2 +1,2 @@
--- What the test of a rule answers.
+-- What a rule answers.
 pub mod Laws
