@@ -1,6 +1,6 @@
 -- Definitions in other forms: as the code tests them, and as proofs take them apart.
 use mathlib.Core.Path.{_≡_, refl, sym, ap, _∙_}
-use mathlib.Core.Bool.{Bool, true, false, _&&_, _||_, cond, and-false, or-false}
+use mathlib.Core.Bool.{Bool, true, false, not, _&&_, _||_, cond, and-false, or-false, true≢false}
 use mathlib.Core.List.{List, [], _∷_}
 use Prim.Native.Nat.{ℕ, zero, suc, _+_, _*_, _≤_}
 use native.Mathlib.Omega.{arith}
@@ -9,11 +9,13 @@ use lib.ListN.{length, getD, List·getD-eq-default}
 use lib.Dec.{eqb, leb, ltb}
 use borrow.Author.Tests.{lt-leb}
 use Rattle.calculus.specs.declared.Premise.{Premise}
+use Rattle.calculus.specs.declared.Step.{Step}
 use Rattle.calculus.specs.declared.Head.the-variants.{Free, Unlisted}
 use Rattle.calculus.specs.declared.Rule.the-variants.{Congruence, Predicate}
 use Rattle.calculus.specs.Lists.{all, below, somewhere}
 use Rattle.calculus.specs.Sheets.{blank}
 use Rattle.calculus.specs.Terms.{head, cells, filled, args, arg, eqHead, selectHead, storeHead, firstFree, heads, headOf, isFree, isFunction, twins}
+use Rattle.calculus.specs.Place.{firstFault, premiseFault}
 use Rattle.calculus.specs.Rules.{leading, gives, others, allBut, unitAt, isHead, pairs, fits}
 
 -- ---- heads
@@ -166,3 +168,40 @@ module _ (ts : List ℕ) (l v : ℕ) (ps : List Premise) where
   pred-numbers =
       ap (λ (b : Bool). leading ps (λ p qs. b && (eqb (head ts (p .row)) (head ts l) && (eqb (p .value) v && pairs ts (args ts (p .row)) (args ts l) qs))))
       (free-numbers (head ts l))
+
+-- ---- the first column with a fault, with one more in front
+
+module _ (ok : ℕ → Bool) (c x : ℕ) (xs : List ℕ) where
+  abbrev later : ℕ
+  later = firstFault (λ y. not (ok y)) (suc c) xs
+
+  -- one that is blank or has no fault is passed over
+  pub fault-later : {r : Bool} → r ≡ ok x → (eqb x blank || r) ≡ true → firstFault (λ y. not (ok y)) c (x ∷ xs) ≡ later
+  fault-later q e = go (eqb x blank) (ok x) (rw (← q) e)
+    where
+      go : (a b : Bool) → (a || b) ≡ true → cond (not a && not b) c later ≡ later
+      go true b e = refl
+      go false true e = refl
+      go false false e = absurd (true≢false (sym e))
+
+  -- another is the first
+  pub fault-here : {r : Bool} → r ≡ ok x → (eqb x blank || r) ≡ false → firstFault (λ y. not (ok y)) c (x ∷ xs) ≡ c
+  fault-here q e = go (eqb x blank) (ok x) (rw (← q) e)
+    where
+      go : (a b : Bool) → (a || b) ≡ false → cond (not a && not b) c later ≡ c
+      go true b e = absurd (true≢false e)
+      go false true e = absurd (true≢false e)
+      go false false e = refl
+
+-- the five columns, one after the other from the last
+module _ (fault : ℕ → Bool) (x : Step) where
+  abbrev More : ℕ → ℕ → ℕ → ℕ → Type 0
+  More c y rest here = (xs : List ℕ) → rest ≡ firstFault fault (suc c) xs → here ≡ firstFault fault c (y ∷ xs)
+
+  pub premise-fault : {p q r s t : ℕ} → More 9 (x .t) 10 t → More 8 (x .s) t s → More 7 (x .r) s r → More 6 (x .q) r q → More 5 (x .p) q p
+      → p ≡ premiseFault fault x
+  premise-fault last fourth third second first =
+      let five = x .t ∷ [] in
+      let four = x .s ∷ five in
+      let three = x .r ∷ four in
+      first (x .q ∷ three) (second three (third four (fourth five (last [] refl))))

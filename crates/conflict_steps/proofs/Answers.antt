@@ -15,7 +15,7 @@ use Rattle.moves.specs.Post.{conflictIn, Stands, Conflicts, Above, restLevel, l
 use Rattle.state.specs.declared.Status.{Status}
 use Rattle.state.specs.declared.Answer.{Answer}
 use Rattle.state.specs.declared.Answer.the-variants.{Allowed, Refused}
-use Rattle.state.specs.States.{Answers}
+use Rattle.state.specs.States.{nowhere, unplaced, Answers}
 use Rattle.state.proofs.States.{refused-by, passed-by}
 use Rattle.state.proofs.Landed.{opened}
 use Rattle.conflicts.specs.Conflicts.{Conflicted, Found, Member, inSearch}
@@ -32,9 +32,9 @@ module _ (w n : ℕ) (ts ws : List ℕ) (st : Status) where
   -- ---- resolve
 
   module _ (a : ℕ) {c : ℕ} (c-is : c ≡ resolveRefusal ts here set a) where
-    pub resolve-refused : (c ≡ 0 → ⊥) → Answers w n ts ws ws (calculus.resolve ts here set a) (Refused c)
+    pub resolve-refused : (c ≡ 0 → ⊥) → Answers w n ts ws ws nowhere (calculus.resolve ts here set a) (Refused (unplaced c))
     unfolding Answers calculus.resolve
-    resolve-refused h = (refused-by _ c-is h, refl)
+    resolve-refused h = (refused-by _ c-is h, refl, refl)
 
     module _ (c-no : c ≡ 0) (g : Conflicted w n ts ws st a) where
       pub resolve-on : on here a ≡ true
@@ -48,16 +48,16 @@ module _ (w n : ℕ) (ts ws : List ℕ) (st : Status) where
           T-false _ (unless-ok _ 18 _ (omega arith) (p .1) .0)
 
       pub resolve-done : (vs : List ℕ) → Conflicts w n vs (st .count) here (union (remove set a) (whyAt here a))
-          → Answers w n ts ws vs (calculus.resolve ts here set a) (Allowed (record { count = st .count; top = st .top; conflict = true }))
+          → Answers w n ts ws vs nowhere (calculus.resolve ts here set a) (Allowed (record { count = st .count; top = st .top; conflict = true }))
       unfolding calculus.resolve
-      resolve-done vs s = opened w n ts ws vs _ refl (g .standing .held .rows) (g .standing .held .top) s (passed-by _ c-is c-no)
+      resolve-done vs s = opened w n ts ws vs _ _ refl (g .standing .held .rows) (g .standing .held .top) s (passed-by _ c-is c-no)
 
   -- ---- clear
 
   module _ (a : ℕ) {c : ℕ} (c-is : c ≡ clearRefusal ts here set a) where
-    pub clear-refused : (c ≡ 0 → ⊥) → Answers w n ts ws ws (calculus.clear ts here set a) (Refused c)
+    pub clear-refused : (c ≡ 0 → ⊥) → Answers w n ts ws ws nowhere (calculus.clear ts here set a) (Refused (unplaced c))
     unfolding Answers calculus.clear
-    clear-refused h = (refused-by _ c-is h, refl)
+    clear-refused h = (refused-by _ c-is h, refl, refl)
 
     module _ (c-no : c ≡ 0) (g : Conflicted w n ts ws st a) where
       pub clear-on : on here a ≡ true
@@ -65,16 +65,16 @@ module _ (w n : ℕ) (ts ws : List ℕ) (st : Status) where
       clear-on = found w n ts ws st g .within a (T-true _ (unless-ok _ 17 _ (omega arith) (sym c-is ∙ c-no) .0))
 
       pub clear-done : (vs : List ℕ) (count : ℕ) (top : Level) {r : Answer} → Stands w n vs count (top .0) (keptTo (levelAt here a - 1) here)
-          → r ≡ Allowed (inSearch count top) → Answers w n ts ws vs (calculus.clear ts here set a) r
+          → r ≡ Allowed (inSearch count top) → Answers w n ts ws vs nowhere (calculus.clear ts here set a) r
       unfolding calculus.clear
-      clear-done vs count top s q = search-on w n ts ws st vs count top g s (passed-by _ c-is c-no) q
+      clear-done vs count top s q = search-on w n ts ws st vs _ count top g s (passed-by _ c-is c-no) q
 
   -- ---- jump
 
   module _ (l : ℕ) {c : ℕ} (c-is : c ≡ jumpRefusal ts here set l) where
-    pub jump-refused : (c ≡ 0 → ⊥) → Answers w n ts ws ws (calculus.jump ts here set l) (Refused c)
+    pub jump-refused : (c ≡ 0 → ⊥) → Answers w n ts ws ws nowhere (calculus.jump ts here set l) (Refused (unplaced c))
     unfolding Answers calculus.jump
-    jump-refused h = (refused-by _ c-is h, refl)
+    jump-refused h = (refused-by _ c-is h, refl, refl)
 
     module _ (c-no : c ≡ 0) (g : Conflicted w n ts ws st l) where
       pub jump-above : Above w n ws (st .count) l (restLevel w n ws (st .count) l)
@@ -87,16 +87,16 @@ module _ (w n : ℕ) (ts ws : List ℕ) (st : Status) where
           record { laid = f .laid; wellFormed = f .wellFormed; row = g .row; within = f .within; member = T-true _ (p .0); above = ltb→lt _ _ (r .0) }
 
       pub jump-done : (vs : List ℕ) (count : ℕ) (top : Level) {r : Answer} → Stands w n vs count (top .0) (jumpedIn w n ws (st .count) l)
-          → r ≡ Allowed (inSearch count top) → Answers w n ts ws vs (calculus.jump ts here set l) r
+          → r ≡ Allowed (inSearch count top) → Answers w n ts ws vs nowhere (calculus.jump ts here set l) r
       unfolding calculus.jump
-      jump-done vs count top s q = search-on w n ts ws st vs count top g s (passed-by _ c-is c-no) q
+      jump-done vs count top s q = search-on w n ts ws st vs _ count top g s (passed-by _ c-is c-no) q
 
   -- ---- flip
 
   module _ (l k : ℕ) {c : ℕ} (c-is : c ≡ flipRefusal ts here set l k) where
-    pub flip-refused : (c ≡ 0 → ⊥) → Answers w n ts ws ws (calculus.flip ts here set l k) (Refused c)
+    pub flip-refused : (c ≡ 0 → ⊥) → Answers w n ts ws ws nowhere (calculus.flip ts here set l k) (Refused (unplaced c))
     unfolding Answers calculus.flip
-    flip-refused h = (refused-by _ c-is h, refl)
+    flip-refused h = (refused-by _ c-is h, refl, refl)
 
     module _ (c-no : c ≡ 0) (g : Conflicted w n ts ws st l) where
       f : Found w n ws (st .count)
@@ -127,6 +127,6 @@ module _ (w n : ℕ) (ts ws : List ℕ) (st : Status) where
           top-fits w n ws (st .count) l (record { member = p; justified = flip-free .0 })
 
       pub flip-done : (vs : List ℕ) (count : ℕ) (top : Level) {r : Answer} → Stands w n vs count (top .0) (flippedIn w n ws (st .count) l)
-          → r ≡ Allowed (inSearch count top) → Answers w n ts ws vs (calculus.flip ts here set l k) r
+          → r ≡ Allowed (inSearch count top) → Answers w n ts ws vs nowhere (calculus.flip ts here set l k) r
       unfolding calculus.flip
-      flip-done vs count top s q = search-on w n ts ws st vs count top g s (passed-by _ c-is c-no) q
+      flip-done vs count top s q = search-on w n ts ws st vs _ count top g s (passed-by _ c-is c-no) q

@@ -8,9 +8,10 @@ ghost use Rattle.calculus.specs.Steps as calculus;
 ghost use Rattle.calculus.specs.Steps.{resolveRefusal, clearRefusal, jumpRefusal, flipRefusal};
 ghost use Rattle.trail.specs.Words.{trailIn};
 ghost use Rattle.moves.specs.Post.{conflictIn, restLevel};
-ghost use Rattle.state.specs.States.{Answers};
+ghost use Rattle.state.specs.States.{nowhere, Answers};
 ghost use Rattle.conflicts.specs.Conflicts.{Conflicted, Found, Member, Justified, whyIn, conflictLevel, holdsFirstOrder};
 use calculus::Level;
+use calculus::Refusal;
 use calculus::Row;
 use state::Answer;
 use state::Status;
@@ -198,14 +199,17 @@ fn flip_refusal(
 // In the conflict, a's justification takes the place of a.
 pub fn resolve(terms: &[u16], work: &mut [u64], w: usize, n: usize, st: Status, a: Row) -> Answer
     requires { ⌜ Conflicted w n (now terms) (now work) st (a .0) ⌝ }
-    ensures { λ r. ⌜ Answers w n (now (terms .entry)) (now (work .entry)) (now (work .exit))
+    ensures { λ r. ⌜ Answers w n (now (terms .entry)) (now (work .entry)) (now (work .exit)) nowhere
         (calculus.resolve (now (terms .entry)) (trailIn w n (now (work .entry)) (st .count)) (conflictIn w n (now (work .entry))) (a .0)) r ⌝ }
 {
     let count = st.count;
     let top = st.top;
     let c = resolve_refusal(terms, work, w, n, count, top, a);
     if c != 0 {
-        return Answer::Refused(c);
+        return Answer::Refused(Refusal {
+            number: c,
+            place: 0,
+        });
     }
     conflict_moves::resolve(work, w, n, count, a);
     Answer::Allowed(Status {
@@ -218,13 +222,16 @@ pub fn resolve(terms: &[u16], work: &mut [u64], w: usize, n: usize, st: Status, 
 // The decision a is undone, with all of its level and above.
 pub fn clear(terms: &[u16], work: &mut [u64], w: usize, n: usize, st: Status, a: Row) -> Answer
     requires { ⌜ Conflicted w n (now terms) (now work) st (a .0) ⌝ }
-    ensures { λ r. ⌜ Answers w n (now (terms .entry)) (now (work .entry)) (now (work .exit))
+    ensures { λ r. ⌜ Answers w n (now (terms .entry)) (now (work .entry)) (now (work .exit)) nowhere
         (calculus.clear (now (terms .entry)) (trailIn w n (now (work .entry)) (st .count)) (conflictIn w n (now (work .entry))) (a .0)) r ⌝ }
 {
     let count = st.count;
     let c = clear_refusal(terms, work, w, n, count, a);
     if c != 0 {
-        return Answer::Refused(c);
+        return Answer::Refused(Refusal {
+            number: c,
+            place: 0,
+        });
     }
     conflicts::searching(conflict_moves::clear(work, w, n, count, a))
 }
@@ -232,14 +239,17 @@ pub fn clear(terms: &[u16], work: &mut [u64], w: usize, n: usize, st: Status, a:
 // Back to the level of the rest of the conflict, which justifies the opposite of l.
 pub fn jump(terms: &[u16], work: &mut [u64], w: usize, n: usize, st: Status, l: Row) -> Answer
     requires { ⌜ Conflicted w n (now terms) (now work) st (l .0) ⌝ }
-    ensures { λ r. ⌜ Answers w n (now (terms .entry)) (now (work .entry)) (now (work .exit))
+    ensures { λ r. ⌜ Answers w n (now (terms .entry)) (now (work .entry)) (now (work .exit)) nowhere
         (calculus.jump (now (terms .entry)) (trailIn w n (now (work .entry)) (st .count)) (conflictIn w n (now (work .entry))) (l .0)) r ⌝ }
 {
     let count = st.count;
     let m = conflicts::rest_level(work, w, n, count, l);
     let c = jump_refusal(terms, work, w, n, count, l, m);
     if c != 0 {
-        return Answer::Refused(c);
+        return Answer::Refused(Refusal {
+            number: c,
+            place: 0,
+        });
     }
     conflicts::searching(conflict_moves::jump(work, w, n, count, l, m))
 }
@@ -255,14 +265,17 @@ pub fn flip(
     k: Row,
 ) -> Answer
     requires { ⌜ Conflicted w n (now terms) (now work) st (l .0) × (k .0 < n) ⌝ }
-    ensures { λ r. ⌜ Answers w n (now (terms .entry)) (now (work .entry)) (now (work .exit))
+    ensures { λ r. ⌜ Answers w n (now (terms .entry)) (now (work .entry)) (now (work .exit)) nowhere
         (calculus.flip (now (terms .entry)) (trailIn w n (now (work .entry)) (st .count)) (conflictIn w n (now (work .entry))) (l .0) (k .0)) r ⌝ }
 {
     let count = st.count;
     let m = conflicts::conflict_level(work, w, n, count);
     let c = flip_refusal(terms, work, w, n, count, l, k, m);
     if c != 0 {
-        return Answer::Refused(c);
+        return Answer::Refused(Refusal {
+            number: c,
+            place: 0,
+        });
     }
     conflicts::searching(conflict_moves::flip(work, w, n, count, l, m))
 }

@@ -26,7 +26,7 @@ use Rattle.conflict_moves.specs.Back.{restIn, ToBackjump, backjumpedIn}
 use Rattle.state.specs.declared.Status.{Status}
 use Rattle.state.specs.declared.Answer.{Answer}
 use Rattle.state.specs.declared.Answer.the-variants.{Allowed, Refused}
-use Rattle.state.specs.States.{Answers}
+use Rattle.state.specs.States.{nowhere, unplaced, Answers}
 use Rattle.state.proofs.States.{refused-by, passed-by}
 use Rattle.state.proofs.Tests.{told, told-not, told-yes, past, stops}
 use Rattle.premises.specs.Columns.{Premised}
@@ -130,9 +130,9 @@ module _ (w n : ℕ) (ts ws : List ℕ) (st : Status) (x : Step) {c : ℕ}
   abbrev answer : calculus.Answer
   answer = calculus.learn ts (trailIn w n ws (st .count)) (conflictIn w n ws) (x .term) (x .value) (premises x)
 
-  pub learn-refused : (c ≡ 0 → ⊥) → Answers w n ts ws ws answer (Refused c)
+  pub learn-refused : (c ≡ 0 → ⊥) → Answers w n ts ws ws nowhere answer (Refused (unplaced c))
   unfolding Answers calculus.learn
-  learn-refused h = (refused-by _ c-is h, refl)
+  learn-refused h = (refused-by _ c-is h, refl, refl)
 
   module _ (c-no : c ≡ 0) (g : ToLearn w n ts ws st x) where
     -- the clause is on the trail nowhere, and the level is not below the rest
@@ -159,6 +159,6 @@ module _ (w n : ℕ) (ts ws : List ℕ) (st : Status) (x : Step) {c : ℕ}
 
     pub learn-done : (vs : List ℕ) (count : ℕ) (top : Level) {v : ℕ} {r : Answer} → v ≡ clauseValue ts (x .term)
         → Stands w n vs count (top .0) (backjumpedIn w n ws (st .count) (x .term) v (x .value) (premiseCells x))
-        → r ≡ Allowed (inSearch count top) → Answers w n ts ws vs answer r
+        → r ≡ Allowed (inSearch count top) → Answers w n ts ws vs nowhere answer r
     unfolding calculus.learn premises
-    learn-done vs count top e s q = search-on w n ts ws st vs count top (g .conflicted) (rw e at s) (passed-by _ c-is c-no) q
+    learn-done vs count top e s q = search-on w n ts ws st vs _ count top (g .conflicted) (rw e at s) (passed-by _ c-is c-no) q

@@ -10,10 +10,11 @@ ghost use Rattle.calculus.specs.Steps.{premiseCells, premises, learnRefusal, le
 ghost use Rattle.trail.specs.Words.{trailIn};
 ghost use Rattle.premises.specs.Columns.{Premised};
 ghost use Rattle.moves.specs.Post.{conflictIn};
-ghost use Rattle.state.specs.States.{Answers};
+ghost use Rattle.state.specs.States.{nowhere, Answers};
 ghost use Rattle.clauses.specs.Pairs.{membersOf};
 ghost use Rattle.learning.specs.Learns.{Named, ToTest, ToLearn};
 use calculus::Level;
+use calculus::Refusal;
 use calculus::Row;
 use calculus::Step;
 use clauses::Members;
@@ -115,7 +116,7 @@ fn learn_refusal(
 // Back to the row's level, where the rest of the conflict justifies the clause.
 pub fn learn(terms: &[u16], work: &mut [u64], w: usize, n: usize, st: Status, x: Step) -> Answer
     requires { ⌜ ToLearn w n (now terms) (now work) st x ⌝ }
-    ensures { λ r. ⌜ Answers w n (now (terms .entry)) (now (work .entry)) (now (work .exit))
+    ensures { λ r. ⌜ Answers w n (now (terms .entry)) (now (work .entry)) (now (work .exit)) nowhere
         (learn (now (terms .entry)) (trailIn w n (now (work .entry)) (st .count)) (conflictIn w n (now (work .entry)))
         (x .term) (x .value) (premises x)) r ⌝ }
 {
@@ -124,7 +125,10 @@ pub fn learn(terms: &[u16], work: &mut [u64], w: usize, n: usize, st: Status, x:
     let rest = conflicts::level_of_rest(work, w, n, count, &ps);
     let c = learn_refusal(terms, work, w, n, count, x, &ps, rest);
     if c != 0 {
-        return Answer::Refused(c);
+        return Answer::Refused(Refusal {
+            number: c,
+            place: 0,
+        });
     }
     let t = Row(x.term);
     let v = clauses::value(terms, t);

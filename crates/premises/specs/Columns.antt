@@ -1,13 +1,14 @@
 -- What the premises of a step row are found to be in the words, what a claim says beside its step row, and the premises column by column.
 use mathlib.Core.Path.{_≡_}
-use mathlib.Core.Bool.{Bool, true}
+use mathlib.Core.Bool.{Bool, true, not}
 use mathlib.Core.List.{List, _∷_}
-use Prim.Native.Nat.{ℕ}
+use Prim.Native.Nat.{ℕ, suc}
 use Rattle.calculus.specs.Lists.{all, has}
 use Rattle.calculus.specs.Terms.{filled}
 use Rattle.calculus.specs.declared.Step.{Step}
 use Rattle.calculus.specs.Trail.{Trail, on, levelOf, premisesAt}
 use Rattle.calculus.specs.Steps.{premises}
+use Rattle.calculus.specs.Place.{firstFault}
 use Rattle.rule_claims.specs.declared.Claim.{Claim}
 use Rattle.rule_claims.specs.Claims.{premisesOf}
 use Rattle.trail.specs.Words.{trailIn, Laid}
@@ -31,6 +32,10 @@ PremisesLevel tr xs m = all (on tr) (filled xs) ≡ true → m ≡ levelOf tr (h
 
 abbrev pub MoreOn : Trail → ℕ → Bool → Bool → Type 0
 MoreOn tr p rest r = (xs : List ℕ) → rest ≡ all (on tr) (filled xs) → r ≡ all (on tr) (filled (p ∷ xs))
+
+abbrev pub MoreAbsent : Trail → ℕ → ℕ → ℕ → ℕ → Type 0
+MoreAbsent tr c p rest r =
+    (xs : List ℕ) → rest ≡ firstFault (λ y. not (on tr y)) (suc c) xs → r ≡ firstFault (λ y. not (on tr y)) c (p ∷ xs)
 
 abbrev pub MoreLevel : Trail → ℕ → ℕ → ℕ → Type 0
 MoreLevel tr p rest r = (xs : List ℕ) → PremisesLevel tr xs rest → PremisesLevel tr (p ∷ xs) r

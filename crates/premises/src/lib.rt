@@ -7,7 +7,8 @@ ghost use Rattle.calculus.specs.Trail.{on, valueAt, levelOf};
 ghost use Rattle.calculus.specs.Steps.{premises};
 ghost use Rattle.rule_claims.specs.Claims.{Looked};
 ghost use Rattle.trail.specs.Words.{trailIn, Laid};
-ghost use Rattle.premises.specs.Columns.{Premised, Claims, PremisesLevel, MoreOn, MoreLevel};
+ghost use Rattle.calculus.specs.Place.{absentPlace};
+ghost use Rattle.premises.specs.Columns.{Premised, Claims, PremisesLevel, MoreOn, MoreAbsent, MoreLevel};
 use calculus::Level;
 use calculus::Premise;
 use calculus::Row;
@@ -49,6 +50,30 @@ pub fn all_on(work: &[u64], w: usize, n: usize, count: usize, x: Step) -> bool
     let r = late_on(work, w, n, count, x);
     let q = more_on(work, w, n, count, x.q, r);
     more_on(work, w, n, count, x.p, q)
+}
+
+// The column of the first premise that is not on the trail: column c, which holds p, in front of the rest.
+fn more_absent(work: &[u64], w: usize, n: usize, count: usize, c: u16, p: u16, rest: u16) -> u16
+    requires { ⌜ Laid w n (now work) count ⌝ }
+    ensures { λ r. ⌜ MoreAbsent (trailIn w n (now (work .entry)) count) c p rest r ⌝ }
+{
+    let s = state::stands(work, w, n, count, Row(p));
+    if (p == BLANK) | s {
+        return rest;
+    }
+    c
+}
+
+// The column of the first premise that is not on the trail.
+pub fn absent_place(work: &[u64], w: usize, n: usize, count: usize, x: Step) -> u16
+    requires { ⌜ Laid w n (now work) count ⌝ }
+    ensures { λ r. ⌜ r ≡ absentPlace (trailIn w n (now (work .entry)) count) x ⌝ }
+{
+    let t = more_absent(work, w, n, count, 9, x.t, 10);
+    let s = more_absent(work, w, n, count, 8, x.s, t);
+    let r = more_absent(work, w, n, count, 7, x.r, s);
+    let q = more_absent(work, w, n, count, 6, x.q, r);
+    more_absent(work, w, n, count, 5, x.p, q)
 }
 
 fn more_level(work: &[u64], w: usize, n: usize, count: usize, p: u16, rest: Level) -> Level

@@ -19,7 +19,7 @@ use Rattle.moves.specs.Post.{Stands, Conflicts}
 use Rattle.state.specs.declared.Status.{Status}
 use Rattle.state.specs.declared.Answer.{Answer}
 use Rattle.state.specs.declared.Answer.the-variants.{Allowed, Refuted, Refused}
-use Rattle.state.specs.States.{Answers}
+use Rattle.state.specs.States.{nowhere, unplaced, Answers}
 use Rattle.state.proofs.States.{trail-well-formed, refused-by, passed-by}
 use Rattle.state.proofs.Landed.{landed, opened}
 use Rattle.state.proofs.Tests.{told-yes}
@@ -66,9 +66,9 @@ module _ (w n : ℕ) (ts ws : List ℕ) (st : Status) where
       omega (arith, g .standing .held .top, d .wide, d .narrow)
 
   module _ (t v : ℕ) {c : ℕ} (c-is : c ≡ decideRefusal ts here t v) where
-    pub decide-refused : (c ≡ 0 → ⊥) → Answers w n ts ws ws (calculus.decide ts here t v) (Refused c)
+    pub decide-refused : (c ≡ 0 → ⊥) → Answers w n ts ws ws nowhere (calculus.decide ts here t v) (Refused (unplaced c))
     unfolding Answers calculus.decide
-    decide-refused h = (refused-by _ c-is h, refl)
+    decide-refused h = (refused-by _ c-is h, refl, refl)
 
     module _ (c-no : c ≡ 0) (g : Searching w n ts ws st t) where
       pub decide-off : on here t ≡ false
@@ -81,18 +81,18 @@ module _ (w n : ℕ) (ts ws : List ℕ) (st : Status) where
       decide-small = top-small g decide-off
 
       pub decide-done : (vs : List ℕ) (after : Status) → after .conflict ≡ false
-          → Stands w n vs (after .count) (after .top .0) (decision here t v ∷ here) → Answers w n ts ws vs (calculus.decide ts here t v) (Allowed after)
+          → Stands w n vs (after .count) (after .top .0) (decision here t v ∷ here) → Answers w n ts ws vs nowhere (calculus.decide ts here t v) (Allowed after)
       unfolding calculus.decide
-      decide-done vs after e s = landed w n ts ws vs after e (g .standing .held .rows) s (passed-by _ c-is c-no)
+      decide-done vs after e s = landed w n ts ws vs _ after e (g .standing .held .rows) s (passed-by _ c-is c-no)
 
   module _ (x : Step) where
     module _ {c : ℕ} (c-is : c ≡ deduceRefusal ts here (x .rule) (x .term) (x .value) (premises x)) where
       abbrev the-deduce : calculus.Answer
       the-deduce = calculus.deduce ts here (x .rule) (x .term) (x .value) (premises x)
 
-      pub deduce-refused : (c ≡ 0 → ⊥) → Answers w n ts ws ws the-deduce (Refused c)
+      pub deduce-refused : (c ≡ 0 → ⊥) → Answers w n ts ws ws the-deduce (Refused (unplaced c))
       unfolding Answers calculus.deduce
-      deduce-refused h = (refused-by _ c-is h, refl)
+      deduce-refused h = (refused-by _ c-is h, refl, refl)
 
       module _ (c-no : c ≡ 0) (g : Searching w n ts ws st (x .term)) where
         allowed-0 : deduceRefusal ts here (x .rule) (x .term) (x .value) (premises x) ≡ 0
@@ -117,15 +117,15 @@ module _ (w n : ℕ) (ts ws : List ℕ) (st : Status) where
             → Stands w n vs (after .count) (after .top .0) (justified here (x .term) (x .value) (has (premises x)) ∷ here)
             → Answers w n ts ws vs the-deduce (Allowed after)
         unfolding calculus.deduce
-        deduce-done vs after e s = landed w n ts ws vs after e (g .standing .held .rows) s (passed-by _ c-is c-no)
+        deduce-done vs after e s = landed w n ts ws vs _ after e (g .standing .held .rows) s (passed-by _ c-is c-no)
 
     module _ {c : ℕ} (c-is : c ≡ clashRefusal ts here (x .rule) (x .term) (x .value) (premises x)) where
       abbrev the-clash : calculus.Answer
       the-clash = calculus.clash ts here (x .rule) (x .term) (x .value) (premises x)
 
-      pub clash-refused : (c ≡ 0 → ⊥) → Answers w n ts ws ws the-clash (Refused c)
+      pub clash-refused : (c ≡ 0 → ⊥) → Answers w n ts ws ws the-clash (Refused (unplaced c))
       unfolding Answers calculus.clash
-      clash-refused h = (refused-by _ c-is h, refl)
+      clash-refused h = (refused-by _ c-is h, refl, refl)
 
       module _ (c-no : c ≡ 0) where
         pub clash-within : Within (has (premises x)) here
@@ -135,15 +135,15 @@ module _ (w n : ℕ) (ts ws : List ℕ) (st : Status) where
         pub clash-opens : Searching w n ts ws st (x .term) → (vs : List ℕ) → Conflicts w n vs (st .count) here (clashSet (x .term) (premises x))
             → Answers w n ts ws vs the-clash (Allowed (record { count = st .count; top = st .top; conflict = true }))
         unfolding calculus.clash
-        clash-opens g vs s = opened w n ts ws vs _ refl (g .standing .held .rows) (g .standing .held .top) s (passed-by _ c-is c-no)
+        clash-opens g vs s = opened w n ts ws vs _ _ refl (g .standing .held .rows) (g .standing .held .top) s (passed-by _ c-is c-no)
 
     module _ {c : ℕ} (c-is : c ≡ failRefusal ts here (x .rule) (x .term) (x .value) (premises x)) where
       abbrev the-fail : calculus.Answer
       the-fail = calculus.fail ts here (x .rule) (x .term) (x .value) (premises x)
 
-      pub fail-refused : (c ≡ 0 → ⊥) → Answers w n ts ws ws the-fail (Refused c)
+      pub fail-refused : (c ≡ 0 → ⊥) → Answers w n ts ws ws the-fail (Refused (unplaced c))
       unfolding Answers calculus.fail
-      fail-refused h = (refused-by _ c-is h, refl)
+      fail-refused h = (refused-by _ c-is h, refl, refl)
 
       pub fail-refutes : c ≡ 0 → Answers w n ts ws ws the-fail Refuted
       unfolding Answers calculus.fail

@@ -6,11 +6,12 @@ ghost use Rattle.calculus.specs.Trail.{on, levelOf};
 ghost use Rattle.calculus.specs.Steps.{premises, clashSet, decideRefusal, inferenceRefusal, deduceRefusal};
 ghost use Rattle.calculus.specs.Steps.{contradictionRefusal, clashRefusal, failRefusal, decide, deduce, clash, fail};
 ghost use Rattle.trail.specs.Words.{trailIn, Laid};
-ghost use Rattle.state.specs.States.{Answers};
+ghost use Rattle.state.specs.States.{nowhere, Answers};
 ghost use Rattle.premises.specs.Columns.{Premised};
 ghost use Rattle.search_steps.specs.Searches.{Searching};
 use calculus::Fit;
 use calculus::Level;
+use calculus::Refusal;
 use calculus::Row;
 use calculus::Step;
 use state::Answer;
@@ -168,12 +169,15 @@ pub fn decide(
     v: u16,
 ) -> Answer
     requires { ⌜ Searching w n (now terms) (now work) st (t .0) ⌝ }
-    ensures { λ r. ⌜ Answers w n (now (terms .entry)) (now (work .entry)) (now (work .exit))
+    ensures { λ r. ⌜ Answers w n (now (terms .entry)) (now (work .entry)) (now (work .exit)) nowhere
         (decide (now (terms .entry)) (trailIn w n (now (work .entry)) (st .count)) (t .0) v) r ⌝ }
 {
     let c = decide_refusal(terms, work, w, n, st.count, t, v);
     if c != 0 {
-        return Answer::Refused(c);
+        return Answer::Refused(Refusal {
+            number: c,
+            place: 0,
+        });
     }
     let kept = moves::decide(work, w, n, st.count, st.top, t, v);
     let top = kept.top;
@@ -187,12 +191,15 @@ pub fn decide(
 // deduce: the premises justify the term's value.
 pub fn deduce(terms: &[u16], work: &mut [u64], w: usize, n: usize, st: Status, x: Step) -> Answer
     requires { ⌜ Searching w n (now terms) (now work) st (x .term) ⌝ }
-    ensures { λ r. ⌜ Answers w n (now (terms .entry)) (now (work .entry)) (now (work .exit))
+    ensures { λ r. ⌜ Answers w n (now (terms .entry)) (now (work .entry)) (now (work .exit)) nowhere
         (deduce (now (terms .entry)) (trailIn w n (now (work .entry)) (st .count)) (x .rule) (x .term) (x .value) (premises x)) r ⌝ }
 {
     let c = deduce_refusal(terms, work, w, n, st.count, x);
     if c != 0 {
-        return Answer::Refused(c);
+        return Answer::Refused(Refusal {
+            number: c,
+            place: 0,
+        });
     }
     let level = premises::level(work, w, n, st.count, x);
     let ps = [x.p, x.q, x.r, x.s, x.t];
@@ -218,12 +225,15 @@ pub fn deduce(terms: &[u16], work: &mut [u64], w: usize, n: usize, st: Status, x
 // clash: premises and opposite, not all at level 0, are the conflict.
 pub fn clash(terms: &[u16], work: &mut [u64], w: usize, n: usize, st: Status, x: Step) -> Answer
     requires { ⌜ Searching w n (now terms) (now work) st (x .term) ⌝ }
-    ensures { λ r. ⌜ Answers w n (now (terms .entry)) (now (work .entry)) (now (work .exit))
+    ensures { λ r. ⌜ Answers w n (now (terms .entry)) (now (work .entry)) (now (work .exit)) nowhere
         (clash (now (terms .entry)) (trailIn w n (now (work .entry)) (st .count)) (x .rule) (x .term) (x .value) (premises x)) r ⌝ }
 {
     let c = clash_refusal(terms, work, w, n, st.count, x);
     if c != 0 {
-        return Answer::Refused(c);
+        return Answer::Refused(Refusal {
+            number: c,
+            place: 0,
+        });
     }
     let ps = [x.p, x.q, x.r, x.s, x.t];
     moves::conflict(work, w, n, st.count, Row(x.term), &ps);
@@ -243,7 +253,10 @@ pub fn fail(terms: &[u16], work: &[u64], w: usize, n: usize, st: Status, x: Step
 {
     let c = fail_refusal(terms, work, w, n, st.count, x);
     if c != 0 {
-        return Answer::Refused(c);
+        return Answer::Refused(Refusal {
+            number: c,
+            place: 0,
+        });
     }
     Answer::Refuted
 }

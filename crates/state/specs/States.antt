@@ -3,6 +3,7 @@ use mathlib.Core.Path.{_≡_}
 use mathlib.Core.Bool.{cond}
 use mathlib.Core.List.{List}
 use Prim.Native.Nat.{ℕ}
+use Rattle.calculus.specs.declared.Refusal.{Refusal}
 use Rattle.calculus.specs.Sheets.{termRows}
 use Rattle.calculus.specs.Trail.{topLevel}
 use Rattle.calculus.specs.Steps as calculus
@@ -32,8 +33,17 @@ pub record Standing (w n : ℕ) (ts ws : List ℕ) (st : Status) : Type 0 where
   pub held : Held w n ts ws st
   pub wellFormed : WellFormedState n (stateIn w n ws st)
 
--- the answer r is the answer a of the calculus: an allowed step leaves its state in the words, any other leaves the words as they were
-unfoldable pub Answers : ℕ → ℕ → List ℕ → List ℕ → List ℕ → calculus.Answer → Answer → Type 0
-Answers w n ts ws vs a (Allowed st) = (a ≡ calculus.allowed (stateIn w n vs st)) × Held w n ts vs st
-Answers w n ts ws vs a Refuted = (a ≡ calculus.refuted) × (vs ≡ ws)
-Answers w n ts ws vs a (Refused c) = (a ≡ calculus.refused c) × (vs ≡ ws)
+-- no number has a place
+abbrev pub nowhere : ℕ → ℕ
+nowhere c = 0
+
+-- the number c, without a place
+abbrev pub unplaced : ℕ → Refusal
+unplaced c = record { number = c; place = 0 }
+
+-- the answer r is the answer a of the calculus: an allowed step leaves its state in the words, any other leaves the words as they were;
+-- a refusal has the place that `at` gives its number
+unfoldable pub Answers : ℕ → ℕ → List ℕ → List ℕ → List ℕ → (ℕ → ℕ) → calculus.Answer → Answer → Type 0
+Answers w n ts ws vs at a (Allowed st) = (a ≡ calculus.allowed (stateIn w n vs st)) × Held w n ts vs st
+Answers w n ts ws vs at a Refuted = (a ≡ calculus.refuted) × (vs ≡ ws)
+Answers w n ts ws vs at a (Refused r) = (a ≡ calculus.refused (r .number)) × (r .place ≡ at (r .number)) × (vs ≡ ws)

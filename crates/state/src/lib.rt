@@ -6,6 +6,7 @@ ghost use Rattle.calculus.specs.Terms.{prop};
 ghost use Rattle.calculus.specs.Trail.{on, valueAt, levelAt, assigned};
 ghost use Rattle.trail.specs.Words.{trailIn, Laid};
 use calculus::Level;
+use calculus::Refusal;
 use calculus::Row;
 use rows::BLANK;
 
@@ -16,11 +17,11 @@ pub struct Status {
     pub conflict: bool,
 }
 
-// What a step answers: the status after an allowed one, or the number that it is refused with.
+// What a step answers: the status after an allowed one, or the number that it is refused with and its place.
 pub enum Answer {
     Allowed(Status),
     Refuted,
-    Refused(u16),
+    Refused(Refusal),
 }
 
 // Whether t is a row whose term stands on the trail.

@@ -1,11 +1,13 @@
-// The tests of a step row by itself: its columns (number 9) and the rows that it names (number 11).
+// The tests of a step row by itself: its columns (number 9) and the rows that it names (number 11, and the column at which one is none).
 ghost use mathlib.Core.Path.{_≡_};
 ghost use mathlib.Core.List.{List, [], _∷_};
-ghost use Prim.Native.Nat.{ℕ};
+ghost use Prim.Native.Nat.{ℕ, suc};
+ghost use mathlib.Core.Bool.{not};
 ghost use lib.Dec.{ltb};
 ghost use Rattle.calculus.specs.Lists.{all};
 ghost use Rattle.calculus.specs.Terms.{filled, leftFilled};
 ghost use Rattle.calculus.specs.Steps.{premises, premiseCells, isBlank, decisionShaped, inferenceShaped, termShaped, pairShaped, learnShaped, shaped, known};
+ghost use Rattle.calculus.specs.Place.{firstFault, premiseFault, strangePlace};
 use calculus::Kind;
 use calculus::Step;
 use rows::BLANK;
@@ -144,4 +146,38 @@ pub fn known(terms: &[u16], x: Step) -> bool
     let n = terms.len() / 6;
     let p = premises_known(n, x);
     ((x.term as usize) < n) & p
+}
+
+// ---- the place of 11
+
+// The column of the first filled premise that is not below n: column c, which holds p, in front of the rest.
+fn more_strange(n: usize, c: u16, p: u16, rest: u16) -> u16
+    ensures { λ r. ⌜ ((xs : List ℕ) → rest ≡ firstFault (λ y. not (ltb y n)) (suc c) xs → r ≡ firstFault (λ y. not (ltb y n)) c (p ∷ xs)) ⌝ }
+{
+    if (p == BLANK) | ((p as usize) < n) {
+        return rest;
+    }
+    c
+}
+
+// The column of the first premise that is not below n.
+fn strange_premise(n: usize, x: Step) -> u16
+    ensures { λ r. ⌜ r ≡ premiseFault (λ y. not (ltb y n)) x ⌝ }
+{
+    let t = more_strange(n, 9, x.t, 10);
+    let s = more_strange(n, 8, x.s, t);
+    let r = more_strange(n, 7, x.r, s);
+    let q = more_strange(n, 6, x.q, r);
+    more_strange(n, 5, x.p, q)
+}
+
+// The first column, of the term and the premises, that is no row of the term sheet.
+pub fn strange_place(terms: &[u16], x: Step) -> u16
+    ensures { λ r. ⌜ r ≡ strangePlace (now (terms .entry)) x ⌝ }
+{
+    let n = terms.len() / 6;
+    if (x.term as usize) < n {
+        return strange_premise(n, x);
+    }
+    3
 }

@@ -36,8 +36,8 @@ returns c = search learn-refused
 value-requires : tie.Need-value-requires
 value-requires c κs = search needs
 
-cast-t23 : tie.Need-cast-t23
-cast-t23 c = search needs
+cast-t24 : tie.Need-cast-t24
+cast-t24 c = search needs
 
 slice-aggregate-backjump : tie.Need-slice-aggregate-backjump
 slice-aggregate-backjump c = search needs
@@ -77,7 +77,7 @@ learn-spec =
     same-length
     returns
     value-requires
-    cast-t23
+    cast-t24
     slice-aggregate-backjump
     backjump-requires
     searching-requires
