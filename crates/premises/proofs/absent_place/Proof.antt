@@ -1,6 +1,5 @@
 -- `premises::absent_place` meets its contract.
-use Rattle.calculus.specs.Place.{absentPlace}
-use Rattle.calculus.proofs.Forms.{premise-fault}
+use Rattle.premises.proofs.Laws.{absent-found}
 use borrow.Author.Needs.{needs}
 use Rattle.premises.proofs.absent_place.Statement.{statement}
 use Rattle.premises.proofs.absent_place.Tie as tie
@@ -21,14 +20,7 @@ more-absent-requires-5 : tie.Need-more-absent-requires-5
 more-absent-requires-5 c κs = search needs
 
 returns : tie.Need-returns
-unfolding absentPlace
-returns c =
-    let q = c .before in
-    let r = q .before in
-    let s = r .before in
-    let t = s .before in
-    premise-fault _ (t .before .before .args .x) (t .more-absent .ensures) (s .more-absent2 .ensures) (r .more-absent3 .ensures) (q .more-absent4 .ensures)
-    (c .more-absent5 .ensures)
+returns c = search absent-found
 
 pub absent-place-spec : {M : Type 1} → statement M
 absent-place-spec =
