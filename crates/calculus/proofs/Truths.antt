@@ -88,7 +88,7 @@ module _ (ts : List ℕ) where
   run-coherent log s n (suc k) h = go (λ s′ q. run-coherent log s′ (suc n) k q) (step ts s (stepAt log n)) refl
     where
       go : ((s′ : State) → Coherent ts s′ → Coherent ts (run ts log s′ (suc n) k .state)) → (a : Answer) → step ts s (stepAt log n) ≡ a
-          → Coherent ts (follow (λ s′. run ts log s′ (suc n) k) (placeOf ts s (stepAt log n)) s n a .state)
+          → Coherent ts (follow (λ s′. run ts log s′ (suc n) k) (placeOf ts (trailOf s) (stepAt log n)) s n a .state)
       go f (allowed s′) e = f s′ (step-coherent s s′ (stepAt log n) h e)
       go f refuted e = h
       go f (refused c) e = h

@@ -359,7 +359,7 @@ module _ (ts : List ℕ) where
   run-well-formed log s n (suc k) r = go (λ s′ q. run-well-formed log s′ (suc n) k q) (step ts s (stepAt log n)) (step-kept s (stepAt log n) r)
     where
       go : ((s′ : State) → WellFormedState rows s′ → WellFormedState rows (run ts log s′ (suc n) k .state)) → (a : Answer) → Kept rows a
-          → WellFormedState rows (follow (λ s′. run ts log s′ (suc n) k) (placeOf ts s (stepAt log n)) s n a .state)
+          → WellFormedState rows (follow (λ s′. run ts log s′ (suc n) k) (placeOf ts (trailOf s) (stepAt log n)) s n a .state)
       go f (allowed s′) q = f s′ q
       go f refuted q = r
       go f (refused c) q = r

@@ -11,7 +11,7 @@ use Rattle.calculus.specs.Lists.{somewhere, firstWhere}
 use Rattle.calculus.specs.Sheets.{termRows}
 use Rattle.calculus.specs.Trail.{Trail, on, premisesAt}
 use Rattle.calculus.specs.Rules.{fits, ruleOf}
-use Rattle.calculus.specs.Steps.{State, trailOf, isFilled, premiseCells, premises}
+use Rattle.calculus.specs.Steps.{isFilled, premiseCells, premises}
 
 -- the columns of a row: step 1, rule 2, term 3, value 4, p to t 5 to 9
 abbrev pub termColumn : ℕ
@@ -75,10 +75,10 @@ module _ (ts : List ℕ) (k : Rule) (l : ℕ) where
   unfoldable pub unfitPlace : ℕ → List Premise → ℕ
   unfitPlace v ps = termColumn + firstWhere 7 (λ j. not (completable v ps (termColumn + j)))
 
--- ---- the place of number n in row x; 0 with every other number
+-- ---- the place of number n in row x, at the trail tr; 0 with every other number
 
-unfoldable pub placeOf : List ℕ → State → Step → ℕ → ℕ
-placeOf ts s x n =
+unfoldable pub placeOf : List ℕ → Trail → Step → ℕ → ℕ
+placeOf ts tr x n =
     cond (eqb n 11) (strangePlace ts x) (
-    cond (eqb n 12) (absentPlace (trailOf s) x) (
-    cond (eqb n 13) (unfitPlace ts (ruleOf (x .rule)) (x .term) (x .value) (premisesAt (trailOf s) (premises x))) 0))
+    cond (eqb n 12) (absentPlace tr x) (
+    cond (eqb n 13) (unfitPlace ts (ruleOf (x .rule)) (x .term) (x .value) (premisesAt tr (premises x))) 0))

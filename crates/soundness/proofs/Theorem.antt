@@ -54,7 +54,7 @@ module _ {ss ts : List ℕ} (W : WellSorted ss ts) (is log : List ℕ) where
     where
       go : ((s′ : State) → Coherent ts s′ → Good W (Given is) s′ → SoundEnding ss ts is (run ts log s′ (suc n) k))
           → (a : Answer) → step ts s (stepAt log n) ≡ a → GoodAnswer W (Given is) a
-          → SoundEnding ss ts is (follow (λ s′. run ts log s′ (suc n) k) (placeOf ts s (stepAt log n)) s n a)
+          → SoundEnding ss ts is (follow (λ s′. run ts log s′ (suc n) k) (placeOf ts (trailOf s) (stepAt log n)) s n a)
       go f (allowed s′) e c = f s′ (step-coherent ts s s′ (stepAt log n) r e) c
       go f refuted e c = record { refutation = λ _. c; entries = g .entries; conflicts = g .conflicting }
       go f (refused q) e c = record { refutation = λ h. absurd (omega arith); entries = g .entries; conflicts = g .conflicting }
