@@ -1,18 +1,20 @@
 -- The answers of the steps of the search: what the number 0 says, and for each return a law.
-use mathlib.Core.Path.{_≡_, refl, sym, _∙_}
+use mathlib.Core.Path.{_≡_, refl, sym, ap, _∙_}
 use mathlib.Core.Bool.{Bool, true, false, not}
 use mathlib.Core.List.{List, _∷_}
 use Prim.Native.Nat.{ℕ, _<_}
 use native.Mathlib.Omega.{arith}
+use Rattle.calculus.specs.declared.Refusal.{Refusal}
 use Rattle.calculus.specs.declared.Step.{Step}
 use Rattle.calculus.specs.Lists.{all, has}
 use Rattle.calculus.specs.Trail.{Trail, on, decision, justified}
+use Rattle.calculus.specs.Place.{placeOf}
 use Rattle.calculus.specs.WellFormed.{Within}
 use Rattle.calculus.specs.Steps as calculus
 use Rattle.calculus.specs.Steps.{premises, clashSet, decideRefusal, inferenceRefusal, deduceRefusal, contradictionRefusal, clashRefusal, failRefusal}
 use Rattle.calculus.proofs.Facts.{T-false, T-true, unless-ok}
 use Rattle.calculus.proofs.WellFormed.{top-length, inference-ok, contradiction-ok}
-use Rattle.trail.specs.Words.{trailIn, Laid}
+use Rattle.trail.specs.Words.{trailIn}
 use Rattle.calculus.proofs.Trails.{room-more}
 use Rattle.trail.proofs.Laws.{trail-length}
 use Rattle.moves.specs.Post.{Stands, Conflicts}
@@ -23,13 +25,27 @@ use Rattle.state.specs.States.{nowhere, unplaced, Answers}
 use Rattle.state.proofs.States.{trail-well-formed, refused-by, passed-by}
 use Rattle.state.proofs.Landed.{landed, opened}
 use Rattle.state.proofs.Tests.{told-yes}
-use Rattle.premises.specs.Columns.{Premised}
-use Rattle.search_steps.specs.Searches.{Searching}
+use Rattle.rule_claims.specs.declared.Claim.{Claim}
+use Rattle.places.specs.Tested.{Tested}
+use Rattle.premises.specs.Columns.{Premised, Claims}
+use Rattle.search_steps.specs.Searches.{Searching, Inferring, Inferred, Refuses}
+use Rattle.search_steps.proofs.Laws.{rows-on}
 
 -- the premises were tested
-pub premised : (w n : ℕ) (ws : List ℕ) (count : ℕ) (x : Step) {b : Bool} → Laid w n ws count
+pub premised : (w n : ℕ) (ts ws : List ℕ) (count : ℕ) (x : Step) {b : Bool} → Inferred w n ts ws count x
     → b ≡ all (on (trailIn w n ws count)) (premises x) → not b ≡ false → Premised w n ws count x
-premised w n ws count x l e h = record { laid = l; stand = told-yes e h }
+premised w n ts ws count x g e h = record { laid = g .laid; stand = told-yes e h }
+
+-- what the rule test asks
+pub to-test : (w n : ℕ) (ts ws : List ℕ) (count : ℕ) (x : Step) {b : Bool} {y : Claim} → Inferred w n ts ws count x
+    → b ≡ all (on (trailIn w n ws count)) (premises x) → not b ≡ false → Claims (trailIn w n ws count) x y → Tested ts n y
+to-test w n ts ws count x g e h c =
+    record {
+      rows = g .rows;
+      few = omega (arith, g .laid .wide, g .laid .narrow);
+      listed = rw (c .premises) (rows-on ts _ n (g .rows) (g .laid .below) (premises x) (told-yes e h));
+      truth = rw (c .value) (g .truth);
+    }
 
 -- ---- what the number 0 says
 
@@ -41,14 +57,17 @@ inference-on ts tr r l v ps rest e =
     T-true _ (b .0)
 
 -- premises and opposite of a contradiction stand on the trail
-module _ (w n : ℕ) (ts ws : List ℕ) (count : ℕ) (x : Step) {c : ℕ}
-    (c-is : c ≡ contradictionRefusal ts (trailIn w n ws count) (x .rule) (x .term) (x .value) (premises x) true) (c-no : c ≡ 0) where
-  pub contradiction-premised : Laid w n ws count → Premised w n ws count x
+module _ (w n : ℕ) (ts ws : List ℕ) (count : ℕ) (x : Step) {at : ℕ → ℕ} {c : Refusal}
+    (c-is : Refuses at (contradictionRefusal ts (trailIn w n ws count) (x .rule) (x .term) (x .value) (premises x) true) c) (c-no : c .number ≡ 0) where
+  none : contradictionRefusal ts (trailIn w n ws count) (x .rule) (x .term) (x .value) (premises x) true ≡ 0
+  none = sym (c-is .number) ∙ c-no
+
+  pub contradiction-premised : Inferred w n ts ws count x → Premised w n ws count x
   unfolding contradictionRefusal
-  contradiction-premised l = record { laid = l; stand = inference-on ts _ (x .rule) (x .term) (x .value) (premises x) _ (sym c-is ∙ c-no) }
+  contradiction-premised l = record { laid = l .laid; stand = inference-on ts _ (x .rule) (x .term) (x .value) (premises x) _ none }
 
   pub contradiction-on : on (trailIn w n ws count) (x .term) ≡ true
-  contradiction-on = contradiction-ok ts _ (x .rule) (x .term) (x .value) (premises x) true (sym c-is ∙ c-no) .1
+  contradiction-on = contradiction-ok ts _ (x .rule) (x .term) (x .value) (premises x) true none .1
 
 -- ---- the steps
 
@@ -86,21 +105,34 @@ module _ (w n : ℕ) (ts ws : List ℕ) (st : Status) where
       decide-done vs after e s = landed w n ts ws vs _ after e (g .standing .held .rows) s (passed-by _ c-is c-no)
 
   module _ (x : Step) where
-    module _ {c : ℕ} (c-is : c ≡ deduceRefusal ts here (x .rule) (x .term) (x .value) (premises x)) where
+    abbrev at : ℕ → ℕ
+    at = placeOf ts here x
+
+    -- what the tests ask
+    pub inferred : Inferring w n ts ws st x → Inferred w n ts ws (st .count) x
+    inferred g = record { laid = g .searching .standing .held .laid; rows = g .searching .standing .held .rows; truth = g .truth }
+
+    -- a refusal with its place
+    refused-at : (a : calculus.Answer) {m : ℕ} {c : Refusal} → Refuses at m c → (c .number ≡ 0 → ⊥)
+        → Answers w n ts ws ws at (calculus.answer m a) (Refused c)
+    unfolding Answers
+    refused-at a c-is h = (refused-by _ (c-is .number) h, c-is .place ∙ ap at (sym (c-is .number)), refl)
+
+    module _ {c : Refusal} (c-is : Refuses at (deduceRefusal ts here (x .rule) (x .term) (x .value) (premises x)) c) where
       abbrev the-deduce : calculus.Answer
       the-deduce = calculus.deduce ts here (x .rule) (x .term) (x .value) (premises x)
 
-      pub deduce-refused : (c ≡ 0 → ⊥) → Answers w n ts ws ws the-deduce (Refused (unplaced c))
-      unfolding Answers calculus.deduce
-      deduce-refused h = (refused-by _ c-is h, refl, refl)
+      pub deduce-refused : (c .number ≡ 0 → ⊥) → Answers w n ts ws ws at the-deduce (Refused c)
+      unfolding calculus.deduce
+      deduce-refused h = refused-at _ c-is h
 
-      module _ (c-no : c ≡ 0) (g : Searching w n ts ws st (x .term)) where
+      module _ (c-no : c .number ≡ 0) (g : Inferring w n ts ws st x) where
         allowed-0 : deduceRefusal ts here (x .rule) (x .term) (x .value) (premises x) ≡ 0
-        allowed-0 = sym c-is ∙ c-no
+        allowed-0 = sym (c-is .number) ∙ c-no
 
         pub deduce-premised : Premised w n ws (st .count) x
         unfolding deduceRefusal
-        deduce-premised = record { laid = g .standing .held .laid; stand = inference-on ts here (x .rule) (x .term) (x .value) (premises x) _ allowed-0 }
+        deduce-premised = record { laid = g .searching .standing .held .laid; stand = inference-on ts here (x .rule) (x .term) (x .value) (premises x) _ allowed-0 }
 
         pub deduce-within : Within (has (premises x)) here
         unfolding deduceRefusal
@@ -115,36 +147,36 @@ module _ (w n : ℕ) (ts ws : List ℕ) (st : Status) where
 
         pub deduce-done : (vs : List ℕ) (after : Status) → after .conflict ≡ false
             → Stands w n vs (after .count) (after .top .0) (justified here (x .term) (x .value) (has (premises x)) ∷ here)
-            → Answers w n ts ws vs the-deduce (Allowed after)
+            → Answers w n ts ws vs at the-deduce (Allowed after)
         unfolding calculus.deduce
-        deduce-done vs after e s = landed w n ts ws vs _ after e (g .standing .held .rows) s (passed-by _ c-is c-no)
+        deduce-done vs after e s = landed w n ts ws vs _ after e (g .searching .standing .held .rows) s (passed-by _ (c-is .number) c-no)
 
-    module _ {c : ℕ} (c-is : c ≡ clashRefusal ts here (x .rule) (x .term) (x .value) (premises x)) where
+    module _ {c : Refusal} (c-is : Refuses at (clashRefusal ts here (x .rule) (x .term) (x .value) (premises x)) c) where
       abbrev the-clash : calculus.Answer
       the-clash = calculus.clash ts here (x .rule) (x .term) (x .value) (premises x)
 
-      pub clash-refused : (c ≡ 0 → ⊥) → Answers w n ts ws ws the-clash (Refused (unplaced c))
-      unfolding Answers calculus.clash
-      clash-refused h = (refused-by _ c-is h, refl, refl)
+      pub clash-refused : (c .number ≡ 0 → ⊥) → Answers w n ts ws ws at the-clash (Refused c)
+      unfolding calculus.clash
+      clash-refused h = refused-at _ c-is h
 
-      module _ (c-no : c ≡ 0) where
+      module _ (c-no : c .number ≡ 0) where
         pub clash-within : Within (has (premises x)) here
         unfolding clashRefusal
-        clash-within = contradiction-ok ts here (x .rule) (x .term) (x .value) (premises x) _ (sym c-is ∙ c-no) .0
+        clash-within = contradiction-ok ts here (x .rule) (x .term) (x .value) (premises x) _ (sym (c-is .number) ∙ c-no) .0
 
-        pub clash-opens : Searching w n ts ws st (x .term) → (vs : List ℕ) → Conflicts w n vs (st .count) here (clashSet (x .term) (premises x))
-            → Answers w n ts ws vs the-clash (Allowed (record { count = st .count; top = st .top; conflict = true }))
+        pub clash-opens : Inferring w n ts ws st x → (vs : List ℕ) → Conflicts w n vs (st .count) here (clashSet (x .term) (premises x))
+            → Answers w n ts ws vs at the-clash (Allowed (record { count = st .count; top = st .top; conflict = true }))
         unfolding calculus.clash
-        clash-opens g vs s = opened w n ts ws vs _ _ refl (g .standing .held .rows) (g .standing .held .top) s (passed-by _ c-is c-no)
+        clash-opens g vs s = opened w n ts ws vs _ _ refl (g .searching .standing .held .rows) (g .searching .standing .held .top) s (passed-by _ (c-is .number) c-no)
 
-    module _ {c : ℕ} (c-is : c ≡ failRefusal ts here (x .rule) (x .term) (x .value) (premises x)) where
+    module _ {c : Refusal} (c-is : Refuses at (failRefusal ts here (x .rule) (x .term) (x .value) (premises x)) c) where
       abbrev the-fail : calculus.Answer
       the-fail = calculus.fail ts here (x .rule) (x .term) (x .value) (premises x)
 
-      pub fail-refused : (c ≡ 0 → ⊥) → Answers w n ts ws ws the-fail (Refused (unplaced c))
-      unfolding Answers calculus.fail
-      fail-refused h = (refused-by _ c-is h, refl, refl)
+      pub fail-refused : (c .number ≡ 0 → ⊥) → Answers w n ts ws ws at the-fail (Refused c)
+      unfolding calculus.fail
+      fail-refused h = refused-at _ c-is h
 
-      pub fail-refutes : c ≡ 0 → Answers w n ts ws ws the-fail Refuted
+      pub fail-refutes : c .number ≡ 0 → Answers w n ts ws ws at the-fail Refuted
       unfolding Answers calculus.fail
-      fail-refutes z = (passed-by _ c-is z, refl)
+      fail-refutes z = (passed-by _ (c-is .number) z, refl)

@@ -1,17 +1,24 @@
--- What a rule answers, and the level of a clash.
+-- What a rule answers, what it is asked of, and the level of a clash.
 use mathlib.Core.Path.{_≡_, refl, sym, _∙_}
-use mathlib.Core.Bool.{Bool, true, false}
-use mathlib.Core.List.{List}
+use mathlib.Core.Bool.{Bool, true, false, true≢false}
+use mathlib.Core.List.{List, [], _∷_}
 use Prim.Native.Nat.{ℕ, max}
 use native.Mathlib.Omega.{arith}
 use Rattle.calculus.specs.declared.Fit.{Fit}
 use Rattle.calculus.specs.declared.Fit.the-variants.{Fits, Unfit}
 use Rattle.calculus.specs.declared.Rule.{Rule}
 use Rattle.calculus.specs.declared.Step.{Step}
-use Rattle.calculus.specs.Lists.{has}
+use lib.Dec.{T, ltb, nltb→le}
+use Rattle.calculus.specs.Lists.{all, has}
+use Rattle.calculus.specs.Sheets.{termRows}
 use Rattle.calculus.specs.Trail.{Trail, on, levelAt, levelOf, premisesAt}
 use Rattle.calculus.specs.Rules.{fits, fitOf, ruleOf}
 use Rattle.calculus.specs.Steps.{premises, clashSet}
+use Rattle.calculus.specs.Place.{unfitPlace}
+use Rattle.calculus.specs.WellFormed.{Below}
+use Rattle.calculus.proofs.Facts.{both-true, and-both, true-T, false-T}
+use Rattle.completions.specs.Search.{isRow}
+use Rattle.state.proofs.States.{below-off}
 use Rattle.calculus.proofs.WellFormed.{level-more}
 use Rattle.rule_claims.specs.declared.Claim.{Claim}
 use Rattle.rule_claims.specs.Claims.{premisesOf}
@@ -20,18 +27,36 @@ use Rattle.premises.specs.Columns.{Premised, Claims}
 
 -- ---- the rule's answer
 
-pub fits-true : {b : Bool} → fitOf b ≡ Fits → b ≡ true
-fits-true {b = true} e = refl
-fits-true {b = false} e = let z : _≡_ {A = ℕ} 0 1 = cc in absurd (omega arith)
+pub fits-true : {b : Bool} (c : ℕ) → fitOf b c ≡ Fits → b ≡ true
+fits-true {b = true} c e = refl
+fits-true {b = false} c e = let z : _≡_ {A = ℕ} 0 1 = cc in absurd (omega arith)
 
-pub fits-false : {b : Bool} → fitOf b ≡ Unfit → b ≡ false
-fits-false {b = true} e = let z : _≡_ {A = ℕ} 0 1 = cc in absurd (omega arith)
-fits-false {b = false} e = refl
+pub fits-false : {b : Bool} (c d : ℕ) → fitOf b c ≡ Unfit d → (b ≡ false) × (d ≡ c)
+fits-false {b = true} c d e = let z : _≡_ {A = ℕ} 0 1 = cc in absurd (omega arith)
+fits-false {b = false} c d e = (refl, cc)
 
--- what the test of a row's claim answers is what the rule says of the row
-pub tested : (ts : List ℕ) (tr : Trail) (x : Step) {y : Claim} {k : Rule} {f : Fit} → f ≡ fitOf (fits ts k (y .term .0) (y .value) (premisesOf y))
-    → k ≡ ruleOf (x .rule) → Claims tr x y → f ≡ fitOf (fits ts (ruleOf (x .rule)) (x .term) (x .value) (premisesAt tr (premises x)))
-tested ts tr x e q c = e ∙ rw (q, c .term, c .value, c .premises)
+module _ (ts : List ℕ) (tr : Trail) (x : Step) where
+  -- the column at which a row goes wrong that its rule does not allow
+  abbrev pub unfitAt : ℕ
+  unfitAt = unfitPlace ts (ruleOf (x .rule)) (x .term) (x .value) (premisesAt tr (premises x))
+
+  -- what the test of a row's claim answers is what the rule says of the row
+  pub tested : {y : Claim} {k : Rule} {f : Fit}
+      → f ≡ fitOf (fits ts k (y .term .0) (y .value) (premisesOf y)) (unfitPlace ts k (y .term .0) (y .value) (premisesOf y))
+      → k ≡ ruleOf (x .rule) → Claims tr x y → f ≡ fitOf (fits ts (ruleOf (x .rule)) (x .term) (x .value) (premisesAt tr (premises x))) unfitAt
+  tested e q c = e ∙ rw (q, c .term, c .value, c .premises)
+
+-- premises that stand on the trail are rows of the sheet
+pub rows-on : (ts : List ℕ) (tr : Trail) (n : ℕ) → n ≡ termRows ts → Below n tr → (ps : List ℕ) → all (on tr) ps ≡ true
+    → T (all (isRow ts) (premisesAt tr ps))
+rows-on ts tr n e b [] h = tt
+rows-on ts tr n e b (p ∷ ps) h =
+    let here = both-true (on tr p) (all (on tr) ps) h in
+    and-both (ltb p (termRows ts)) _ (rw (← e) (on-row (ltb p n) refl (here .0))) (rows-on ts tr n e b ps (here .1))
+  where
+    on-row : (r : Bool) → ltb p n ≡ r → on tr p ≡ true → T (ltb p n)
+    on-row true q o = true-T _ q
+    on-row false q o = absurd (true≢false (sym o ∙ below-off n tr p b (nltb→le p n (false-T _ q))))
 
 -- ---- levels
 

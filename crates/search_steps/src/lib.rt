@@ -6,9 +6,10 @@ ghost use Rattle.calculus.specs.Trail.{on, levelOf};
 ghost use Rattle.calculus.specs.Steps.{premises, clashSet, decideRefusal, inferenceRefusal, deduceRefusal};
 ghost use Rattle.calculus.specs.Steps.{contradictionRefusal, clashRefusal, failRefusal, decide, deduce, clash, fail};
 ghost use Rattle.trail.specs.Words.{trailIn, Laid};
+ghost use Rattle.calculus.specs.Place.{placeOf};
 ghost use Rattle.state.specs.States.{nowhere, Answers};
 ghost use Rattle.premises.specs.Columns.{Premised};
-ghost use Rattle.search_steps.specs.Searches.{Searching};
+ghost use Rattle.search_steps.specs.Searches.{Searching, Inferring, Inferred, Refuses};
 use calculus::Fit;
 use calculus::Level;
 use calculus::Refusal;
@@ -61,44 +62,75 @@ fn decide_refusal(
     0
 }
 
-// Numbers 22, 12, 13, which deduce, clash and fail share.
-fn inference_refusal(terms: &[u16], work: &[u64], w: usize, n: usize, count: usize, x: Step) -> u16
-    requires { ⌜ Laid w n (now work) count ⌝ }
-    ensures { λ r. ⌜ r ≡ inferenceRefusal (now (terms .entry)) (trailIn w n (now (work .entry)) count) (x .rule) (x .term) (x .value) (premises x) 0 ⌝ }
+// Numbers 22, 12, 13, which deduce, clash and fail share, with their places.
+fn inference_refusal(
+    terms: &[u16],
+    work: &[u64],
+    w: usize,
+    n: usize,
+    count: usize,
+    x: Step,
+) -> Refusal
+    requires { ⌜ Inferred w n (now terms) (now work) count x ⌝ }
+    ensures { λ r. ⌜ Refuses (placeOf (now (terms .entry)) (trailIn w n (now (work .entry)) count) x)
+        (inferenceRefusal (now (terms .entry)) (trailIn w n (now (work .entry)) count) (x .rule) (x .term) (x .value) (premises x) 0) r ⌝ }
 {
     if !state::is_prop(terms, Row(x.term)) {
-        return 22;
+        return Refusal {
+            number: 22,
+            place: 0,
+        };
     }
     if !premises::all_on(work, w, n, count, x) {
-        return 12;
+        return Refusal {
+            number: 12,
+            place: premises::absent_place(work, w, n, count, x),
+        };
     }
-    let fit = rules::test(
+    let fit = places::test(
         terms,
+        n,
         kinds::rule_of(x.rule),
         premises::claim(work, w, n, count, x),
     );
-    let Fit::Fits = fit else {
-        return 13;
-    };
-    0
+    match fit {
+        Fit::Fits => Refusal {
+            number: 0,
+            place: 0,
+        },
+        Fit::Unfit(place) => Refusal {
+            number: 13,
+            place: place,
+        },
+    }
 }
 
 // Numbers 22, 12, 13, 14, 15.
-fn deduce_refusal(terms: &[u16], work: &[u64], w: usize, n: usize, count: usize, x: Step) -> u16
-    requires { ⌜ Laid w n (now work) count ⌝ }
-    ensures { λ r. ⌜ r ≡ deduceRefusal (now (terms .entry)) (trailIn w n (now (work .entry)) count) (x .rule) (x .term) (x .value) (premises x) ⌝ }
+fn deduce_refusal(terms: &[u16], work: &[u64], w: usize, n: usize, count: usize, x: Step) -> Refusal
+    requires { ⌜ Inferred w n (now terms) (now work) count x ⌝ }
+    ensures { λ r. ⌜ Refuses (placeOf (now (terms .entry)) (trailIn w n (now (work .entry)) count) x)
+        (deduceRefusal (now (terms .entry)) (trailIn w n (now (work .entry)) count) (x .rule) (x .term) (x .value) (premises x)) r ⌝ }
 {
     let c = inference_refusal(terms, work, w, n, count, x);
-    if c != 0 {
+    if c.number != 0 {
         return c;
     }
     if state::has_value(work, w, n, count, Row(x.term), x.value) {
-        return 14;
+        return Refusal {
+            number: 14,
+            place: 0,
+        };
     }
     if state::stands(work, w, n, count, Row(x.term)) {
-        return 15;
+        return Refusal {
+            number: 15,
+            place: 0,
+        };
     }
-    0
+    Refusal {
+        number: 0,
+        place: 0,
+    }
 }
 
 // Numbers 22, 12, 13, 16, which clash and fail share.
@@ -109,51 +141,71 @@ fn contradiction_refusal(
     n: usize,
     count: usize,
     x: Step,
-) -> u16
-    requires { ⌜ Laid w n (now work) count ⌝ }
-    ensures { λ r. ⌜ r ≡ contradictionRefusal (now (terms .entry)) (trailIn w n (now (work .entry)) count)
-        (x .rule) (x .term) (x .value) (premises x) true ⌝ }
+) -> Refusal
+    requires { ⌜ Inferred w n (now terms) (now work) count x ⌝ }
+    ensures { λ r. ⌜ Refuses (placeOf (now (terms .entry)) (trailIn w n (now (work .entry)) count) x)
+        (contradictionRefusal (now (terms .entry)) (trailIn w n (now (work .entry)) count) (x .rule) (x .term) (x .value) (premises x) true) r ⌝ }
 {
     let c = inference_refusal(terms, work, w, n, count, x);
-    if c != 0 {
+    if c.number != 0 {
         return c;
     }
     if !state::has_value(work, w, n, count, Row(x.term), moves::other(x.value)) {
-        return 16;
+        return Refusal {
+            number: 16,
+            place: 0,
+        };
     }
-    0
+    Refusal {
+        number: 0,
+        place: 0,
+    }
 }
 
 // Numbers 22, 12, 13, 16, and 26 at level 0.
-fn clash_refusal(terms: &[u16], work: &[u64], w: usize, n: usize, count: usize, x: Step) -> u16
-    requires { ⌜ Laid w n (now work) count ⌝ }
-    ensures { λ r. ⌜ r ≡ clashRefusal (now (terms .entry)) (trailIn w n (now (work .entry)) count) (x .rule) (x .term) (x .value) (premises x) ⌝ }
+fn clash_refusal(terms: &[u16], work: &[u64], w: usize, n: usize, count: usize, x: Step) -> Refusal
+    requires { ⌜ Inferred w n (now terms) (now work) count x ⌝ }
+    ensures { λ r. ⌜ Refuses (placeOf (now (terms .entry)) (trailIn w n (now (work .entry)) count) x)
+        (clashRefusal (now (terms .entry)) (trailIn w n (now (work .entry)) count) (x .rule) (x .term) (x .value) (premises x)) r ⌝ }
 {
     let c = contradiction_refusal(terms, work, w, n, count, x);
-    if c != 0 {
+    if c.number != 0 {
         return c;
     }
     let level = clash_level(work, w, n, count, x);
     if level.0 == 0 {
-        return 26;
+        return Refusal {
+            number: 26,
+            place: 0,
+        };
     }
-    0
+    Refusal {
+        number: 0,
+        place: 0,
+    }
 }
 
 // Numbers 22, 12, 13, 16, and 26 above level 0.
-fn fail_refusal(terms: &[u16], work: &[u64], w: usize, n: usize, count: usize, x: Step) -> u16
-    requires { ⌜ Laid w n (now work) count ⌝ }
-    ensures { λ r. ⌜ r ≡ failRefusal (now (terms .entry)) (trailIn w n (now (work .entry)) count) (x .rule) (x .term) (x .value) (premises x) ⌝ }
+fn fail_refusal(terms: &[u16], work: &[u64], w: usize, n: usize, count: usize, x: Step) -> Refusal
+    requires { ⌜ Inferred w n (now terms) (now work) count x ⌝ }
+    ensures { λ r. ⌜ Refuses (placeOf (now (terms .entry)) (trailIn w n (now (work .entry)) count) x)
+        (failRefusal (now (terms .entry)) (trailIn w n (now (work .entry)) count) (x .rule) (x .term) (x .value) (premises x)) r ⌝ }
 {
     let c = contradiction_refusal(terms, work, w, n, count, x);
-    if c != 0 {
+    if c.number != 0 {
         return c;
     }
     let level = clash_level(work, w, n, count, x);
     if level.0 != 0 {
-        return 26;
+        return Refusal {
+            number: 26,
+            place: 0,
+        };
     }
-    0
+    Refusal {
+        number: 0,
+        place: 0,
+    }
 }
 
 // ---- the steps
@@ -190,16 +242,14 @@ pub fn decide(
 
 // deduce: the premises justify the term's value.
 pub fn deduce(terms: &[u16], work: &mut [u64], w: usize, n: usize, st: Status, x: Step) -> Answer
-    requires { ⌜ Searching w n (now terms) (now work) st (x .term) ⌝ }
-    ensures { λ r. ⌜ Answers w n (now (terms .entry)) (now (work .entry)) (now (work .exit)) nowhere
+    requires { ⌜ Inferring w n (now terms) (now work) st x ⌝ }
+    ensures { λ r. ⌜ Answers w n (now (terms .entry)) (now (work .entry)) (now (work .exit))
+        (placeOf (now (terms .entry)) (trailIn w n (now (work .entry)) (st .count)) x)
         (deduce (now (terms .entry)) (trailIn w n (now (work .entry)) (st .count)) (x .rule) (x .term) (x .value) (premises x)) r ⌝ }
 {
     let c = deduce_refusal(terms, work, w, n, st.count, x);
-    if c != 0 {
-        return Answer::Refused(Refusal {
-            number: c,
-            place: 0,
-        });
+    if c.number != 0 {
+        return Answer::Refused(c);
     }
     let level = premises::level(work, w, n, st.count, x);
     let ps = [x.p, x.q, x.r, x.s, x.t];
@@ -224,16 +274,14 @@ pub fn deduce(terms: &[u16], work: &mut [u64], w: usize, n: usize, st: Status, x
 
 // clash: premises and opposite, not all at level 0, are the conflict.
 pub fn clash(terms: &[u16], work: &mut [u64], w: usize, n: usize, st: Status, x: Step) -> Answer
-    requires { ⌜ Searching w n (now terms) (now work) st (x .term) ⌝ }
-    ensures { λ r. ⌜ Answers w n (now (terms .entry)) (now (work .entry)) (now (work .exit)) nowhere
+    requires { ⌜ Inferring w n (now terms) (now work) st x ⌝ }
+    ensures { λ r. ⌜ Answers w n (now (terms .entry)) (now (work .entry)) (now (work .exit))
+        (placeOf (now (terms .entry)) (trailIn w n (now (work .entry)) (st .count)) x)
         (clash (now (terms .entry)) (trailIn w n (now (work .entry)) (st .count)) (x .rule) (x .term) (x .value) (premises x)) r ⌝ }
 {
     let c = clash_refusal(terms, work, w, n, st.count, x);
-    if c != 0 {
-        return Answer::Refused(Refusal {
-            number: c,
-            place: 0,
-        });
+    if c.number != 0 {
+        return Answer::Refused(c);
     }
     let ps = [x.p, x.q, x.r, x.s, x.t];
     moves::conflict(work, w, n, st.count, Row(x.term), &ps);
@@ -247,16 +295,14 @@ pub fn clash(terms: &[u16], work: &mut [u64], w: usize, n: usize, st: Status, x:
 
 // fail: premises and opposite, all at level 0, refute the input. Nothing is written.
 pub fn fail(terms: &[u16], work: &[u64], w: usize, n: usize, st: Status, x: Step) -> Answer
-    requires { ⌜ Searching w n (now terms) (now work) st (x .term) ⌝ }
+    requires { ⌜ Inferring w n (now terms) (now work) st x ⌝ }
     ensures { λ r. ⌜ Answers w n (now (terms .entry)) (now (work .entry)) (now (work .entry))
+        (placeOf (now (terms .entry)) (trailIn w n (now (work .entry)) (st .count)) x)
         (fail (now (terms .entry)) (trailIn w n (now (work .entry)) (st .count)) (x .rule) (x .term) (x .value) (premises x)) r ⌝ }
 {
     let c = fail_refusal(terms, work, w, n, st.count, x);
-    if c != 0 {
-        return Answer::Refused(Refusal {
-            number: c,
-            place: 0,
-        });
+    if c.number != 0 {
+        return Answer::Refused(c);
     }
     Answer::Refuted
 }
