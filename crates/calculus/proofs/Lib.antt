@@ -11,6 +11,7 @@ pub mod WellFormed
 pub mod Clauses
 pub mod Truths
 pub mod Running
+pub mod Unplaced
 pub mod Boards
 pub mod Runs
 pub mod Slips

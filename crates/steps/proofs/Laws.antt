@@ -5,7 +5,7 @@ use mathlib.Core.List.{List, [], _∷_}
 use Prim.Native.Nat.{ℕ, suc, _<_}
 use native.Mathlib.Omega.{arith}
 use borrow.Author.Tests.{not-true, not-false}
-use lib.Dec.{T, eqb, ltb, ltb→lt}
+use lib.Dec.{T, eqb, leb, ltb, leb→le, ltb→lt}
 use Rattle.calculus.specs.declared.Step.{Step}
 use Rattle.calculus.specs.declared.Kind.{Kind}
 use Rattle.calculus.specs.declared.Kind.the-variants.{Decide, Deduce, Clash, Resolve, Clear, Jump, Flip, Fail, Learn, Unlisted}
@@ -14,16 +14,18 @@ use Rattle.calculus.specs.Sheets.{blank, termRows}
 use Rattle.calculus.specs.Trail.{Set, Trail}
 use Rattle.calculus.specs.Terms.{filled}
 use Rattle.calculus.specs.Steps as calculus
-use Rattle.calculus.specs.Steps.{needsConflict, isFilled, premises, pairShaped, learnShaped, shaped, ready, known, stepBy, answer, rowRefusal, kindOf, step}
+use Rattle.calculus.specs.Steps.{needsConflict, isFilled, premises, inferenceShaped, pairShaped, learnShaped, shaped, ready, known, stepBy, answer, rowRefusal, kindOf, step}
+use Rattle.calculus.specs.Place.{strangePlace, placeOf}
+use Rattle.calculus.proofs.Unplaced.{Unplaced, decide-nowhere, resolve-nowhere, clear-nowhere, jump-nowhere, flip-nowhere, learn-nowhere}
 use Rattle.calculus.proofs.Facts.{facts, true-T, both-true, unless-yes, unless-no}
 use Rattle.trail.specs.Words.{trailIn}
 use Rattle.moves.specs.Post.{conflictIn}
 use Rattle.state.specs.declared.Status.{Status}
 use Rattle.state.specs.declared.Answer.{Answer}
-use Rattle.state.specs.declared.Answer.the-variants.{Refused}
-use Rattle.state.specs.States.{stateIn, Standing, Answers}
+use Rattle.state.specs.declared.Answer.the-variants.{Allowed, Refuted, Refused}
+use Rattle.state.specs.States.{stateIn, Standing, nowhere, unplaced, Answers}
 use Rattle.state.proofs.States.{in-conflict, trail-there, conflict-there, passed-by}
-use Rattle.search_steps.specs.Searches.{Searching}
+use Rattle.search_steps.specs.Searches.{Searching, Inferring}
 use Rattle.conflicts.specs.Conflicts.{Conflicted}
 use Rattle.learning.specs.Learns.{ToLearn}
 use Rattle.steps.specs.Asked.{Asked}
@@ -72,6 +74,12 @@ module _ (w n : ℕ) (ts ws : List ℕ) (st : Status) (x : Step) (k : Kind) (g :
       go true h = sym h
       go false h = refl
 
+  pub asked-inference : (j : Kind) → shaped x j ≡ inferenceShaped x → needsConflict j ≡ false → k ≡ j → Inferring w n ts ws st x
+  asked-inference j a e q =
+      let s : T (inferenceShaped x) = true-T _ (sym a ∙ ap (shaped x) (sym q) ∙ g .shape) in
+      let v : T (leb (x .value) 1) = search facts depth 12 in
+      record { searching = asked-search j e q; truth = leb→le _ _ v }
+
   pub asked-conflict : (j : Kind) → needsConflict j ≡ true → k ≡ j → Conflicted w n ts ws st (x .term)
   asked-conflict j e q = record { standing = g .standing; conflict = rw (q, e) at suits-there; row = term-row }
 
@@ -94,9 +102,25 @@ module _ (w n : ℕ) (ts ws : List ℕ) (st : Status) (x : Step) (k : Kind) (g :
   abbrev set : Set
   set = conflictIn w n ws
 
+  abbrev at : ℕ → ℕ
+  at = placeOf ts here x
+
   module _ (vs : List ℕ) (r : Answer) where
     abbrev Answered : calculus.Answer → Type 0
-    Answered a = Answers w n ts ws vs a r
+    Answered a = Answers w n ts ws vs at a r
+
+    -- of a step whose own numbers have no place
+    abbrev Said : calculus.Answer → Type 0
+    Said a = Answers w n ts ws vs nowhere a r
+
+    told : (a : calculus.Answer) → Unplaced ts here x a → Said a → Answered a
+    unfolding Answers
+    told a u h = go r h
+      where
+        go : (b : Answer) → Answers w n ts ws vs nowhere a b → Answers w n ts ws vs at a b
+        go (Allowed next) h = h
+        go Refuted h = h
+        go (Refused c) h = (h .0, h .1 ∙ sym (subst (Unplaced ts here x) (h .0) u .none), h .2)
 
     -- the answer to one step is the answer to an equal one
     by : {a b : calculus.Answer} → b ≡ a → Answered a → Answered b
@@ -105,9 +129,9 @@ module _ (w n : ℕ) (ts ws : List ℕ) (st : Status) (x : Step) (k : Kind) (g :
     abbrev its-step : calculus.Answer
     its-step = stepBy ts k (stateIn w n ws st) x
 
-    pub decide-by : k ≡ Decide → Answered (calculus.decide ts here (x .term) (x .value)) → Answered its-step
+    pub decide-by : k ≡ Decide → Said (calculus.decide ts here (x .term) (x .value)) → Answered its-step
     unfolding stepBy
-    decide-by e h = by (rw (e, trail-there w n ws st)) h
+    decide-by e h = by (rw (e, trail-there w n ws st)) (told _ (decide-nowhere ts here x (x .term) _) h)
 
     pub deduce-by : k ≡ Deduce → Answered (calculus.deduce ts here (x .rule) (x .term) (x .value) (premises x)) → Answered its-step
     unfolding stepBy
@@ -125,29 +149,29 @@ module _ (w n : ℕ) (ts ws : List ℕ) (st : Status) (x : Step) (k : Kind) (g :
     in-a-conflict : (j : Kind) → needsConflict j ≡ true → k ≡ j → stateIn w n ws st ≡ calculus.conflict here set
     in-a-conflict j e q = in-conflict w n ws st (asked-conflict j e q .conflict)
 
-    pub resolve-by : k ≡ Resolve → Answered (calculus.resolve ts here set (x .term)) → Answered its-step
+    pub resolve-by : k ≡ Resolve → Said (calculus.resolve ts here set (x .term)) → Answered its-step
     unfolding stepBy
-    resolve-by e h = by (rw (in-a-conflict Resolve refl e, e)) h
+    resolve-by e h = by (rw (in-a-conflict Resolve refl e, e)) (told _ (resolve-nowhere ts here x (x .term) set) h)
 
-    pub clear-by : k ≡ Clear → Answered (calculus.clear ts here set (x .term)) → Answered its-step
+    pub clear-by : k ≡ Clear → Said (calculus.clear ts here set (x .term)) → Answered its-step
     unfolding stepBy
-    clear-by e h = by (rw (in-a-conflict Clear refl e, e)) h
+    clear-by e h = by (rw (in-a-conflict Clear refl e, e)) (told _ (clear-nowhere ts here x (x .term) set) h)
 
-    pub jump-by : k ≡ Jump → Answered (calculus.jump ts here set (x .term)) → Answered its-step
+    pub jump-by : k ≡ Jump → Said (calculus.jump ts here set (x .term)) → Answered its-step
     unfolding stepBy
-    jump-by e h = by (rw (in-a-conflict Jump refl e, e)) h
+    jump-by e h = by (rw (in-a-conflict Jump refl e, e)) (told _ (jump-nowhere ts here x (x .term) set) h)
 
-    pub flip-by : k ≡ Flip → Answered (calculus.flip ts here set (x .term) (x .p)) → Answered its-step
+    pub flip-by : k ≡ Flip → Said (calculus.flip ts here set (x .term) (x .p)) → Answered its-step
     unfolding stepBy
-    flip-by e h = by (rw (in-a-conflict Flip refl e, e)) h
+    flip-by e h = by (rw (in-a-conflict Flip refl e, e)) (told _ (flip-nowhere ts here x (x .term) set _) h)
 
-    pub learn-by : k ≡ Learn → Answered (calculus.learn ts here set (x .term) (x .value) (premises x)) → Answered its-step
+    pub learn-by : k ≡ Learn → Said (calculus.learn ts here set (x .term) (x .value) (premises x)) → Answered its-step
     unfolding stepBy
-    learn-by e h = by (rw (in-a-conflict Learn refl e, e)) h
+    learn-by e h = by (rw (in-a-conflict Learn refl e, e)) (told _ (learn-nowhere ts here x (x .term) set _ _) h)
 
-  pub unlisted-by : k ≡ Unlisted → Answers w n ts ws ws (stepBy ts k (stateIn w n ws st) x) (Refused 9)
-  unfolding stepBy Answers
-  unlisted-by e = (rw e, refl)
+  pub unlisted-by : k ≡ Unlisted → Answers w n ts ws ws at (stepBy ts k (stateIn w n ws st) x) (Refused (unplaced 9))
+  unfolding stepBy Answers placeOf
+  unlisted-by e = (rw e, refl, refl)
 
 -- ---- a row: the first test that fails decides, and then its step
 
@@ -181,26 +205,30 @@ module _ (w n : ℕ) (ts ws : List ℕ) (st : Status) (x : Step) {k : Kind} (e :
   abbrev the-step : calculus.Answer
   the-step = step ts (stateIn w n ws st) x
 
+  abbrev its-place : ℕ → ℕ
+  its-place = placeOf ts (trailIn w n ws (st .count)) x
+
   module _ {a : Bool} (a-is : a ≡ shaped x k) where
-    pub answer-9 : not a ≡ true → Answers w n ts ws ws the-step (Refused 9)
-    unfolding Answers
-    answer-9 h = (step-9 ts _ x e (sym a-is ∙ not-true _ h), refl)
+    pub answer-9 : not a ≡ true → Answers w n ts ws ws its-place the-step (Refused (unplaced 9))
+    unfolding Answers placeOf
+    answer-9 h = (step-9 ts _ x e (sym a-is ∙ not-true _ h), refl, refl)
 
     module _ (a-in : not a ≡ false) {b : Bool} (b-is : b ≡ cond (needsConflict k) (st .conflict) (not (st .conflict))) where
       is-shaped : shaped x k ≡ true
       is-shaped = sym a-is ∙ not-false _ a-in
 
-      pub answer-10 : not b ≡ true → Answers w n ts ws ws the-step (Refused 10)
-      unfolding Answers
-      answer-10 h = (step-10 ts _ x e is-shaped (ready-there w n ts ws st k ∙ sym b-is ∙ not-true _ h), refl)
+      pub answer-10 : not b ≡ true → Answers w n ts ws ws its-place the-step (Refused (unplaced 10))
+      unfolding Answers placeOf
+      answer-10 h = (step-10 ts _ x e is-shaped (ready-there w n ts ws st k ∙ sym b-is ∙ not-true _ h), refl, refl)
 
       module _ (b-in : not b ≡ false) {c : Bool} (c-is : c ≡ known ts x) where
         is-ready : ready (stateIn w n ws st) k ≡ true
         is-ready = ready-there w n ts ws st k ∙ sym b-is ∙ not-false _ b-in
 
-        pub answer-11 : not c ≡ true → Answers w n ts ws ws the-step (Refused 11)
-        unfolding Answers
-        answer-11 h = (step-11 ts _ x e is-shaped is-ready (sym c-is ∙ not-true _ h), refl)
+        pub answer-11 : {p : ℕ} → not c ≡ true → p ≡ strangePlace ts x
+            → Answers w n ts ws ws its-place the-step (Refused (record { number = 11; place = p }))
+        unfolding Answers placeOf
+        answer-11 h q = (step-11 ts _ x e is-shaped is-ready (sym c-is ∙ not-true _ h), q, refl)
 
         module _ (c-in : not c ≡ false) where
           is-known : known ts x ≡ true
@@ -209,5 +237,6 @@ module _ (w n : ℕ) (ts ws : List ℕ) (st : Status) (x : Step) {k : Kind} (e :
           pub asked-by : Standing w n ts ws st → Asked w n ts ws st x k
           asked-by s = record { standing = s; shape = is-shaped; suits = is-ready; rows = is-known }
 
-          pub answer-by : (vs : List ℕ) (r : Answer) → Answers w n ts ws vs (stepBy ts k (stateIn w n ws st) x) r → Answers w n ts ws vs the-step r
-          answer-by vs r h = subst (λ a. Answers w n ts ws vs a r) (sym (step-on ts _ x e is-shaped is-ready is-known)) h
+          pub answer-by : (vs : List ℕ) (r : Answer)
+              → Answers w n ts ws vs its-place (stepBy ts k (stateIn w n ws st) x) r → Answers w n ts ws vs its-place the-step r
+          answer-by vs r h = subst (λ a. Answers w n ts ws vs its-place a r) (sym (step-on ts _ x e is-shaped is-ready is-known)) h

@@ -2,9 +2,12 @@
 ghost use mathlib.Core.Path.{_≡_};
 ghost use mathlib.Core.Bool.{not, cond};
 ghost use Rattle.calculus.specs.Steps.{needsConflict, stepBy, step};
+ghost use Rattle.calculus.specs.Place.{placeOf};
+ghost use Rattle.trail.specs.Words.{trailIn};
 ghost use Rattle.state.specs.States.{stateIn, Standing, Answers};
 ghost use Rattle.steps.specs.Asked.{Asked};
 use calculus::Kind;
+use calculus::Refusal;
 use calculus::Row;
 use calculus::Step;
 use state::Answer;
@@ -51,6 +54,7 @@ fn step_by(
 ) -> Answer
     requires { ⌜ Asked w n (now terms) (now work) st x k ⌝ }
     ensures { λ r. ⌜ Answers w n (now (terms .entry)) (now (work .entry)) (now (work .exit))
+        (placeOf (now (terms .entry)) (trailIn w n (now (work .entry)) (st .count)) x)
         (stepBy (now (terms .entry)) k (stateIn w n (now (work .entry)) st) x) r ⌝ }
 {
     match k {
@@ -63,7 +67,10 @@ fn step_by(
         Kind::Flip => conflict_steps::flip(terms, work, w, n, st, Row(x.term), Row(x.p)),
         Kind::Fail => search_steps::fail(terms, work, w, n, st, x),
         Kind::Learn => learning::learn(terms, work, w, n, st, x),
-        Kind::Unlisted => Answer::Refused(9),
+        Kind::Unlisted => Answer::Refused(Refusal {
+            number: 9,
+            place: 0,
+        }),
     }
 }
 
@@ -71,17 +78,27 @@ fn step_by(
 pub fn step(terms: &[u16], work: &mut [u64], w: usize, n: usize, st: Status, x: Step) -> Answer
     requires { ⌜ Standing w n (now terms) (now work) st ⌝ }
     ensures { λ r. ⌜ Answers w n (now (terms .entry)) (now (work .entry)) (now (work .exit))
+        (placeOf (now (terms .entry)) (trailIn w n (now (work .entry)) (st .count)) x)
         (step (now (terms .entry)) (stateIn w n (now (work .entry)) st) x) r ⌝ }
 {
     let k = kinds::kind_of(x.step);
     if !step_rows::shaped(x, k) {
-        return Answer::Refused(9);
+        return Answer::Refused(Refusal {
+            number: 9,
+            place: 0,
+        });
     }
     if !is_ready(k, st.conflict) {
-        return Answer::Refused(10);
+        return Answer::Refused(Refusal {
+            number: 10,
+            place: 0,
+        });
     }
     if !step_rows::known(terms, x) {
-        return Answer::Refused(11);
+        return Answer::Refused(Refusal {
+            number: 11,
+            place: step_rows::strange_place(terms, x),
+        });
     }
     step_by(terms, work, w, n, st, x, k)
 }

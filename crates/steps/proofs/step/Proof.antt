@@ -22,6 +22,9 @@ returns-2 c = search answer-10
 known-requires : tie.Need-known-requires
 known-requires c κs = search needs
 
+strange-place-requires : tie.Need-strange-place-requires
+strange-place-requires c κs = search needs
+
 returns-3 : tie.Need-returns-3
 returns-3 c = search answer-11
 
@@ -49,6 +52,7 @@ step-spec =
     is-ready-requires
     returns-2
     known-requires
+    strange-place-requires
     returns-3
     step-by-requires
     same-length

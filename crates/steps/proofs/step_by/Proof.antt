@@ -1,5 +1,6 @@
 -- `steps::step_by` meets its contract.
-use Rattle.steps.proofs.Laws.{asked-search, asked-conflict, asked-p, asked-learn, decide-by, deduce-by, clash-by, resolve-by, clear-by, jump-by, flip-by, fail-by, learn-by, unlisted-by}
+use Rattle.steps.proofs.Laws.{asked-search, asked-inference, asked-conflict, asked-p, asked-learn, decide-by, deduce-by, clash-by, resolve-by, clear-by, jump-by, flip-by, fail-by, learn-by, unlisted-by}
+use Rattle.calculus.specs.Steps.{shaped}
 use borrow.Author.Needs.{needs}
 use Rattle.steps.proofs.step_by.Statement.{statement}
 use Rattle.steps.proofs.step_by.Tie as tie
@@ -14,13 +15,15 @@ enum-told-2 : tie.Need-enum-told-2
 enum-told-2 c = search needs
 
 deduce-requires : tie.Need-deduce-requires
-deduce-requires c κs = search asked-search
+unfolding shaped
+deduce-requires c κs = search asked-inference
 
 enum-told-3 : tie.Need-enum-told-3
 enum-told-3 c = search needs
 
 clash-requires : tie.Need-clash-requires
-clash-requires c κs = search asked-search
+unfolding shaped
+clash-requires c κs = search asked-inference
 
 enum-told-4 : tie.Need-enum-told-4
 enum-told-4 c = search needs
@@ -50,7 +53,8 @@ enum-told-8 : tie.Need-enum-told-8
 enum-told-8 c = search needs
 
 fail-requires : tie.Need-fail-requires
-fail-requires c κs = search asked-search
+unfolding shaped
+fail-requires c κs = search asked-inference
 
 enum-told-9 : tie.Need-enum-told-9
 enum-told-9 c = search needs
