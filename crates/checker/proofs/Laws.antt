@@ -159,11 +159,12 @@ module _ (w n : ℕ) (ts ws : List ℕ) (e : Ending) (r : Ended) (h : Ends w n t
   left-written trail q = rw (← left) q
 
   pub seen : (v : ℕ) → v ≡ verdictNumber (r .verdict)
-      → _≡_ {A = Outcome} (record { verdict = v; steps = r .steps; number = r .number; entries = r .status .count }) (outcomeOf e)
+      → _≡_ {A = Outcome} (record { verdict = v; steps = r .steps; number = r .number; entries = r .status .count; place = r .place }) (outcomeOf e)
   seen v q i =
       record {
         verdict = (q ∙ ap verdictNumber (h .verdict)) i;
         steps = h .steps i;
         number = h .number i;
         entries = (sym (trail-length w n ws (r .status .count)) ∙ ap length left) i;
+        place = h .place i;
       }

@@ -46,6 +46,7 @@ pub fn turned_away(number: u16) -> Outcome
         steps: 0,
         number: number,
         entries: 0,
+        place: 0,
     }
 }
 
@@ -85,6 +86,7 @@ fn run_log(
         steps: e.steps,
         number: e.number,
         entries: count as u16,
+        place: e.place,
     }
 }
 

@@ -13,9 +13,9 @@ use Rattle.run.specs.declared.Ended.{Ended}
 
 -- how the answer a ends a run after k allowed steps: a refutation is one more; an allowed step stops no run
 abbrev pub stoppedBy : Answer → ℕ → Status → Ended
-stoppedBy (answer.Refused c) k st = record { verdict = Refused; steps = k; number = c; status = st }
-stoppedBy answer.Refuted k st = record { verdict = Refuted; steps = k + 1; number = 0; status = st }
-stoppedBy (answer.Allowed next) k st = record { verdict = Open; steps = k; number = 0; status = next }
+stoppedBy (answer.Refused r) k st = record { verdict = Refused; steps = k; number = r .number; place = r .place; status = st }
+stoppedBy answer.Refuted k st = record { verdict = Refuted; steps = k + 1; number = 0; place = 0; status = st }
+stoppedBy (answer.Allowed next) k st = record { verdict = Open; steps = k; number = 0; place = 0; status = next }
 
 -- the run of the whole log from the state that the words hold
 abbrev pub runIn : ℕ → ℕ → List ℕ → List ℕ → List ℕ → Status → Ending
@@ -26,5 +26,6 @@ pub record Ends (w n : ℕ) (ts ws : List ℕ) (e : Ending) (r : Ended) : Type 0
   pub verdict : r .verdict ≡ e .verdict
   pub steps : r .steps ≡ e .steps
   pub number : r .number ≡ e .number
+  pub place : r .place ≡ e .place
   pub state : stateIn w n ws (r .status) ≡ e .state
   pub standing : Standing w n ts ws (r .status)

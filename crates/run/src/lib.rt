@@ -8,11 +8,12 @@ use calculus::Verdict;
 use state::Answer;
 use state::Status;
 
-// How a run ended: the verdict, the steps allowed, the number of the refusal or 0, and where it stands.
+// How a run ended: the verdict, the steps allowed, the number of the refusal or 0, its place or 0, and where it stands.
 pub struct Ended {
     pub verdict: Verdict,
     pub steps: u16,
     pub number: u16,
+    pub place: u16,
     pub status: Status,
 }
 
@@ -22,16 +23,18 @@ fn stopped(a: Answer, k: u16, here: Status) -> Ended
     ensures { λ r. ⌜ r ≡ stoppedBy a k here ⌝ }
 {
     match a {
-        Answer::Refused(number) => Ended {
+        Answer::Refused(c) => Ended {
             verdict: Verdict::Refused,
             steps: k,
-            number: number,
+            number: c.number,
+            place: c.place,
             status: here,
         },
         Answer::Refuted => Ended {
             verdict: Verdict::Refuted,
             steps: k + 1,
             number: 0,
+            place: 0,
             status: here,
         },
         // An allowed step stops no run.
@@ -39,6 +42,7 @@ fn stopped(a: Answer, k: u16, here: Status) -> Ended
             verdict: Verdict::Open,
             steps: k,
             number: 0,
+            place: 0,
             status: next,
         },
     }
@@ -73,6 +77,7 @@ pub fn run_steps(
         verdict: Verdict::Open,
         steps: k as u16,
         number: 0,
+        place: 0,
         status: here,
     }
 }
