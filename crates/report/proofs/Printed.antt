@@ -32,10 +32,10 @@ module _ {at r : ℕ} {a b : List ℕ} where
   refused-put (suc (suc (suc v))) p q word = word
 
 -- the whole result
-module _ (o : Outcome) {n r s t u v end : ℕ} {a b c d e f g : List ℕ} where
-  pub spelled : a ≡ replicate n 0 → Put 25 (bytes "verdict steps code trail\n") 0 r a b → Put 7 (verdictWord (o .verdict)) r s b c
+module _ (o : Outcome) {n r s t u v x end : ℕ} {a b c d e f g h : List ℕ} where
+  pub spelled : a ≡ replicate n 0 → Put 31 (bytes "verdict steps code trail place\n") 0 r a b → Put 7 (verdictWord (o .verdict)) r s b c
       → Put 21 (numberField (o .steps)) s t c d → Put 21 (numberField (o .number)) t u d e → Put 21 (numberField (o .entries)) u v e f
-      → Put 1 (bytes "\n") v end f g → Laid n (printed o) end g
+      → Put 21 (numberField (o .place)) v x f g → Put 1 (bytes "\n") x end g h → Laid n (printed o) end h
   unfolding printed
-  spelled zeros header verdict steps number entries newline =
-      whole zeros (both (both (both (both (both header verdict) steps) number) entries) newline)
+  spelled zeros header verdict steps number entries place newline =
+      whole zeros (both (both (both (both (both (both header verdict) steps) number) entries) place) newline)

@@ -78,16 +78,18 @@ field-short n = both (bytes " ") (decimal n) 1 20 (omega arith) (decimal-short n
 pub results-are-short : ResultsAreShort
 unfolding printed
 results-are-short o =
-    let names : List ℕ = bytes "verdict steps code trail\n" in
+    let names : List ℕ = bytes "verdict steps code trail place\n" in
     let first = names ++ verdictWord (o .verdict) in
     let second = first ++ numberField (o .steps) in
     let third = second ++ numberField (o .number) in
     let fourth = third ++ numberField (o .entries) in
-    let verdict = both names (verdictWord (o .verdict)) 25 7 (omega arith) (word-short (o .verdict)) in
-    let steps = both first (numberField (o .steps)) 32 21 verdict (field-short (o .steps)) in
-    let number = both second (numberField (o .number)) 53 21 steps (field-short (o .number)) in
-    let entries = both third (numberField (o .entries)) 74 21 number (field-short (o .entries)) in
-    let all = both fourth (bytes "\n") 95 1 entries (omega arith) in
+    let fifth = fourth ++ numberField (o .place) in
+    let verdict = both names (verdictWord (o .verdict)) 31 7 (omega arith) (word-short (o .verdict)) in
+    let steps = both first (numberField (o .steps)) 38 21 verdict (field-short (o .steps)) in
+    let number = both second (numberField (o .number)) 59 21 steps (field-short (o .number)) in
+    let entries = both third (numberField (o .entries)) 80 21 number (field-short (o .entries)) in
+    let place = both fourth (numberField (o .place)) 101 21 entries (field-short (o .place)) in
+    let all = both fifth (bytes "\n") 122 1 place (omega arith) in
     omega (arith, all)
 
 -- a complaint

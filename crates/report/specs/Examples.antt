@@ -16,10 +16,10 @@ pub record Example : Type 0 where
   pub said : List ℕ
   pub text : List ℕ
 
--- a result: verdict, steps, number, entries
-result : ℕ → ℕ → ℕ → ℕ → String → Example
-result verdict steps number entries s =
-    record { said = printed (record { verdict = verdict; steps = steps; number = number; entries = entries }); text = bytes s }
+-- a result: verdict, steps, number, entries, place
+result : ℕ → ℕ → ℕ → ℕ → ℕ → String → Example
+result verdict steps number entries place s =
+    record { said = printed (record { verdict = verdict; steps = steps; number = number; entries = entries; place = place }); text = bytes s }
 
 -- a complaint: line, field, number and the cause's number
 caused : ℕ → ℕ → ℕ → ℕ → String → Example
@@ -33,20 +33,22 @@ complaint line field number why s = caused line field number (whyNumber why) s
 pub table : List Example
 table =
     -- the three verdicts, and a number that is none of theirs
-    result 0 10 0 9 "verdict steps code trail\nopen 10 0 9\n"
-    ∷ result 1 1 0 2 "verdict steps code trail\nrefuted 1 0 2\n"
-    ∷ result 2 99 13 100 "verdict steps code trail\nrefused 99 13 100\n"
-    ∷ result 3 0 31 0 "verdict steps code trail\nrefused 0 31 0\n"
+    result 0 10 0 9 0 "verdict steps code trail place\nopen 10 0 9 0\n"
+    ∷ result 1 1 0 2 0 "verdict steps code trail place\nrefuted 1 0 2 0\n"
+    ∷ result 2 99 13 100 5 "verdict steps code trail place\nrefused 99 13 100 5\n"
+    ∷ result 3 0 31 0 0 "verdict steps code trail place\nrefused 0 31 0 0\n"
     -- the largest numbers
-    ∷ result 65535 65535 65535 65535 "verdict steps code trail\nrefused 65535 65535 65535\n"
+    ∷ result 65535 65535 65535 65535 65535 "verdict steps code trail place\nrefused 65535 65535 65535 65535\n"
     -- a line, a field and a cause
     ∷ complaint 28 2 31 Name "line 28, field 2: 31 malformed: a name of more than 64 bytes\n"
     -- a line and a cause
     ∷ complaint 1 0 31 Mark "line 1: 31 malformed: a byte order mark stands before the header\n"
     -- a line and a field
     ∷ complaint 3 1 2 Fine "line 3, field 1: 2 a name is repeated or reserved\n"
+    -- the same of a step
+    ∷ complaint 9 5 13 Fine "line 9, field 5: 13 the rule does not fit\n"
     -- a line alone
-    ∷ complaint 9 0 13 Fine "line 9: 13 the rule does not fit\n"
+    ∷ complaint 9 0 14 Fine "line 9: 14 the value is there already\n"
     -- the line that was meant
     ∷ caused 18 0 26 failMeant "line 18: 26 fail is the line at level 0, clash the one above it: fail was meant\n"
     ∷ caused 18 0 26 clashMeant "line 18: 26 fail is the line at level 0, clash the one above it: clash was meant\n"

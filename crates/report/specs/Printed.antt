@@ -27,12 +27,13 @@ verdictWord v = getD verdictWords v (bytes "refused")
 unfoldable pub numberField : ℕ → List ℕ
 numberField n = bytes " " ++ decimal n
 
--- a result: the verdict, how many steps were allowed, the number of the refusal or 0, and how many entries the trail has
+-- a result: the verdict, how many steps were allowed, the number of the refusal or 0, how many entries the trail has, and the place or 0
 unfoldable pub printed : Outcome → List ℕ
 printed o =
-    bytes "verdict steps code trail\n"
+    bytes "verdict steps code trail place\n"
     ++ verdictWord (o .verdict)
     ++ numberField (o .steps)
     ++ numberField (o .number)
     ++ numberField (o .entries)
+    ++ numberField (o .place)
     ++ bytes "\n"

@@ -116,12 +116,13 @@ pub fn spell(o: Outcome, out: &mut [u8]) -> usize
     ensures { λ r. ⌜ Laid (length (now (out .entry))) (printed o) r (now (out .exit)) ⌝ }
 {
     buffers::clear_bytes(out);
-    let header = put(b"verdict steps code trail\n", 0, out);
+    let header = put(b"verdict steps code trail place\n", 0, out);
     let verdict = put_verdict(o.verdict, header, out);
     let steps = put_number_field(o.steps, verdict, out);
     let number = put_number_field(o.number, steps, out);
     let entries = put_number_field(o.entries, number, out);
-    put(b"\n", entries, out)
+    let place = put_number_field(o.place, entries, out);
+    put(b"\n", place, out)
 }
 
 // Stores the field at fault.

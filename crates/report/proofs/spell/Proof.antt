@@ -25,6 +25,9 @@ put-number-field-requires-2 c κs = search needs
 put-number-field-requires-3 : tie.Need-put-number-field-requires-3
 put-number-field-requires-3 c κs = search needs
 
+put-number-field-requires-4 : tie.Need-put-number-field-requires-4
+put-number-field-requires-4 c κs = search needs
+
 slice-aggregate-put-2 : tie.Need-slice-aggregate-put-2
 slice-aggregate-put-2 c = search needs
 
@@ -48,6 +51,7 @@ spell-spec =
     put-number-field-requires
     put-number-field-requires-2
     put-number-field-requires-3
+    put-number-field-requires-4
     slice-aggregate-put-2
     put-requires-2
     same-length
