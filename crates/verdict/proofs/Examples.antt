@@ -13,6 +13,7 @@ use Rattle.calculus.specs.Inputs
 use Rattle.calculus.specs.Rules
 use Rattle.calculus.specs.Clauses
 use Rattle.calculus.specs.Steps
+use Rattle.calculus.specs.Place
 use Rattle.calculus.specs.Run
 use Rattle.text_fields.specs.Split.{bytes}
 use Rattle.text_fields.specs.Words.{refOf}
@@ -44,7 +45,7 @@ pub record Example : Type 0 where
 -- a text, the second line that is printed, and the line that is told
 example : List ℕ → String → String → Example
 example text result told =
-    record { text = text; seen = record { printed = bytes "verdict steps code trail\n" ++ bytes result; told = bytes told } }
+    record { text = text; seen = record { printed = bytes "verdict steps code trail place\n" ++ bytes result; told = bytes told } }
 
 -- the small board of document 01
 board : List ℕ
@@ -75,44 +76,51 @@ learned line rows =
 pub table : List Example
 table =
     -- document 01's listing
-    example (log "e true\ng false\n" "fail cong g true e - - - -\n") "refuted 1 0 2\n" ""
+    example (log "e true\ng false\n" "fail cong g true e - - - -\n") "refuted 1 0 2 0\n" ""
     -- no steps
-    ∷ example (log "e true\n" "") "open 0 0 1\n" ""
+    ∷ example (log "e true\n" "") "open 0 0 1 0\n" ""
     -- the second step is refused: there is no conflict to resolve in
-    ∷ example (log "g false\n" "decide - e true - - - - -\nresolve - e - - - - - -\n") "refused 1 10 2\n"
+    ∷ example (log "g false\n" "decide - e true - - - - -\nresolve - e - - - - - -\n") "refused 1 10 2 0\n"
     "line 17: 10 wrong state for the step\n"
+    -- a premise that names no row, the second of two that are not on the trail, and a term that names no row
+    ∷ example (log "e true\n" "deduce same g true fa fx - - -\n") "refused 0 11 1 6\n"
+    "line 16, field 6: 11 the term or a premise is no row\n"
+    ∷ example (log "a 7\ne true\n" "deduce same g true a fa fb - -\n") "refused 0 12 2 6\n"
+    "line 17, field 6: 12 a premise is not on the trail\n"
+    ∷ example (log "e true\n" "decide - x true - - - - -\n") "refused 0 11 1 3\n"
+    "line 16, field 3: 11 the term or a premise is no row\n"
     -- clash at level 0, fail above it
-    ∷ example (log "e true\ng false\n" "clash cong g true e - - - -\n") "refused 0 26 2\n"
+    ∷ example (log "e true\ng false\n" "clash cong g true e - - - -\n") "refused 0 26 2 0\n"
     "line 17: 26 fail is the line at level 0, clash the one above it: fail was meant\n"
-    ∷ example (log "g false\n" "decide - e true - - - - -\nfail cong g true e - - - -\n") "refused 1 26 2\n"
+    ∷ example (log "g false\n" "decide - e true - - - - -\nfail cong g true e - - - -\n") "refused 1 26 2 0\n"
     "line 17: 26 fail is the line at level 0, clash the one above it: clash was meant\n"
     -- learn, with its level as a number and as a word; the clause is used
-    ∷ example (learned "learn - clause 2 q r - - -\n" "deduce eval no-q false q - - - -\ndeduce unit no-r true clause no-q - - -\n") "open 7 0 6\n" ""
-    ∷ example (learned "learn - clause true q r - - -\n" "") "open 5 0 3\n" ""
+    ∷ example (learned "learn - clause 2 q r - - -\n" "deduce eval no-q false q - - - -\ndeduce unit no-r true clause no-q - - -\n") "open 7 0 6 0\n" ""
+    ∷ example (learned "learn - clause true q r - - -\n" "") "open 5 0 3 0\n" ""
     -- the level is that of the members, or below the rest; the clause is another; a member twice; one member
-    ∷ example (learned "learn - clause 3 q r - - -\n" "") "refused 4 21 4\n"
+    ∷ example (learned "learn - clause 3 q r - - -\n" "") "refused 4 21 4 0\n"
     "line 21: 21 its level is not above the rest, or learn's level is outside its range\n"
-    ∷ example (learned "learn - clause false q r - - -\n" "") "refused 4 21 4\n"
+    ∷ example (learned "learn - clause false q r - - -\n" "") "refused 4 21 4 0\n"
     "line 21: 21 its level is not above the rest, or learn's level is outside its range\n"
-    ∷ example (learned "learn - other 1 q r - - -\n" "") "refused 4 25 4\n"
+    ∷ example (learned "learn - other 1 q r - - -\n" "") "refused 4 25 4 0\n"
     "line 21: 25 the clause does not match the members, or one is named twice\n"
-    ∷ example (learned "learn - clause 1 q q - - -\n" "") "refused 4 25 4\n"
+    ∷ example (learned "learn - clause 1 q q - - -\n" "") "refused 4 25 4 0\n"
     "line 21: 25 the clause does not match the members, or one is named twice\n"
-    ∷ example (learned "learn - no-q 1 q r - - -\n" "") "refused 4 22 4\n"
+    ∷ example (learned "learn - no-q 1 q r - - -\n" "") "refused 4 22 4 0\n"
     "line 21: 22 a term's sort or head is wrong for the step, or the value does not suit it\n"
-    ∷ example (learned "learn - clause 1 q - - - -\n" "") "refused 4 9 4\n" "line 21: 9 a step's columns are wrong\n"
+    ∷ example (learned "learn - clause 1 q - - - -\n" "") "refused 4 9 4 0\n" "line 21: 9 a step's columns are wrong\n"
     -- an input row: a prop has no value 2
-    ∷ example (log "g false\ne 2\n" "") "refused 0 7 0\n" "line 14: 7 a value that the term cannot have\n"
+    ∷ example (log "g false\ne 2\n" "") "refused 0 7 0 0\n" "line 14: 7 a value that the term cannot have\n"
     -- a term row whose argument stands below, and a sort row that names itself
     ∷ example (bytes "sort index value\n\nterm head sort a b c d\np P prop - - - -\nq not prop r - - -\nr not prop p - - -\n\nterm value\n" ++ steps)
-    "refused 0 3 0\n" "line 5: 3 an argument is no earlier row\n"
-    ∷ example (bytes "sort index value\nS - -\nT S T\n\nterm head sort a b c d\n\nterm value\n" ++ steps) "refused 0 1 0\n"
+    "refused 0 3 0 0\n" "line 5: 3 an argument is no earlier row\n"
+    ∷ example (bytes "sort index value\nS - -\nT S T\n\nterm head sort a b c d\n\nterm value\n" ++ steps) "refused 0 1 0 0\n"
     "line 3: 1 a sort row breaks the rule for sorts\n"
     -- not read: the last line has no newline
-    ∷ example (log "e true\n" "fail cong g true e - - - -") "refused 0 31 0\n"
+    ∷ example (log "e true\n" "fail cong g true e - - - -") "refused 0 31 0 0\n"
     "line 16: 31 malformed: the last line has no newline\n"
     ∷ []
 
 pub answers : map (λ (e : Example). seen (e .text)) table ≡ map (λ (e : Example). e .seen) table
-unfolding table example board props steps log learned Lists.firstWhere Numbers.unless Numbers.orElse Numbers.firstRefusal Sheets.lengthRefusal Sorts.isArray Sorts.isPlain Sorts.sortRefusal Sorts.sortsRefusal Terms.cells Terms.args Terms.arg Terms.earlier Terms.sameUse Terms.firstUse Terms.suits Terms.twins Terms.fresh Terms.termRefusal Terms.termsRefusal Trail.on Trail.entry Trail.holds Trail.levelOf Trail.keptTo Trail.trailNumbersOf Inputs.inputTrail Inputs.inputRefusal Inputs.inputsRefusal Rules.ruleOf Rules.bare Rules.single Rules.double Rules.leading Rules.unitAt Rules.fits Clauses.literal Clauses.paired Steps.answer Steps.premises Steps.kindOf Steps.shaped Steps.ready Steps.known Steps.decideRefusal Steps.decide Steps.inferenceRefusal Steps.deduceRefusal Steps.deduce Steps.contradictionRefusal Steps.clashRefusal Steps.clash Steps.failRefusal Steps.fail Steps.resolveRefusal Steps.resolve Steps.clearRefusal Steps.clear Steps.jumpRefusal Steps.jump Steps.flipRefusal Steps.flip Steps.learnRefusal Steps.learn Steps.rowRefusal Steps.stepBy Steps.step Run.follow Run.run Run.sheetsRefusal Run.callRefusal Run.endingOf Run.ending Run.outcome refOf shapeOf isTaken headOf sortRow termRow inputRow stepRow headerWhy rowWhy readLine lineEffect lineStep textState textFault digitsOf decimal verdictWord numberField Printed.printed meaning cause fieldPart wherePart whatPart whyPart complained verdictOf cutRefused refusedRow lineOf lineMeant complaintOf
+unfolding table example board props steps log learned Lists.firstWhere Numbers.unless Numbers.orElse Numbers.firstRefusal Sheets.lengthRefusal Sorts.isArray Sorts.isPlain Sorts.sortRefusal Sorts.sortsRefusal Terms.cells Terms.args Terms.arg Terms.earlier Terms.sameUse Terms.firstUse Terms.suits Terms.twins Terms.fresh Terms.termRefusal Terms.termsRefusal Trail.on Trail.entry Trail.holds Trail.levelOf Trail.keptTo Trail.trailNumbersOf Inputs.inputTrail Inputs.inputRefusal Inputs.inputsRefusal Rules.ruleOf Rules.bare Rules.single Rules.double Rules.leading Rules.unitAt Rules.fits Clauses.literal Clauses.paired Steps.answer Steps.premises Steps.kindOf Steps.shaped Steps.ready Steps.known Steps.decideRefusal Steps.decide Steps.inferenceRefusal Steps.deduceRefusal Steps.deduce Steps.contradictionRefusal Steps.clashRefusal Steps.clash Steps.failRefusal Steps.fail Steps.resolveRefusal Steps.resolve Steps.clearRefusal Steps.clear Steps.jumpRefusal Steps.jump Steps.flipRefusal Steps.flip Steps.learnRefusal Steps.learn Steps.rowRefusal Steps.stepBy Steps.step Place.strangePlace Place.absentPlace Place.placeOf Run.follow Run.run Run.sheetsRefusal Run.callRefusal Run.endingOf Run.ending Run.outcome refOf shapeOf isTaken headOf sortRow termRow inputRow stepRow headerWhy rowWhy readLine lineEffect lineStep textState textFault digitsOf decimal verdictWord numberField Printed.printed meaning cause fieldPart wherePart whatPart whyPart complained verdictOf cutRefused refusedRow lineOf lineMeant complaintOf
 answers = refl

@@ -24,7 +24,7 @@ runAnswer a b c sorts terms inputs steps =
     let o = outcome (callWith sorts terms inputs steps) in
     record {
       outcome = o;
-      complaint = record { number = o .number; line = lineOf o a b c sorts terms inputs; field = 0; why = lineMeant o steps };
+      complaint = record { number = o .number; line = lineOf o a b c sorts terms inputs; field = o .place; why = lineMeant o steps };
     }
 
 -- the result of a text, and what a person is told of it

@@ -1,4 +1,4 @@
--- What a person is told of a text that is refused: the line of the first bad row or step.
+-- What a person is told of a text that is refused: the line of the first bad row or step, and its field.
 use Prim.Native.Nat.{ℕ, zero, suc, _+_, _*_, _<_}
 use mathlib.Core.Path.{_≡_}
 use mathlib.Core.Bool.{Bool, not}
@@ -65,9 +65,9 @@ faultLine o s =
 unfoldable pub lineMeant : Outcome → List ℕ → ℕ
 lineMeant o steps = pick (eqb (o .number) 26) (pick (eqb (stepAt steps (o .steps) .step) 2) failMeant clashMeant) 0
 
--- what is told of a run
+-- what is told of a run; the columns of the step sheet are the fields of its lines
 abbrev pub runComplaint : Outcome → State → Complaint
-runComplaint o s = record { number = o .number; line = faultLine o s; field = 0; why = lineMeant o (s .steps) }
+runComplaint o s = record { number = o .number; line = faultLine o s; field = o .place; why = lineMeant o (s .steps) }
 
 -- what is told of a text that is not read
 abbrev pub readComplaint : List ℕ → Complaint

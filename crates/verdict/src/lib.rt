@@ -178,7 +178,7 @@ fn run_answer(r: ReadOutcome, sorts: &[u16], terms: &[u16], inputs: &[u16], step
         complaint: Complaint {
             number: o.number,
             line,
-            field: 0,
+            field: o.place as u64,
             why,
         },
     }
