@@ -1,12 +1,12 @@
 -- The rules neg, part and unit: where some rows complete the premises, these rows are those that are needed.
 use mathlib.Core.Path.{_≡_, refl, sym, subst, _∙_}
 use mathlib.Core.Logic.{_⊎_, inl, inr}
-use mathlib.Core.Bool.{Bool, _&&_, _||_}
-use mathlib.Core.List.{List, [], _∷_, _++_, map}
-use Prim.Native.Nat.{ℕ, zero, suc, _+_, _-_, _≤_, _<_}
+use mathlib.Core.Bool.{_&&_}
+use mathlib.Core.List.{List, [], _∷_, map}
+use Prim.Native.Nat.{ℕ, _+_, _<_}
 use native.Mathlib.Omega.{arith}
 use lib.ListN.{length, getD}
-use lib.Dec.{T, eqb, eqb→eq, lit<}
+use lib.Dec.{T, eqb, lit<}
 use Rattle.calculus.specs.declared.Premise.{Premise}
 use Rattle.calculus.specs.declared.Rule.the-variants.{Negated, Part, Unit}
 use Rattle.calculus.specs.Lists.{has, opposite}
@@ -14,7 +14,7 @@ use Rattle.calculus.specs.Sheets.{blank}
 use Rattle.calculus.specs.Terms.{args, andHead, orHead}
 use Rattle.calculus.specs.Rules.{gives, single, leading, others, allBut, unitAt, fits}
 use Rattle.calculus.specs.Place.{with}
-use Rattle.calculus.proofs.Facts.{and-l, and-r, or-cases, facts}
+use Rattle.calculus.proofs.Facts.{and-r, or-cases, facts}
 use Rattle.calculus.proofs.Forms.{connected}
 use Rattle.completions.specs.Needs.{needs}
 use Rattle.completions.proofs.First.{somewhere-at}

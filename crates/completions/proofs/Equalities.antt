@@ -1,11 +1,10 @@
 -- The rules on equalities, functions and arrays: where some rows complete the premises, those that are needed do.
 use mathlib.Core.Path.{_≡_, refl, sym, subst}
-use mathlib.Core.Bool.{Bool, not, _&&_}
+use mathlib.Core.Bool.{not}
 use mathlib.Core.List.{List, [], _∷_, _++_}
 use Prim.Native.Nat.{ℕ}
 use native.Mathlib.Omega.{arith}
 use lib.Dec.{T, eqb, ltb, eqb→eq, ltb→lt, eqb-refl, lit<, not-T}
-use Rattle.calculus.specs.declared.Premise.{Premise}
 use Rattle.calculus.specs.declared.Rule.the-variants.{Same, Differ, Reflexivity, Symmetry, Transitivity, Congruence, Predicate, Read, Skip}
 use Rattle.calculus.specs.Lists.{opposite}
 use Rattle.calculus.specs.Sheets.{termRows}

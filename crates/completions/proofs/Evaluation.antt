@@ -4,7 +4,7 @@ use mathlib.Core.Logic.{_⊎_, inl, inr}
 use mathlib.Core.Bool.{Bool, true, false, not, _&&_, _||_}
 use mathlib.Core.List.{List, [], _∷_, _++_, map}
 use Prim.Native.Nat.{ℕ, _<_}
-use lib.Dec.{T, eqb, ltb, eqb→eq, eqb-refl, lit<}
+use lib.Dec.{T, eqb, ltb, eqb-refl, lit<}
 use Rattle.calculus.specs.declared.Premise.{Premise}
 use Rattle.calculus.specs.declared.Rule.the-variants.{Evaluation}
 use Rattle.calculus.specs.Lists.{all, eqList, num, isTrue}
@@ -108,7 +108,8 @@ module _ (h v : ℕ) (xs : List ℕ) (qs rs : List Premise) (e : Named xs (qs ++
   filled f r (inr e) t = (1, lit< tt, subst (λ b. T (eqb h r && eqb v (num b))) e t)
 
   -- either of two tests
-  either : (s t : List Premise → Bool) → (T (s (qs ++ rs)) → Filled s) → (T (t (qs ++ rs)) → Filled t) → T (s (qs ++ rs) || t (qs ++ rs)) → Filled (λ ps. s ps || t ps)
+  either : (s t : List Premise → Bool) → (T (s (qs ++ rs)) → Filled s) → (T (t (qs ++ rs)) → Filled t)
+      → T (s (qs ++ rs) || t (qs ++ rs)) → Filled (λ ps. s ps || t ps)
   either s t f g b = go (or-cases (s (qs ++ rs)) _ b)
     where
       go : T (s (qs ++ rs)) ⊎ T (t (qs ++ rs)) → Filled (λ ps. s ps || t ps)

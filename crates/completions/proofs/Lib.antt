@@ -8,3 +8,5 @@ pub mod Connectives
 pub mod Evaluation
 pub mod Search
 pub mod Theorem
+pub mod Columns
+pub mod Board

@@ -1,8 +1,8 @@
 -- The search finds completions, and misses none.
 use mathlib.Core.Path.{_≡_, refl, sym, ap, subst}
-use mathlib.Core.Bool.{Bool, _&&_}
+use mathlib.Core.Bool.{Bool}
 use mathlib.Core.List.{List, [], _∷_, _++_}
-use Prim.Native.Nat.{ℕ, zero, suc, _-_, _≤_, _<_}
+use Prim.Native.Nat.{ℕ, zero, suc, _-_, _≤_}
 use native.Mathlib.Omega.{arith}
 use lib.ListN.{length, drop, length-drop}
 use lib.Dec.{T}
@@ -11,7 +11,7 @@ use Rattle.calculus.specs.declared.Rule.{Rule}
 use Rattle.calculus.specs.declared.Rule.the-variants.{Same, Differ, Reflexivity, Symmetry, Transitivity, Negated, Part, Unit, Evaluation, Congruence, Predicate, Read, Skip, Unlisted}
 use Rattle.calculus.specs.Lists.{all}
 use Rattle.calculus.specs.Rules.{fits}
-use Rattle.calculus.specs.Place.{with, freeValues}
+use Rattle.calculus.specs.Place.{with}
 use Rattle.calculus.proofs.Facts.{and-l, and-r, and-both}
 use Rattle.completions.specs.Needs.{ways, needs}
 use Rattle.completions.specs.Search.{over, small, isRow, serves, followed, tried, extensible}

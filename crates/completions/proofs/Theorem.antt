@@ -1,8 +1,8 @@
 -- The search decides whether a row can be completed, and so finds the place.
-use mathlib.Core.Path.{_≡_, refl, sym, ap, subst, _∙_}
+use mathlib.Core.Path.{_≡_, refl, ap}
 use mathlib.Core.Bool.{Bool, true, false, not, _||_, cond}
-use mathlib.Core.List.{List, [], _∷_, _++_}
-use Prim.Native.Nat.{ℕ, zero, suc, _+_, _-_, _≤_, _<_, min}
+use mathlib.Core.List.{List, [], _∷_}
+use Prim.Native.Nat.{ℕ, zero, suc, _+_, _-_, _≤_}
 use native.Mathlib.Omega.{arith}
 use lib.ListN.{length, take, length-take}
 use lib.Dec.{T, ltb, ltb→lt, nltb→le}
@@ -10,7 +10,7 @@ use Rattle.calculus.specs.declared.Premise.{Premise}
 use Rattle.calculus.specs.declared.Rule.{Rule}
 use Rattle.calculus.specs.Lists.{all, firstWhere}
 use Rattle.calculus.specs.Rules.{fits}
-use Rattle.calculus.specs.Place.{termColumn, valueColumn, lastColumn, completes, openAfter, completable, unfitPlace}
+use Rattle.calculus.specs.Place.{termColumn, valueColumn, lastColumn, completes, completable, unfitPlace}
 use Rattle.calculus.proofs.Facts.{and-l, and-r, and-both, true-T, false-T}
 use Rattle.completions.specs.Search.{small, isRow, extensible, findable, foundPlace, Legible, SearchFindsPlaces}
 use Rattle.completions.proofs.Completion.{completes-at, completes-of}
@@ -24,7 +24,12 @@ alike true false f g = absurd (f tt)
 alike false true f g = absurd (g tt)
 alike false false f g = refl
 
-take-all : (n : ℕ) (ps : List Premise) → length ps ≤ n → take n ps ≡ ps
+-- what f makes of each outcome of a test
+on-cond : {A B : Type 0} (f : A → B) (b : Bool) {m n : A} {x y : B} → (b ≡ true → f m ≡ x) → (b ≡ false → f n ≡ y) → f (cond b m n) ≡ cond b x y
+on-cond f true p q = p refl
+on-cond f false p q = q refl
+
+pub take-all : (n : ℕ) (ps : List Premise) → length ps ≤ n → take n ps ≡ ps
 take-all zero [] h = refl
 take-all zero (p ∷ ps) h = absurd (omega arith)
 take-all (suc n) [] h = refl
@@ -47,36 +52,24 @@ module _ (ts : List ℕ) (k : Rule) (l : ℕ) where
       from : T (extensible ts k l v qs) → T (completes ts k l n v qs)
       from t = let x = found-at ts k l v truth qs S t in completes-of ts k l v n qs (x .rest) (omega (arith, x .short)) (x .rows) (x .values) (x .fit)
 
-  -- with the first j premises, where the columns up to c stand
   module _ (v : ℕ) (ps : List Premise) (G : Legible ts v ps) where
-    after-value : (c : ℕ) → valueColumn ≤ c
-        → completes ts k l (openAfter ts k l ps c) v (take (c - valueColumn) ps)
-        ≡ cond (ltb (length ps) (c - valueColumn)) (fits ts k l v ps) (extensible ts k l v (take (c - valueColumn) ps))
+    -- with the first m premises: after a blank they are all; else n columns more are open
+    premises-are : (m n : ℕ) → n ≡ 5 - m
+        → completes ts k l (cond (ltb (length ps) m) 0 n) v (take m ps) ≡ cond (ltb (length ps) m) (fits ts k l v ps) (extensible ts k l v (take m ps))
     unfolding completes
-    after-value c m = go (ltb (length ps) (c - valueColumn)) refl
-      where
-        go : (b : Bool) → ltb (length ps) (c - valueColumn) ≡ b
-            → completes ts k l (cond b 0 (lastColumn - c)) v (take (c - valueColumn) ps)
-            ≡ cond b (fits ts k l v ps) (extensible ts k l v (take (c - valueColumn) ps))
-        go true e = let h = ltb→lt (length ps) (c - valueColumn) (true-T _ e) in ap (fits ts k l v) (take-all (c - valueColumn) ps (omega arith))
-        go false e =
-            let h = nltb→le (length ps) (c - valueColumn) (false-T _ e) in
-            completes-is v (lastColumn - c) (take (c - valueColumn) ps) (G .truth) (omega (arith, length-take (c - valueColumn) ps, G .five))
-            (all-take (isRow ts) (c - valueColumn) ps (G .rows)) (all-take small (c - valueColumn) ps (G .values))
+    premises-are m n e =
+        on-cond (λ n. completes ts k l n v (take m ps)) (ltb (length ps) m)
+        (λ b. let h = ltb→lt (length ps) m (true-T _ b) in ap (fits ts k l v) (take-all m ps (omega arith)))
+        (λ b.
+        let h = nltb→le (length ps) m (false-T _ b) in
+        completes-is v n (take m ps) (G .truth) (omega (arith, length-take m ps)) (all-take (isRow ts) m ps (G .rows)) (all-take small m ps (G .values)))
 
     pub completable-is : (c : ℕ) → completable ts k l v ps c ≡ findable ts k l v ps c
     unfolding completable findable
-    completable-is c = go (ltb c valueColumn) refl
-      where
-        free : (w : ℕ) → w ≤ 1 → completes ts k l 5 w [] ≡ extensible ts k l w []
-        free w h = completes-is w 5 [] h refl tt tt
-
-        go : (b : Bool) → ltb c valueColumn ≡ b
-            → cond b (completes ts k l 5 0 [] || completes ts k l 5 1 []) (completes ts k l (openAfter ts k l ps c) v (take (c - valueColumn) ps))
-            ≡ cond b (extensible ts k l 0 [] || extensible ts k l 1 [])
-            (cond (ltb (length ps) (c - valueColumn)) (fits ts k l v ps) (extensible ts k l v (take (c - valueColumn) ps)))
-        go true e = λ i. free 0 (omega arith) i || free 1 (omega arith) i
-        go false e = after-value c (nltb→le c valueColumn (false-T _ e))
+    completable-is c =
+        on-cond (λ b. b) (ltb c valueColumn)
+        (λ e i. completes-is 0 5 [] (omega arith) refl tt tt i || completes-is 1 5 [] (omega arith) refl tt tt i)
+        (λ e. let h = nltb→le c valueColumn (false-T _ e) in premises-are (c - valueColumn) (lastColumn - c) (omega arith))
 
 pub search-finds-places : SearchFindsPlaces
 unfolding unfitPlace foundPlace
