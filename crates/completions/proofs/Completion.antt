@@ -38,10 +38,12 @@ module _ (ts : List ℕ) (k : Rule) (l v : ℕ) where
   abbrev next : ℕ → List Premise → Bool
   next n qs = somewhere (termRows ts) (λ a. somewhere freeValues (λ w. completes ts k l n v (qs ++ with w a ∷ [])))
 
+  -- blanks only
   nothing-more : (n : ℕ) (qs : List Premise) → T (fits ts k l v qs) → Completion n qs
   nothing-more n qs h =
       record { rest = []; short = omega arith; rows = tt; values = tt; fit = subst (λ ps. T (fits ts k l v ps)) (sym (append-nil qs)) h }
 
+  -- p, and then what completes
   one-more : (n : ℕ) (qs : List Premise) (p : Premise) → T (isRow ts p) → T (small p) → Completion n (qs ++ p ∷ []) → Completion (suc n) qs
   one-more n qs p r s x =
       record {

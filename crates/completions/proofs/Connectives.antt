@@ -27,6 +27,7 @@ is-with w r p e f = λ i. record { row = sym e i; value = sym f i }
 
 -- ---- the arguments at all positions but one
 
+-- premises that are the rows xs, each with value w, are just these
 others-is : (w : ℕ) (xs : List ℕ) (ps : List Premise) → T (others w xs ps) → map (with w) xs ≡ ps
 others-is w [] [] h = refl
 others-is w [] (p ∷ ps) h = absurd h
@@ -36,7 +37,7 @@ others-is w (x ∷ xs) (p ∷ ps) h =
     let f = others-is w xs ps (and-r (gives x w p) _ h) in
     λ i. e i ∷ f i
 
--- ps are the arguments xs but the i-th, each with value w
+-- ps are the arguments xs but the one at some position, each with value w
 record Left (w : ℕ) (xs : List ℕ) (ps : List Premise) : Type 0 where
   at : ℕ
   low : at < length xs
@@ -49,6 +50,7 @@ unit-left w l xs ps h =
     record { at = x .0; low = x .1; rest = others-is w (allBut (x .0) xs) ps (and-r (eqb (getD xs (x .0) blank) l) _ (x .2)) }
 
 module _ (ts : List ℕ) (l v : ℕ) where
+  -- the negation has the value that is not given
   pub open-negated : Complete ts Negated l v
   unfolding fits needs single
   open-negated = exact-open ts Negated l v refl (λ h. h) go
@@ -60,6 +62,7 @@ module _ (ts : List ℕ) (l v : ℕ) where
           record { way = 0; low = lit< tt; needed = λ w i. e i ∷ [] }
       go p (q ∷ ps) t = absurd t
 
+  -- the connective has the value that is given
   pub open-part : Complete ts Part l v
   unfolding fits needs single
   open-part = exact-open ts Part l v refl (λ h. h) go

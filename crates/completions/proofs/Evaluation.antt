@@ -27,6 +27,7 @@ filledUp w xs qs = over qs (map (with w) xs)
 
 -- ---- the rows
 
+-- they are the arguments still
 names-open : (w : ℕ) (xs : List ℕ) (qs rs : List Premise) → Named xs (qs ++ rs) → Named xs (filledUp w xs qs)
 names-open w [] [] rs h = tt
 names-open w (x ∷ xs) [] [] h = absurd h
@@ -55,16 +56,28 @@ Either f xs qs rs =
     (f (map valueOf (qs ++ rs)) ≡ f (map valueOf (filledUp 0 xs qs)))
     ⊎ (f (map valueOf (qs ++ rs)) ≡ f (map valueOf (filledUp 1 xs qs)))
 
-either-map : {a b c : Bool} (g : Bool → Bool) → (a ≡ b) ⊎ (a ≡ c) → (g a ≡ g b) ⊎ (g a ≡ g c)
-either-map g (inl e) = inl (ap g e)
-either-map g (inr e) = inr (ap g e)
-
 one-of : (a b c : Bool) → b ≡ not c → (a ≡ b) ⊎ (a ≡ c)
 one-of true b true e = inr refl
 one-of true b false e = inl (sym e)
 one-of false b true e = inl (sym e)
 one-of false b false e = inr refl
 
+-- where f of a list goes by its first value and f of the rest, and false arguments and true ones make a difference
+module _ (f : List ℕ → Bool)
+    (onward : (x : ℕ) (ys zs : List ℕ) → f ys ≡ f zs → f (x ∷ ys) ≡ f (x ∷ zs))
+    (turns : (x : ℕ) (xs : List ℕ) → f (map valueOf (map (with 0) (x ∷ xs))) ≡ not (f (map valueOf (map (with 1) (x ∷ xs))))) where
+  either-open : (xs : List ℕ) (qs rs : List Premise) → Named xs (qs ++ rs) → Either f xs qs rs
+  either-open [] [] [] h = inl refl
+  either-open [] [] (r ∷ rs) h = absurd h
+  either-open (x ∷ xs) [] rs h = one-of _ _ _ (turns x xs)
+  either-open [] (q ∷ qs) rs h = absurd h
+  either-open (x ∷ xs) (q ∷ qs) rs h = go (either-open xs qs rs (and-r (eqb (q .row) x) _ h))
+    where
+      go : Either f xs qs rs → Either f (x ∷ xs) (q ∷ qs) rs
+      go (inl e) = inl (onward (q .value) _ _ e)
+      go (inr e) = inr (onward (q .value) _ _ e)
+
+-- and of true arguments, or of false ones
 all-ones : (xs : List ℕ) → andOf (map valueOf (map (with 1) xs)) ≡ true
 all-ones [] = refl
 all-ones (x ∷ xs) = all-ones xs
@@ -74,25 +87,13 @@ no-ones [] = refl
 no-ones (x ∷ xs) = no-ones xs
 
 and-either : (xs : List ℕ) (qs rs : List Premise) → Named xs (qs ++ rs) → Either andOf xs qs rs
-and-either [] [] [] h = inl refl
-and-either [] [] (r ∷ rs) h = absurd h
-and-either (x ∷ xs) [] rs h = one-of (andOf (map valueOf rs)) false (andOf (map valueOf (map (with 1) xs))) (sym (ap not (all-ones xs)))
-and-either [] (q ∷ qs) rs h = absurd h
-and-either (x ∷ xs) (q ∷ qs) rs h = either-map (λ b. isTrue (q .value) && b) (and-either xs qs rs (and-r (eqb (q .row) x) _ h))
+and-either = either-open andOf (λ x ys zs e. ap (λ b. isTrue x && b) e) (λ x xs. sym (ap not (all-ones xs)))
 
 or-either : (xs : List ℕ) (qs rs : List Premise) → Named xs (qs ++ rs) → Either orOf xs qs rs
-or-either [] [] [] h = inl refl
-or-either [] [] (r ∷ rs) h = absurd h
-or-either (x ∷ xs) [] rs h = one-of (orOf (map valueOf rs)) (orOf (map valueOf (map (with 0) xs))) true (no-ones xs)
-or-either [] (q ∷ qs) rs h = absurd h
-or-either (x ∷ xs) (q ∷ qs) rs h = either-map (λ b. isTrue (q .value) || b) (or-either xs qs rs (and-r (eqb (q .row) x) _ h))
+or-either = either-open orOf (λ x ys zs e. ap (λ b. isTrue x || b) e) (λ x xs. no-ones xs)
 
 not-either : (xs : List ℕ) (qs rs : List Premise) → Named xs (qs ++ rs) → Either notOf xs qs rs
-not-either [] [] [] h = inl refl
-not-either [] [] (r ∷ rs) h = absurd h
-not-either (x ∷ xs) [] rs h = one-of (notOf (map valueOf rs)) true false refl
-not-either [] (q ∷ qs) rs h = absurd h
-not-either (x ∷ xs) (q ∷ qs) rs h = inl refl
+not-either = either-open notOf (λ x ys zs e. refl) (λ x xs. refl)
 
 -- head h gives v also with the open arguments all false, or all true
 module _ (h v : ℕ) (xs : List ℕ) (qs rs : List Premise) (e : Named xs (qs ++ rs)) where
@@ -103,6 +104,7 @@ module _ (h v : ℕ) (xs : List ℕ) (qs rs : List Premise) (e : Named xs (qs ++
   abbrev Filled : (List Premise → Bool) → Type 0
   Filled t = (w : ℕ) × (w < 2) × T (t (filledUp w xs qs))
 
+  -- for one of not, and, or
   filled : (f : List ℕ → Bool) (r : ℕ) → Either f xs qs rs → T (By f r (qs ++ rs)) → Filled (By f r)
   filled f r (inl e) t = (0, lit< tt, subst (λ b. T (eqb h r && eqb v (num b))) e t)
   filled f r (inr e) t = (1, lit< tt, subst (λ b. T (eqb h r && eqb v (num b))) e t)

@@ -1,7 +1,7 @@
 -- What a rule needs are at most five premises, whose values a column can have.
 use mathlib.Core.Bool.{Bool, true, false, cond}
 use mathlib.Core.List.{List, [], _∷_, map}
-use Prim.Native.Nat.{ℕ, suc, _≤_}
+use Prim.Native.Nat.{ℕ, suc, _≤_, _<_}
 use native.Mathlib.Omega.{arith}
 use lib.ListN.{length, take, drop, length-map, length-append, length-take, length-drop}
 use lib.Dec.{T, eqb, ltb, lt→ltb}
@@ -19,6 +19,7 @@ use Rattle.completions.specs.Search.{small}
 
 -- ---- how many
 
+-- a term has at most four arguments
 filled-short : (xs : List ℕ) → length (filled xs) ≤ length xs
 filled-short [] = omega arith
 filled-short (x ∷ xs) = go (eqb x blank) (filled-short xs)
@@ -61,25 +62,10 @@ module _ (ts : List ℕ) where
 
 -- ---- their values: 0, 1, the one that is given, that of the way, the first premise's own and its opposite
 
+-- a number up to 4 is a value that a column can have
 pub low-small : (w : ℕ) → w ≤ 4 → T (ltb w freeValues)
 unfolding freeValues
 low-small w h = lt→ltb w freeValues (omega arith)
-
-pub ways-low : (k : Rule) → ways k ≤ 4
-ways-low Same = omega arith
-ways-low Differ = omega arith
-ways-low Reflexivity = omega arith
-ways-low Symmetry = omega arith
-ways-low Transitivity = omega arith
-ways-low Negated = omega arith
-ways-low Part = omega arith
-ways-low Unit = omega arith
-ways-low Evaluation = omega arith
-ways-low Congruence = omega arith
-ways-low Predicate = omega arith
-ways-low Read = omega arith
-ways-low Skip = omega arith
-ways-low Unlisted = omega arith
 
 map-small : (w : ℕ) (xs : List ℕ) → T (ltb w freeValues) → T (all small (map (with w) xs))
 map-small w [] h = tt
@@ -91,29 +77,32 @@ module _ (ts : List ℕ) where
   equations-small (a ∷ xs) [] = tt
   equations-small (a ∷ xs) (b ∷ ys) = and-both (ltb 1 freeValues) _ (low-small 1 (omega arith)) (equations-small xs ys)
 
-  module _ (l v : ℕ) (f : Premise) (i : ℕ) (truth : T (ltb v freeValues)) (own : T (small f)) (way : T (ltb i freeValues)) where
-    turned : (w : ℕ) → T (ltb (opposite w) freeValues)
-    turned w = low-small (opposite w) (omega arith)
+  module _ (l v : ℕ) (truth : v ≤ 1) (f : Premise) (own : T (small f)) (i : ℕ) where
+    none : T (ltb 0 freeValues)
+    none = low-small 0 (omega arith)
 
     one : T (ltb 1 freeValues)
     one = low-small 1 (omega arith)
 
-    none : T (ltb 0 freeValues)
-    none = low-small 0 (omega arith)
+    given : T (ltb v freeValues)
+    given = low-small v (omega arith)
 
-    pub needs-small : (k : Rule) → T (all small (needs ts k l v f i))
+    turned : (w : ℕ) → T (ltb (opposite w) freeValues)
+    turned w = low-small (opposite w) (omega arith)
+
+    pub needs-small : (k : Rule) → i < ways k → T (all small (needs ts k l v f i))
     unfolding needs
-    needs-small Same = search (and-both, own)
-    needs-small Differ = search (and-both, own, turned)
-    needs-small Reflexivity = tt
-    needs-small Symmetry = search (and-both, one)
-    needs-small Transitivity = search (and-both, one)
-    needs-small Negated = search (and-both, turned)
-    needs-small Part = search and-both
-    needs-small Unit = search (and-both, map-small, turned)
-    needs-small Evaluation = search map-small
-    needs-small Congruence = search equations-small
-    needs-small Predicate = search (and-both, equations-small)
-    needs-small Read = tt
-    needs-small Skip = search (and-both, none)
-    needs-small Unlisted = tt
+    needs-small Same b = search (and-both, own)
+    needs-small Differ b = search (and-both, own, turned)
+    needs-small Reflexivity b = tt
+    needs-small Symmetry b = search (and-both, one)
+    needs-small Transitivity b = search (and-both, one)
+    needs-small Negated b = search (and-both, turned)
+    needs-small Part b = search (and-both, given)
+    needs-small Unit b = search (and-both, given, map-small, turned)
+    needs-small Evaluation b = map-small i (args ts l) (low-small i (omega arith))
+    needs-small Congruence b = search equations-small
+    needs-small Predicate b = search (and-both, given, equations-small)
+    needs-small Read b = tt
+    needs-small Skip b = search (and-both, none)
+    needs-small Unlisted b = tt

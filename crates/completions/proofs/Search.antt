@@ -17,7 +17,7 @@ use Rattle.completions.specs.Needs.{ways, needs}
 use Rattle.completions.specs.Search.{over, small, isRow, serves, followed, tried, extensible}
 use Rattle.completions.proofs.First.{somewhere-at}
 use Rattle.completions.proofs.Completion.{append-nil, Completion}
-use Rattle.completions.proofs.Needed.{low-small, ways-low, needs-short, needs-small}
+use Rattle.completions.proofs.Needed.{low-small, needs-short, needs-small}
 use Rattle.completions.proofs.Openings.{Rows, Complete}
 use Rattle.completions.proofs.Equalities.{open-same, open-differ, open-reflexivity, open-symmetry, open-transitivity, open-congruence, open-predicate, open-read, open-skip}
 use Rattle.completions.proofs.Connectives.{open-negated, open-part, open-unit}
@@ -42,8 +42,9 @@ complete ts l v Read = open-read ts l v
 complete ts l v Skip = open-skip ts l v
 complete ts l v Unlisted = λ qs rs R h. absurd h
 
--- ---- what it finds is a completion
+-- ---- what it finds is a completion, of five premises at most
 
+-- what holds of all of a list holds of all of its parts, and back
 module _ {A : Type 0} (p : A → Bool) where
   pub all-both : (xs ys : List A) → T (all p xs) → T (all p ys) → T (all p (xs ++ ys))
   all-both [] ys a b = b
@@ -58,7 +59,7 @@ module _ {A : Type 0} (p : A → Bool) where
   all-drop (suc n) [] h = tt
   all-drop (suc n) (x ∷ xs) h = all-drop n xs (and-r (p x) _ h)
 
--- qs stand in front
+-- qs, and what is needed from the column after them on
 over-is : (qs ds : List Premise) → over qs ds ≡ qs ++ drop (length qs) ds
 over-is [] ds = refl
 over-is (q ∷ qs) [] = sym (append-nil (q ∷ qs))
@@ -75,8 +76,7 @@ module _ (ts : List ℕ) (k : Rule) (l v : ℕ) (truth : v ≤ 1) where
         rest = drop (length qs) ds;
         short = omega (arith, length-drop (length qs) ds, needs-short ts k l v f (w .0));
         rows = all-after (isRow ts) qs _ (subst (Rows ts) e (and-l (all (isRow ts) (over qs ds)) _ (w .2)));
-        values = all-drop small (length qs) ds (
-            needs-small ts l v f (w .0) (low-small v (omega arith)) own (low-small (w .0) (omega (arith, w .1, ways-low k))) k);
+        values = all-drop small (length qs) ds (needs-small ts l v truth f own (w .0) k (w .1));
         fit = subst (λ ps. T (fits ts k l v ps)) e (and-r (all (isRow ts) (over qs ds)) _ (w .2));
       }
 
