@@ -148,14 +148,17 @@ module _ (e : Term) {i : ℕ} where
     but-0 k x h = rw (h, k, x) (but-here (e .a) (e .b) (e .c ∷ e .d ∷ blank ∷ []))
 
     pub but-1 : i ≡ 1 → x ≡ cond (eqb (e .b) blank) blank (e .c) → r ≡ threeOf e (e .a) x (e .d) → argsOf r ≡ allBut i (argsOf e)
-    but-1 k x h = rw (h, k, x) (but-later 0 (e .a) (e .b ∷ e .c ∷ e .d ∷ []) (cond (eqb (e .b) blank) blank (e .c) ∷ e .d ∷ blank ∷ []) (but-here (e .b) (e .c) (e .d ∷ blank ∷ [])))
+    but-1 k x h = rw (h, k, x)
+        (but-later 0 (e .a) (e .b ∷ e .c ∷ e .d ∷ []) (cond (eqb (e .b) blank) blank (e .c) ∷ e .d ∷ blank ∷ []) (but-here (e .b) (e .c) (e .d ∷ blank ∷ [])))
 
     pub but-2 : i ≡ 2 → x ≡ cond (eqb (e .c) blank) blank (e .d) → r ≡ threeOf e (e .a) (e .b) x → argsOf r ≡ allBut i (argsOf e)
-    but-2 k x h = rw (h, k, x) (but-later 1 (e .a) (e .b ∷ e .c ∷ e .d ∷ []) (e .b ∷ cond (eqb (e .c) blank) blank (e .d) ∷ blank ∷ [])
+    but-2 k x h = rw (h, k, x)
+        (but-later 1 (e .a) (e .b ∷ e .c ∷ e .d ∷ []) (e .b ∷ cond (eqb (e .c) blank) blank (e .d) ∷ blank ∷ [])
         (but-later 0 (e .b) (e .c ∷ e .d ∷ []) (cond (eqb (e .c) blank) blank (e .d) ∷ blank ∷ []) (but-here (e .c) (e .d) (blank ∷ []))))
 
   pub but-3 : {r : Term} → i ≡ 3 → r ≡ threeOf e (e .a) (e .b) (e .c) → argsOf r ≡ allBut i (argsOf e)
-  but-3 k h = rw (h, k) (but-later 2 (e .a) (e .b ∷ e .c ∷ e .d ∷ []) (e .b ∷ e .c ∷ blank ∷ [])
+  but-3 k h = rw (h, k)
+      (but-later 2 (e .a) (e .b ∷ e .c ∷ e .d ∷ []) (e .b ∷ e .c ∷ blank ∷ [])
       (but-later 1 (e .b) (e .c ∷ e .d ∷ []) (e .c ∷ blank ∷ []) (but-later 0 (e .c) (e .d ∷ []) (blank ∷ []) (but-last (e .d)))))
 
   pub but-4 : (i ≡ 0 → ⊥) → (i ≡ 1 → ⊥) → (i ≡ 2 → ⊥) → (i ≡ 3 → ⊥) → argsOf e ≡ allBut i (argsOf e)

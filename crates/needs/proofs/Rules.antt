@@ -109,7 +109,8 @@ module _ (ts : List ℕ) (x : Known) (c : Columns) where
     unfolding needs args cells
     eval-needs h = h .lists ∙ rw row
 
-    pub cong-needs : {f g : Term} → f ≡ termAt ts (e .a) → g ≡ termAt ts (e .b) → Four c (equations ts (argsOf f) (argsOf g)) → listed c ≡ needsOf ts Congruence x
+    pub cong-needs : {f g : Term} → f ≡ termAt ts (e .a) → g ≡ termAt ts (e .b) → Four c (equations ts (argsOf f) (argsOf g))
+        → listed c ≡ needsOf ts Congruence x
     unfolding needs arg args cells
     cong-needs f g h = h .lists ∙ rw (f, g, row)
 

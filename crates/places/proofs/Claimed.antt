@@ -28,6 +28,12 @@ use Rattle.places.specs.Tested.{Tested, Counted}
 
 -- ---- how many premises there are, and their values
 
+filled : (p : Premise) → (p .row ≡ blank → ⊥) → gap p ≡ false
+filled p h = ne-eqb (p .row) blank h
+
+empty : (p : Premise) → p .row ≡ blank → gap p ≡ true
+empty p h = eq-eqb (p .row) blank h
+
 -- a premise's columns are numbers of sixteen bits
 abbrev Sixteen : Premise → Type 0
 Sixteen p = Range w16 (p .row) × (Range w16 (p .value) × Unit {0})
@@ -64,33 +70,31 @@ module _ (x : Claim) (ranges : (Range w16 (x .term .0) × Unit {0}) × (Range w1
 
   pub count-0 : x .p .row ≡ blank → Counted x 0
   unfolding stated
-  count-0 p = counted (rw (eq-eqb (x .p .row) blank p))
+  count-0 p = counted (rw (empty (x .p) p))
 
   module _ (p : x .p .row ≡ blank → ⊥) where
     pub count-1 : x .q .row ≡ blank → Counted x 1
     unfolding stated
-    count-1 q = counted (rw (ne-eqb (x .p .row) blank p, eq-eqb (x .q .row) blank q))
+    count-1 q = counted (rw (filled (x .p) p, empty (x .q) q))
 
     module _ (q : x .q .row ≡ blank → ⊥) where
       pub count-2 : x .r .row ≡ blank → Counted x 2
       unfolding stated
-      count-2 r = counted (rw (ne-eqb (x .p .row) blank p, ne-eqb (x .q .row) blank q, eq-eqb (x .r .row) blank r))
+      count-2 r = counted (rw (filled (x .p) p, filled (x .q) q, empty (x .r) r))
 
       module _ (r : x .r .row ≡ blank → ⊥) where
         pub count-3 : x .s .row ≡ blank → Counted x 3
         unfolding stated
-        count-3 s = counted (rw (ne-eqb (x .p .row) blank p, ne-eqb (x .q .row) blank q, ne-eqb (x .r .row) blank r, eq-eqb (x .s .row) blank s))
+        count-3 s = counted (rw (filled (x .p) p, filled (x .q) q, filled (x .r) r, empty (x .s) s))
 
         module _ (s : x .s .row ≡ blank → ⊥) where
           pub count-4 : x .t .row ≡ blank → Counted x 4
           unfolding stated
-          count-4 t =
-              counted (rw (ne-eqb (x .p .row) blank p, ne-eqb (x .q .row) blank q, ne-eqb (x .r .row) blank r, ne-eqb (x .s .row) blank s, eq-eqb (x .t .row) blank t))
+          count-4 t = counted (rw (filled (x .p) p, filled (x .q) q, filled (x .r) r, filled (x .s) s, empty (x .t) t))
 
           pub count-5 : (x .t .row ≡ blank → ⊥) → Counted x 5
           unfolding stated
-          count-5 t =
-              counted (rw (ne-eqb (x .p .row) blank p, ne-eqb (x .q .row) blank q, ne-eqb (x .r .row) blank r, ne-eqb (x .s .row) blank s, ne-eqb (x .t .row) blank t))
+          count-5 t = counted (rw (filled (x .p) p, filled (x .q) q, filled (x .r) r, filled (x .s) s, filled (x .t) t))
 
 -- ---- the first of them
 
@@ -100,7 +104,8 @@ stated-take zero ps h = refl
 stated-take (suc m) [] h = refl
 stated-take (suc m) (p ∷ ps) h = go (gap p) (stated-take m ps) h
   where
-    go : (g : Bool) → (m ≤ length (stated ps) → take m ps ≡ take m (stated ps)) → suc m ≤ length (cond g [] (p ∷ stated ps)) → p ∷ take m ps ≡ take (suc m) (cond g [] (p ∷ stated ps))
+    go : (g : Bool) → (m ≤ length (stated ps) → take m ps ≡ take m (stated ps))
+        → suc m ≤ length (cond g [] (p ∷ stated ps)) → p ∷ take m ps ≡ take (suc m) (cond g [] (p ∷ stated ps))
     go true f h = absurd (omega arith)
     go false f h = ap {B = List Premise} (λ qs. p ∷ qs) (f (omega arith))
 

@@ -24,12 +24,12 @@ use Rattle.places.specs.Tested.{claimOf}
 
 -- ---- columns over others
 
--- where all five count
-full : (m k : ℕ) → k < 5 → ltb k (suc (suc (suc (suc (suc m))))) ≡ true
-full m k l = lt-ltb k (suc (suc (suc (suc (suc m))))) (omega arith)
+-- where all five columns count
+counts : (m k : ℕ) → k < 5 → ltb k (suc (suc (suc (suc (suc m))))) ≡ true
+counts m k l = lt-ltb k (suc (suc (suc (suc (suc m))))) (omega arith)
 
-full-leb : (m k : ℕ) → k < 5 → leb (suc (suc (suc (suc (suc m))))) k ≡ false
-full-leb m k l = lt-leb (suc (suc (suc (suc (suc m))))) k (omega arith)
+ends : (m k : ℕ) → k < 5 → leb (suc (suc (suc (suc (suc m))))) k ≡ false
+ends m k l = lt-leb (suc (suc (suc (suc (suc m))))) k (omega arith)
 
 -- the first m of xs, and from the column after them on ys
 mix : ℕ → List Premise → List Premise → List Premise
@@ -77,7 +77,7 @@ module _ (x y : Columns) where
   mixed (suc (suc (suc zero))) = refl
   mixed (suc (suc (suc (suc zero)))) = refl
   mixed (suc (suc (suc (suc (suc m))))) =
-      rw (full m 0 (omega arith), full m 1 (omega arith), full m 2 (omega arith), full m 3 (omega arith), full m 4 (omega arith), mix-nil m)
+      rw (counts m 0 (omega arith), counts m 1 (omega arith), counts m 2 (omega arith), counts m 3 (omega arith), counts m 4 (omega arith), mix-nil m)
 
   pub over-listed : {n : ℕ} {p q r s t : Premise} → n ≡ max (x .count) (y .count)
       → p ≡ cond (ltb 0 (x .count)) (x .p) (y .p) → q ≡ cond (ltb 1 (x .count)) (x .q) (y .q) → r ≡ cond (ltb 2 (x .count)) (x .r) (y .r)
@@ -111,44 +111,48 @@ rows-listed n x = go (x .count)
     go (suc (suc (suc (suc zero)))) = refl
     go (suc (suc (suc (suc (suc m))))) =
         rw (
-          full-leb m 0 (omega arith),
-          full-leb m 1 (omega arith),
-          full-leb m 2 (omega arith),
-          full-leb m 3 (omega arith),
-          full-leb m 4 (omega arith),
+          ends m 0 (omega arith),
+          ends m 1 (omega arith),
+          ends m 2 (omega arith),
+          ends m 3 (omega arith),
+          ends m 4 (omega arith),
           take-nil m,
           ← and-true (ltb (x .t .row) n),
         )
 
 -- ---- columns as a claim has them
 
--- rows and then none are those rows
-stated-rows : (n : ℕ) → n ≤ blank → (ds zs : List Premise) → all (λ p. ltb (p .row) n) ds ≡ true → stated zs ≡ [] → stated (ds ++ zs) ≡ ds
-unfolding stated
-stated-rows n l [] zs h e = e
-stated-rows n l (d ∷ ds) zs h e =
-    let b = both-true (ltb (d .row) n) _ h in
-    let m : d .row < n = ltb-true (d .row) n (b .0) in
-    rw (ne-eqb (d .row) blank (λ q. omega arith)) (ap {B = List Premise} (λ ps. d ∷ ps) (stated-rows n l ds zs (b .1) e))
+-- rows, and then columns without a premise, are those rows
+stated-mix : (n : ℕ) → n ≤ blank → (m : ℕ) (xs ys : List Premise) → all (λ p. ltb (p .row) n) (take m xs) ≡ true → all gap ys ≡ true
+    → length xs ≡ length ys → stated (mix m xs ys) ≡ take m xs
+unfolding stated mix
+stated-mix n l zero xs [] h g e = refl
+stated-mix n l zero xs (y ∷ ys) h g e = rw (both-true (gap y) (all gap ys) g .0)
+stated-mix n l (suc m) [] ys h g e = refl
+stated-mix n l (suc m) (x ∷ xs) [] h g e = absurd (omega arith)
+stated-mix n l (suc m) (x ∷ xs) (y ∷ ys) h g e =
+    let b = both-true (ltb (x .row) n) _ h in
+    let c = both-true (gap y) (all gap ys) g in
+    let d : x .row < n = ltb-true (x .row) n (b .0) in
+    rw (ne-eqb (x .row) blank (λ q. omega arith)) (ap {B = List Premise} (λ ps. x ∷ ps) (stated-mix n l m xs ys (b .1) (c .1) (omega arith)))
+
+-- columns without a premise
+abbrev without : Columns
+without = record { count = 0; p = noPremise; q = noPremise; r = noPremise; s = noPremise; t = noPremise }
 
 claim-listed : (n : ℕ) → n ≤ blank → (l v : ℕ) (x : Columns) → all (λ p. ltb (p .row) n) (listed x) ≡ true → premisesOf (claimOf l v x) ≡ listed x
-unfolding listed stated
-claim-listed n b l v x = go (x .count)
-  where
-    go : (m : ℕ) → all (λ p. ltb (p .row) n) (take m (columnsOf x)) ≡ true
-        → stated (cond (ltb 0 m) (x .p) noPremise ∷ cond (ltb 1 m) (x .q) noPremise ∷ cond (ltb 2 m) (x .r) noPremise
-        ∷ cond (ltb 3 m) (x .s) noPremise ∷ cond (ltb 4 m) (x .t) noPremise ∷ [])
-        ≡ take m (columnsOf x)
-    go zero h = refl
-    go (suc zero) h = stated-rows n b (x .p ∷ []) (noPremise ∷ noPremise ∷ noPremise ∷ noPremise ∷ []) h refl
-    go (suc (suc zero)) h = stated-rows n b (x .p ∷ x .q ∷ []) (noPremise ∷ noPremise ∷ noPremise ∷ []) h refl
-    go (suc (suc (suc zero))) h = stated-rows n b (x .p ∷ x .q ∷ x .r ∷ []) (noPremise ∷ noPremise ∷ []) h refl
-    go (suc (suc (suc (suc zero)))) h = stated-rows n b (x .p ∷ x .q ∷ x .r ∷ x .s ∷ []) (noPremise ∷ []) h refl
-    go (suc (suc (suc (suc (suc m))))) h =
-        rw (full m 0 (omega arith), full m 1 (omega arith), full m 2 (omega arith), full m 3 (omega arith), full m 4 (omega arith), take-nil m)
-        (stated-rows n b (columnsOf x) [] (rw (take-nil m) at h) refl)
+unfolding listed
+claim-listed n b l v x h = ap stated (mixed x without (x .count)) ∙ stated-mix n b (x .count) (columnsOf x) (columnsOf without) h refl refl
 
-module _ (ts : List ℕ) (k : Rule) (l v : ℕ) (x : Columns) {n : ℕ} (rows : n ≡ termRows ts) {b : Bool} (all-rows : b ≡ all (λ p. ltb (p .row) n) (listed x)) where
+pub claimed : (l v : ℕ) (x : Columns) {p q r s t : Premise} → p ≡ cond (ltb 0 (x .count)) (x .p) noPremise → q ≡ cond (ltb 1 (x .count)) (x .q) noPremise
+    → r ≡ cond (ltb 2 (x .count)) (x .r) noPremise → s ≡ cond (ltb 3 (x .count)) (x .s) noPremise → t ≡ cond (ltb 4 (x .count)) (x .t) noPremise
+    → record { term = record { 0 = l }; value = v; p = p; q = q; r = r; s = s; t = t } ≡ claimOf l v x
+claimed l v x p q r s t = rw (p, q, r, s, t)
+
+-- ---- premises that serve
+
+module _ (ts : List ℕ) (k : Rule) (l v : ℕ) (x : Columns) {n : ℕ} (rows : n ≡ termRows ts)
+    {b : Bool} (all-rows : b ≡ all (λ p. ltb (p .row) n) (listed x)) where
   rows-of : all (isRow ts) (listed x) ≡ b
   rows-of = ap (λ m. all (λ p. ltb (p .row) m) (listed x)) (sym rows) ∙ sym all-rows
 
@@ -160,8 +164,3 @@ module _ (ts : List ℕ) (k : Rule) (l v : ℕ) (x : Columns) {n : ℕ} (rows : 
       let h = not-false b e in
       let q = claim-listed n (let g = f .fits in omega arith) l v x (sym all-rows ∙ h) in
       r ∙ rw (c, q, rows-of ∙ h)
-
-pub claimed : (l v : ℕ) (x : Columns) {p q r s t : Premise} → p ≡ cond (ltb 0 (x .count)) (x .p) noPremise → q ≡ cond (ltb 1 (x .count)) (x .q) noPremise
-    → r ≡ cond (ltb 2 (x .count)) (x .r) noPremise → s ≡ cond (ltb 3 (x .count)) (x .s) noPremise → t ≡ cond (ltb 4 (x .count)) (x .t) noPremise
-    → record { term = record { 0 = l }; value = v; p = p; q = q; r = r; s = s; t = t } ≡ claimOf l v x
-claimed l v x p q r s t = rw (p, q, r, s, t)

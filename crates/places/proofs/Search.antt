@@ -20,7 +20,7 @@ use Rattle.completions.proofs.First.{somewhere-of}
 use Rattle.rule_claims.specs.declared.Claim.{Claim}
 use Rattle.rule_claims.specs.Claims.{premisesOf, allows}
 use Rattle.needs.specs.declared.Columns.{Columns}
-use Rattle.needs.specs.Listed.{listed}
+use Rattle.needs.specs.Listed.{columnsOf, listed}
 use Rattle.places.specs.Tested.{Tested, Counted}
 use Rattle.places.proofs.Claimed.{place-is}
 use Rattle.needs.proofs.First.{where-zero, where-more, where-found}
@@ -33,10 +33,10 @@ some-more p n h e = rw (add-one, h, e)
 some-found : (p : ℕ → Bool) (n k : ℕ) → k < n → p k ≡ true → true ≡ somewhere n p
 some-found p n k l e = sym (T-true (somewhere n p) (somewhere-of n p k l (true-T (p k) e)))
 
-module _ (ts : List ℕ) (k : Rule) (l v : ℕ) (known : Columns) where
+module _ (ts : List ℕ) (k : Rule) (l v : ℕ) where
   -- ---- the ways
 
-  module _ (f : Premise) where
+  module _ (known : Columns) (f : Premise) where
     -- the i-th way completes the known premises
     abbrev way : ℕ → Bool
     way i = serves ts k l v (over (listed known) (needs ts k l v f i))
@@ -62,21 +62,9 @@ module _ (ts : List ℕ) (k : Rule) (l v : ℕ) (known : Columns) where
 
     pub followed-no : {i w : ℕ} → w ≡ ways k → i ≤ w → w ≤ i → NoWay i → false ≡ followed ts k l v (listed known) f
     unfolding followed
-    followed-no {i} {w} e a b h =
-        let q : i ≡ ways k = omega arith in
-        sym (subst (λ j. somewhere j way ≡ false) q h)
+    followed-no {i} {w} e a b h = let q : i ≡ ways k = omega arith in sym (subst (λ j. somewhere j way ≡ false) q h)
 
   -- ---- the first premise
-
-  pub extensible-known : {b : Bool} → (known .count ≡ 0 → ⊥) → b ≡ followed ts k l v (listed known) (known .p) → b ≡ extensible ts k l v (listed known)
-  unfolding extensible listed
-  extensible-known {b} h e = go (known .count) h e
-    where
-      go : (m : ℕ) → (m ≡ 0 → ⊥)
-          → b ≡ followed ts k l v (take m (known .p ∷ known .q ∷ known .r ∷ known .s ∷ known .t ∷ [])) (known .p)
-          → b ≡ extensible ts k l v (take m (known .p ∷ known .q ∷ known .r ∷ known .s ∷ known .t ∷ []))
-      go zero h e = absurd (h refl)
-      go (suc m) h e = e
 
   -- row r begins premises that serve
   abbrev begins : ℕ → Bool
@@ -89,30 +77,35 @@ module _ (ts : List ℕ) (k : Rule) (l v : ℕ) (known : Columns) where
   pub no-row-yet : NoRow 0
   no-row-yet = refl
 
-  module _ (none : known .count ≡ 0) where
-    nothing : listed known ≡ []
-    unfolding listed
-    nothing = rw none
+  pub no-row-more : (r : ℕ) {b : Bool} → NoRow r → b ≡ followed ts k l v [] (with 0 r) → b ≡ false → NoRow (r + 1)
+  no-row-more r h s e = some-more begins r h (sym s ∙ e)
 
-    module _ (r : ℕ) {b : Bool} (s : b ≡ followed ts k l v (listed known) (with 0 r)) where
-      begun : begins r ≡ b
-      begun = ap (λ ps. followed ts k l v ps (with 0 r)) (sym nothing) ∙ sym s
+  module _ (known : Columns) where
+    pub extensible-known : {b : Bool} → (known .count ≡ 0 → ⊥) → b ≡ followed ts k l v (listed known) (known .p) → b ≡ extensible ts k l v (listed known)
+    unfolding extensible listed
+    extensible-known {b} h e = go (known .count) h e
+      where
+        go : (m : ℕ) → (m ≡ 0 → ⊥) → b ≡ followed ts k l v (take m (columnsOf known)) (known .p) → b ≡ extensible ts k l v (take m (columnsOf known))
+        go zero h e = absurd (h refl)
+        go (suc m) h e = e
 
-      pub no-row-more : NoRow r → b ≡ false → NoRow (r + 1)
-      no-row-more h e = some-more begins r h (begun ∙ e)
+    module _ (none : known .count ≡ 0) {n w : ℕ} (rows : n ≡ termRows ts) (all : w ≡ cond (searched k) n 1) where
+      nothing : listed known ≡ []
+      unfolding listed
+      nothing = rw none
 
-      pub extensible-yes : {n w : ℕ} → n ≡ termRows ts → w ≡ cond (searched k) n 1 → r < w → b ≡ true → true ≡ extensible ts k l v (listed known)
+      every : w ≡ tried ts k
+      every = all ∙ ap (λ n. cond (searched k) n 1) rows
+
+      pub extensible-yes : (r : ℕ) {b : Bool} → r < w → b ≡ followed ts k l v [] (with 0 r) → b ≡ true → true ≡ extensible ts k l v (listed known)
       unfolding extensible
-      extensible-yes {n} {w} m e h q =
-          let t : w ≡ tried ts k = e ∙ ap (λ n. cond (searched k) n 1) m in
-          rw nothing (some-found begins (tried ts k) r (omega arith) (begun ∙ q))
+      extensible-yes r h s e = let q = every in rw nothing (some-found begins (tried ts k) r (omega arith) (sym s ∙ e))
 
-    pub extensible-no : {r n w : ℕ} → n ≡ termRows ts → w ≡ cond (searched k) n 1 → r ≤ w → w ≤ r → NoRow r → false ≡ extensible ts k l v (listed known)
-    unfolding extensible
-    extensible-no {r} {n} {w} m e a b h =
-        let t : w ≡ tried ts k = e ∙ ap (λ n. cond (searched k) n 1) m in
-        let q : r ≡ tried ts k = omega arith in
-        rw nothing (sym (subst (λ j. somewhere j begins ≡ false) q h))
+      pub extensible-no : {r : ℕ} → r ≤ w → w ≤ r → NoRow r → false ≡ extensible ts k l v (listed known)
+      unfolding extensible
+      extensible-no {r} a b h =
+          let q : r ≡ tried ts k = let e = every in omega arith in
+          rw nothing (sym (subst (λ j. somewhere j begins ≡ false) q h))
 
 -- ---- the columns
 

@@ -14,7 +14,7 @@ ghost use Rattle.completions.specs.Needs.{searched, ways};
 ghost use Rattle.completions.specs.Search.{over, serves, followed, tried, extensible, findable};
 ghost use Rattle.rule_claims.specs.Claims.{noPremise, premisesOf, allows};
 ghost use Rattle.needs.specs.Listed.{listed};
-ghost use Rattle.places.specs.Tested.{Tested, Counted, claimOf};
+ghost use Rattle.places.specs.Tested.{Tested, Begins, Counted, claimOf};
 use calculus::Fit;
 use calculus::Premise;
 use calculus::Row;
@@ -23,7 +23,9 @@ use needs::Columns;
 use needs::Known;
 use needs::needed;
 use rows::BLANK;
+use rows::term_at;
 use rule_claims::Claim;
+use rule_claims::EQ;
 
 // ---- known premises over what is needed
 
@@ -179,6 +181,30 @@ fn followed(terms: &[u16], n: u16, k: Rule, l: u16, v: u16, known: Columns, f: P
     false
 }
 
+// Whether row r may be the first premise. It is asked only of the rules that seek equalities besides: a row that is passed over saves finding them.
+fn begins(terms: &[u16], k: Rule, l: u16, r: u16) -> bool
+    ensures { λ b. ⌜ Begins (now (terms .entry)) k l r b ⌝ }
+{
+    let e = term_at(terms, Row(l));
+    let f = term_at(terms, Row(r));
+    match k {
+        Rule::Transitivity => (f.head == EQ) & (f.a == e.a),
+        Rule::Predicate => f.head == e.head,
+        _ => true,
+    }
+}
+
+// Some way completes row r as the first premise, where none is known.
+fn begun(terms: &[u16], n: u16, k: Rule, l: u16, v: u16, none: Columns, r: u16) -> bool
+    requires { ⌜ (n ≡ termRows (now terms)) × (none .count ≡ 0) ⌝ }
+    ensures { λ b. ⌜ b ≡ followed (now (terms .entry)) k l v [] (with 0 r) ⌝ }
+{
+    if !begins(terms, k, l, r) {
+        return false;
+    }
+    followed(terms, n, k, l, v, none, Premise { row: r, value: 0 })
+}
+
 // The known premises can be completed. Where none is known and the rule does not settle the first one, every row is tried as the first.
 fn extensible(terms: &[u16], n: u16, k: Rule, l: u16, v: u16, known: Columns) -> bool
     requires { ⌜ n ≡ termRows (now terms) ⌝ }
@@ -190,7 +216,7 @@ fn extensible(terms: &[u16], n: u16, k: Rule, l: u16, v: u16, known: Columns) ->
     let w = tried(n, k);
     let mut r: u16 = 0;
     while r < w {
-        if followed(terms, n, k, l, v, known, Premise { row: r, value: 0 }) {
+        if begun(terms, n, k, l, v, known, r) {
             return true;
         }
         r += 1;

@@ -7,7 +7,7 @@ use Rattle.places.proofs.extensible.Statement.{statement}
 use Rattle.places.proofs.extensible.Tie as tie
 
 abbrev Inv-loop : tie.InvT-loop
-Inv-loop terms n k l v known w r₀ r = (r ≤ w) × NoRow terms k l v known r
+Inv-loop terms n k l v known w r₀ r = (r ≤ w) × NoRow terms k l v r
 
 abbrev μ-loop : tie.MeasureT-loop
 μ-loop terms n k l v known w r₀ r = w - r
@@ -24,8 +24,8 @@ tried-requires c κs = search needs
 loop-holds : tie.Need-loop-holds Inv-loop μ-loop
 loop-holds c = (omega arith, search no-row-yet)
 
-followed-requires-2 : tie.Need-followed-requires-2 Inv-loop μ-loop
-followed-requires-2 c κs = search needs
+begun-requires : tie.Need-begun-requires Inv-loop μ-loop
+begun-requires c κs = search needs
 
 returns-2 : tie.Need-returns-2 Inv-loop μ-loop
 returns-2 c = search extensible-yes
@@ -52,7 +52,7 @@ extensible-spec =
     returns
     tried-requires
     loop-holds
-    followed-requires-2
+    begun-requires
     returns-2
     add-r
     loop-less
