@@ -1,7 +1,13 @@
 // The rule test that a deduce, clash or fail row asks for: whether the rule fits, and if not, the column at which the row went wrong.
 // The column is sought only where the rule does not fit, which ends a run: a completion of the row is looked for among the rows of the term sheet.
+//
+// What a search reads, where the sheet has N rows (the term's column takes two searches, one for each value, and every later column one):
+// - with the first premise known, or settled by the term: what the rule needs, up to 4N rows (see `needs`), and a rule test;
+// - neg, part, unit with no premise known: some rows for each of N first premises, for unit in four ways;
+// - trans with no premise known: N rows, and N more for each row that begins as the term does;
+// - pred with no premise known: N rows, and 4N more for each row that has the term's head: at most some N times 4N.
 ghost use mathlib.Core.Path.{_≡_};
-ghost use mathlib.Core.Bool.{cond, true, false};
+ghost use mathlib.Core.Bool.{cond};
 ghost use mathlib.Core.List.{[]};
 ghost use Prim.Native.Nat.{_≤_, max};
 ghost use lib.Dec.{ltb};
@@ -11,7 +17,7 @@ ghost use Rattle.calculus.specs.Sheets.{termRows};
 ghost use Rattle.calculus.specs.Rules.{fitOf};
 ghost use Rattle.calculus.specs.Place.{with, unfitPlace};
 ghost use Rattle.completions.specs.Needs.{searched, ways};
-ghost use Rattle.completions.specs.Search.{over, serves, followed, tried, extensible, findable};
+ghost use Rattle.completions.specs.Search.{over, serves, followed, extensible, findable};
 ghost use Rattle.rule_claims.specs.Claims.{noPremise, premisesOf, allows};
 ghost use Rattle.needs.specs.Listed.{listed};
 ghost use Rattle.places.specs.Tested.{Tested, Begins, Counted, claimOf};
