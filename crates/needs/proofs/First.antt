@@ -1,5 +1,5 @@
 -- The first number of which a test holds, as a loop finds it: firstWhere n p ≡ n says that it holds of none below n.
-use mathlib.Core.Path.{_≡_, refl, sym}
+use mathlib.Core.Path.{_≡_, refl}
 use mathlib.Core.Bool.{Bool, true, false, cond}
 use Prim.Native.Nat.{ℕ, zero, suc, _+_, _<_}
 use native.Mathlib.Omega.{arith}

@@ -1,5 +1,5 @@
 // The premises that a rule needs for a term and its value: rows that are still open follow from the first premise, or are found in the term sheet.
-// Finding an equality reads up to N rows, where the sheet has N: sym, trans and skip find one, cong and pred up to four; the other rules find none.
+// Finding an equality reads up to N rows, where the sheet has N: sym, trans and skip find one, cong and pred four; the other rules find none.
 ghost use mathlib.Core.Path.{_≡_};
 ghost use mathlib.Core.Bool.{cond};
 ghost use mathlib.Core.List.{[], _∷_, map};
@@ -54,6 +54,7 @@ fn other(v: u16) -> u16
     if v == 0 { 1 } else { 0 }
 }
 
+// No premise.
 fn none() -> Columns
     ensures { λ r. ⌜ listed r ≡ [] ⌝ }
 {
@@ -68,6 +69,7 @@ fn none() -> Columns
     }
 }
 
+// One premise.
 fn one(p: Premise) -> Columns
     ensures { λ r. ⌜ listed r ≡ p ∷ [] ⌝ }
 {
@@ -81,6 +83,7 @@ fn one(p: Premise) -> Columns
     }
 }
 
+// Two premises.
 fn two(p: Premise, q: Premise) -> Columns
     ensures { λ r. ⌜ listed r ≡ p ∷ q ∷ [] ⌝ }
 {
@@ -209,6 +212,7 @@ fn equal(terms: &[u16], n: u16, a: u16, b: u16) -> Premise
     with(1, find_equation(terms, n, a, b))
 }
 
+// The smaller of two numbers.
 fn smaller(a: u16, b: u16) -> u16
     ensures { λ r. ⌜ r ≡ min a b ⌝ }
 {

@@ -4,13 +4,12 @@ use mathlib.Core.Bool.{Bool, true, false, cond}
 use mathlib.Core.List.{List, [], _∷_}
 use Prim.Native.Nat.{ℕ, zero, suc, _≤_}
 use native.Mathlib.Omega.{arith}
-use lib.Dec.{T, ltb}
+use lib.Dec.{T}
 use lib.ListN.{length, take}
 use mir.Syntax.{w16}
 use mir.Val.{Fits as Range}
 use borrow.Author.Tests.{eq-eqb, ne-eqb, lt-ltb}
 use Rattle.calculus.specs.declared.Premise.{Premise}
-use Rattle.calculus.specs.declared.Fit.{Fit}
 use Rattle.calculus.specs.declared.Fit.the-variants.{Fits, Unfit}
 use Rattle.calculus.specs.declared.Rule.{Rule}
 use Rattle.calculus.specs.Lists.{all}
@@ -22,7 +21,6 @@ use Rattle.completions.specs.Search.{small, foundPlace}
 use Rattle.completions.proofs.Theorem.{search-finds-places}
 use Rattle.rule_claims.specs.declared.Claim.{Claim}
 use Rattle.rule_claims.specs.Claims.{gap, stated, premisesOf, allows}
-use Rattle.needs.specs.declared.Columns.{Columns}
 use Rattle.needs.specs.Listed.{listed}
 use Rattle.places.specs.Tested.{Tested, Counted}
 

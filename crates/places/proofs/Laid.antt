@@ -1,7 +1,7 @@
 -- Columns over others, columns that are rows, and columns as a claim has them.
 use mathlib.Core.Path.{_≡_, refl, sym, ap, _∙_}
 use mathlib.Core.Bool.{Bool, true, false, not, _&&_, _||_, cond}
-use mathlib.Core.List.{List, [], _∷_, _++_}
+use mathlib.Core.List.{List, [], _∷_}
 use Prim.Native.Nat.{ℕ, zero, suc, _≤_, _<_, max}
 use native.Mathlib.Omega.{arith}
 use lib.Dec.{leb, ltb}
@@ -13,7 +13,6 @@ use Rattle.calculus.specs.declared.Premise.{Premise}
 use Rattle.calculus.specs.declared.Rule.{Rule}
 use Rattle.calculus.specs.Lists.{all}
 use Rattle.calculus.specs.Sheets.{blank, termRows}
-use Rattle.calculus.specs.Rules.{fits}
 use Rattle.calculus.proofs.Facts.{both-true}
 use Rattle.completions.specs.Search.{over, isRow, serves}
 use Rattle.rule_claims.specs.declared.Claim.{Claim}

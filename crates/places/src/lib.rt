@@ -35,12 +35,14 @@ use rule_claims::EQ;
 
 // ---- known premises over what is needed
 
+// The larger of two numbers.
 fn larger(a: u16, b: u16) -> u16
     ensures { λ r. ⌜ r ≡ max a b ⌝ }
 {
     if a < b { b } else { a }
 }
 
+// p where b holds, else q.
 fn pick(b: bool, p: Premise, q: Premise) -> Premise
     ensures { λ r. ⌜ r ≡ cond b p q ⌝ }
 {
