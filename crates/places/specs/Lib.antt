@@ -1,0 +1,2 @@
+-- What the rule test and its search for a completion cite.
+pub mod Tested
