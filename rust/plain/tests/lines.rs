@@ -283,7 +283,7 @@ fn learn_said(row: &str) -> String {
 fn lines_of_learn() {
     assert_eq!(
         said(LEARNT),
-        "line 28: 12 a premise is not on the trail\n",
+        "line 28, field 5: 12 a premise is not on the trail\n",
         "the clause is learned, and what it does not give is not there"
     );
     let level =
@@ -311,11 +311,11 @@ fn lines_of_learn() {
         ("8 - either 0 p q - - -", columns),
         (
             "learn - nor 0 p q - - -",
-            "line 27: 11 the term or a premise is no row\n",
+            "line 27, field 3: 11 the term or a premise is no row\n",
         ),
         (
             "learn - either 0 p x - - -",
-            "line 27: 11 the term or a premise is no row\n",
+            "line 27, field 6: 11 the term or a premise is no row\n",
         ),
         (
             "learn - either 0 p swap - - -",
