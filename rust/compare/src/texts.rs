@@ -376,13 +376,10 @@ fn compare_check(
 
 /// The program has to print the outcome, and what a person is told as an error.
 fn through_program(program: &str, text: &[u8], checked: &Checked) -> Result<(), String> {
-    let [verdict, steps, number, entries, place] = numbers(checked.outcome);
-    let word = ["open", "refuted", "refused"][usize::from(verdict)];
-    let names = "verdict steps code trail place";
-    let lines = format!("{names}\n{word} {steps} {number} {entries} {place}\n");
     let output = feed(program, text).map_err(|trouble| format!("{program}: {trouble}"))?;
     let printed = [output.stdout, output.stderr].map(|bytes| looks(&bytes));
-    let expected = [lines, checked.said()].map(|line| looks(line.as_bytes()));
+    let expected = [checked.outcome.listing(), checked.said()];
+    let expected = expected.map(|lines| looks(lines.as_bytes()));
     if printed != expected {
         let about = "the program printed as output and error, and should";
         return Err(difference(about, text, printed, expected));

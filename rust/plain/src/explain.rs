@@ -59,6 +59,22 @@ impl Checked {
     }
 }
 
+impl Outcome {
+    /// The two lines that a program prints: the names, then the verdict's word and the
+    /// other numbers.
+    pub fn listing(&self) -> String {
+        let word = ["open", "refuted", "refused"][usize::from(self.verdict)];
+        let Outcome {
+            steps,
+            number,
+            entries,
+            place,
+            ..
+        } = self;
+        format!("verdict steps code trail place\n{word} {steps} {number} {entries} {place}\n")
+    }
+}
+
 /// Reads a text and runs its steps. What the reader refuses is not run.
 pub fn check(text: &[u8]) -> Checked {
     let mut sorts = [0; SORT_COLUMNS * MAX_SORTS];
