@@ -49,13 +49,12 @@ impl View<'_> {
         self.ways(rule, row, value, &mut |way| {
             longest = longest.max(Some(way.agrees(premises)));
         });
-        let mut with_other_value = false;
-        self.ways(rule, row, 1 - value, &mut |_| with_other_value = true);
-        match longest {
-            Some(agreed) => FIRST_PREMISE + agreed,
-            None if with_other_value => VALUE,
-            None => TERM,
+        if let Some(agreed) = longest {
+            return FIRST_PREMISE + agreed;
         }
+        let mut place = TERM;
+        self.ways(rule, row, 1 - value, &mut |_| place = VALUE);
+        place
     }
 
     /// All ways in which the rule gives the prop term `row` the value: the rows it
@@ -63,20 +62,24 @@ impl View<'_> {
     /// values.
     fn ways(self, rule: u16, row: u8, value: u16, visit: Visit) {
         match rule {
-            NEG => self.each_row(|whole| {
+            NEG => self.all_rows().for_each(|whole| {
                 if self.negates(whole, row) {
                     visit(&self.way(&[(whole, 1 - value)]));
                 }
             }),
-            PART => self.each_row(|whole| {
+            PART => self.all_rows().for_each(|whole| {
                 let term = self.term(whole);
                 if term.head == part_head(value) && term.args().contains(&row) {
                     visit(&self.way(&[(whole, value)]));
                 }
             }),
-            UNIT => self.each_row(|whole| self.unit_ways(row, value, whole, visit)),
+            UNIT => self
+                .all_rows()
+                .for_each(|whole| self.unit_ways(row, value, whole, visit)),
             EVAL => self.eval_way(row, value, visit),
-            PRED => self.each_row(|from| self.pred_way(row, value, from, visit)),
+            PRED => self
+                .all_rows()
+                .for_each(|from| self.pred_way(row, value, from, visit)),
             _ => {
                 let given = u16::from(rule != DIFFER);
                 if let Some((left, right)) = self.sides(row).filter(|_| value == given) {
@@ -86,8 +89,8 @@ impl View<'_> {
         }
     }
 
-    fn each_row(self, visit: impl FnMut(u8)) {
-        (0..self.rows).map(|row| row as u8).for_each(visit);
+    fn all_rows(self) -> impl Iterator<Item = u8> {
+        (0..self.rows).map(|row| row as u8)
     }
 
     /// The way with these rows, each with its value.
@@ -106,8 +109,8 @@ impl View<'_> {
 
     /// The equality of two rows, if it is there.
     fn equation(self, left: u8, right: u8) -> Option<u8> {
-        let mut rows = (0..self.rows).map(|row| row as u8);
-        rows.find(|&row| self.term(row).is_eq(left, right))
+        let is_it = |&row: &u8| self.term(row).is_eq(left, right);
+        self.all_rows().find(is_it)
     }
 
     /// Adds the true equalities of the arguments of two terms of one head; false if
@@ -123,7 +126,8 @@ impl View<'_> {
         true
     }
 
-    /// The ways by the rules that give an equality.
+    /// The ways by the rules that give an equality. Sides that are not on the trail are
+    /// no premises, so that it does not matter what their values are taken for.
     fn ways_to_equality(self, rule: u16, row: u8, left: u8, right: u8, visit: Visit) {
         let equal = self.value(left) == self.value(right);
         match rule {
@@ -140,14 +144,9 @@ impl View<'_> {
                     visit(&self.way(&[(other, 1)]));
                 }
             }
-            TRANS => self.each_row(|first| match self.sides(first) {
-                Some((from, over)) if from == left => {
-                    if let Some(second) = self.equation(over, right) {
-                        visit(&self.way(&[(first, 1), (second, 1)]));
-                    }
-                }
-                _ => (),
-            }),
+            TRANS => self
+                .all_rows()
+                .for_each(|first| self.trans_way(left, right, first, visit)),
             CONG => {
                 let head = self.term(left).head;
                 let mut way = Way::default();
@@ -159,12 +158,20 @@ impl View<'_> {
                 }
             }
             SKIP => {
-                let index = |apart: &u8| self.skip(row, *apart);
-                if let Some(apart) = (0..self.rows).map(|row| row as u8).find(index) {
+                let mut rows = self.all_rows();
+                if let Some(apart) = rows.find(|&apart| self.skip(row, apart)) {
                     visit(&self.way(&[(apart, 0)]));
                 }
             }
             _ => (),
+        }
+    }
+
+    /// The way by trans whose first premise is the row `first`.
+    fn trans_way(self, left: u8, right: u8, first: u8, visit: Visit) {
+        let over = self.sides(first).filter(|&(from, _)| from == left);
+        if let Some(second) = over.and_then(|(_, over)| self.equation(over, right)) {
+            visit(&self.way(&[(first, 1), (second, 1)]));
         }
     }
 
