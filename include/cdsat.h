@@ -145,12 +145,22 @@ enum cdsat_why {
  * level 0, where fail was meant, or a fail above it, where clash was meant. 30: a
  * sheet with too many rows. 31: a length that is no whole number of rows. 32: a
  * buffer too short. From cdsat_check it can also be a number of cdsat_read.
+ *
+ * The place says where a step went wrong that is refused with 11, 12 or 13: a
+ * column of its row, from 1 for the step to 9 for the fifth premise. For 11 (no
+ * such row) and 12 (a premise not on the trail) it is the first column with the
+ * fault. For 13 (the rule does not fit) it is the first, from the term on, after
+ * which no value, rows and blanks to its right fit the rule: 3 where the rule
+ * never gives the term a value, 4 where it never gives it this one, else the
+ * premise that is wrong, missing or one too many. With every other number the
+ * place is 0.
  */
 typedef struct {
     uint16_t verdict; /* enum cdsat_verdict */
     uint16_t steps;   /* steps allowed; a refused step is the one after them */
     uint16_t number;
     uint16_t entries; /* entries on the trail */
+    uint16_t place;   /* with 11, 12 and 13 a column of the refused step, else 0 */
 } cdsat_outcome;
 
 /* Runs the steps of a log.
@@ -206,13 +216,14 @@ cdsat_read_result cdsat_read(const uint8_t *text, size_t text_len,
 /* Reads a text and runs its log, with sheets and buffers of its own.
  *
  * The result is that of the run. A text that cannot be read is refused with the
- * reader's number, 0 steps and 0 entries; 32 cannot come.
+ * reader's number, 0 steps, 0 entries and place 0; 32 cannot come.
  *
  * For a refusal said gets one line for a person, which ends with a newline: the
- * line of the text at fault, the field of a line that cannot be read, the number
- * and what it means, for 26 which line was meant, and for 31 why. Three examples:
+ * line of the text at fault, the field of a line that cannot be read or the place
+ * of a step, the number and what it means, for 26 which line was meant, and for 31
+ * why. Three examples:
  *
- *   line 12: 13 the rule does not fit
+ *   line 12, field 5: 13 the rule does not fit
  *   line 17: 26 fail is the line at level 0, clash the one above it: fail was meant
  *   line 28, field 2: 31 malformed: a name of more than 64 bytes
  *
@@ -254,8 +265,8 @@ cdsat_outcome cdsat_check(const uint8_t *text, size_t text_len,
  *|     fclose(file);
  *|
  *|     cdsat_outcome o = cdsat_check(text, length, said, sizeof said);
- *|     printf("verdict %u, steps %u, number %u, entries %u\n",
- *|            o.verdict, o.steps, o.number, o.entries);
+ *|     printf("verdict %u, steps %u, number %u, entries %u, place %u\n",
+ *|            o.verdict, o.steps, o.number, o.entries, o.place);
  *|     fputs((const char *)said, stderr);
  *|
  *|     cdsat_read_result r = cdsat_read(text, length,

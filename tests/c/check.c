@@ -4,11 +4,12 @@
 #include <stdio.h>
 #include <string.h>
 
-_Static_assert(sizeof(cdsat_outcome) == 8, "cdsat_outcome");
+_Static_assert(sizeof(cdsat_outcome) == 10, "cdsat_outcome");
 _Static_assert(offsetof(cdsat_outcome, verdict) == 0, "verdict");
 _Static_assert(offsetof(cdsat_outcome, steps) == 2, "steps");
 _Static_assert(offsetof(cdsat_outcome, number) == 4, "number");
 _Static_assert(offsetof(cdsat_outcome, entries) == 6, "entries");
+_Static_assert(offsetof(cdsat_outcome, place) == 8, "place");
 _Static_assert(sizeof(cdsat_read_result) == 32, "cdsat_read_result");
 _Static_assert(offsetof(cdsat_read_result, number) == 0, "number");
 _Static_assert(offsetof(cdsat_read_result, rows) == 2, "rows");
@@ -80,11 +81,18 @@ static size_t others(const void *from, size_t size, unsigned char b) {
     return count;
 }
 
-static void same_outcome(const char *what, cdsat_outcome got, unsigned verdict, unsigned count, unsigned number, unsigned entries) {
-    same(what, "verdict", got.verdict, verdict);
-    same(what, "steps", got.steps, count);
-    same(what, "number", got.number, number);
-    same(what, "entries", got.entries, entries);
+static void same_outcome(const char *what, cdsat_outcome got, cdsat_outcome wanted) {
+    same(what, "verdict", got.verdict, wanted.verdict);
+    same(what, "steps", got.steps, wanted.steps);
+    same(what, "number", got.number, wanted.number);
+    same(what, "entries", got.entries, wanted.entries);
+    same(what, "place", got.place, wanted.place);
+}
+
+/* An outcome without a place. */
+static cdsat_outcome outcome(unsigned verdict, unsigned count, unsigned number, unsigned entries) {
+    cdsat_outcome o = {(uint16_t)verdict, (uint16_t)count, (uint16_t)number, (uint16_t)entries, 0};
+    return o;
 }
 
 static void soil(void) {
@@ -130,7 +138,7 @@ static void test_run(void) {
     cdsat_outcome o = cdsat_run(
         sorts, r.rows[0] * CDSAT_SORT_COLUMNS, terms, n * CDSAT_TERM_COLUMNS, inputs, r.rows[2] * CDSAT_INPUT_COLUMNS,
         steps, r.rows[3] * CDSAT_STEP_COLUMNS, work, CDSAT_WORK_WORDS(n), trail, CDSAT_TRAIL_NUMBERS(n));
-    same_outcome("listing run", o, CDSAT_REFUTED, 1, 0, 2);
+    same_outcome("listing run", o, outcome(CDSAT_REFUTED, 1, 0, 2));
     same_bytes("listing run: trail", trail, want_trail, sizeof want_trail);
     same("listing run", "trail behind the entries", others(trail + 8, sizeof trail - 16, 0xaa), 0);
     same("listing run", "workspace", others(work, 8 * CDSAT_WORK_WORDS(n), 0), 0);
@@ -138,7 +146,7 @@ static void test_run(void) {
     o = cdsat_run(
         sorts, LENGTH(sorts), terms, CDSAT_MAX_TERMS * CDSAT_TERM_COLUMNS, inputs, LENGTH(inputs), steps, LENGTH(steps),
         work, LENGTH(work), trail, LENGTH(trail));
-    same_outcome("listing run with whole sheets", o, CDSAT_REFUSED, 0, 1, 0);
+    same_outcome("listing run with whole sheets", o, outcome(CDSAT_REFUSED, 0, 1, 0));
 }
 
 /* The listing's row with the numbers of other steps: clash at level 0, learn, which has other columns, and the first that no step has. */
@@ -152,7 +160,49 @@ static void test_steps(void) {
         steps[0] = (uint16_t)rows[i].step;
         cdsat_outcome o = cdsat_run(
             sorts, 2, terms, 36, inputs, 4, steps, CDSAT_STEP_COLUMNS, work, CDSAT_WORK_WORDS(6), trail, CDSAT_TRAIL_NUMBERS(6));
-        same_outcome(rows[i].what, o, CDSAT_REFUSED, 0, rows[i].number, 2);
+        same_outcome(rows[i].what, o, outcome(CDSAT_REFUSED, 0, rows[i].number, 2));
+    }
+}
+
+/* The listing's row as a deduce, a clash and a fail, with other columns: where it went wrong. Rows 2 and 5 are on the trail, the others are not. */
+static void test_places(void) {
+    static const struct {
+        const char *what;
+        uint16_t rule, term, value, premises[5];
+        unsigned number, place;
+    } rows[] = {
+        {"a term that is no row", CDSAT_RULE_CONG, 6, 1, {6, 0, B, B, B}, 11, 3},
+        {"a premise that is no row", CDSAT_RULE_CONG, 5, 1, {6, 6, B, B, B}, 11, 5},
+        {"a third premise that is no row", CDSAT_RULE_CONG, 5, 1, {2, 0, 6, B, B}, 11, 7},
+        {"a fifth premise that is no row", CDSAT_RULE_CONG, 5, 1, {2, 2, 2, 2, 65534}, 11, 9},
+        {"a premise not on the trail", CDSAT_RULE_CONG, 5, 1, {0, 1, B, B, B}, 12, 5},
+        {"a fourth premise not on the trail", CDSAT_RULE_CONG, 5, 1, {2, 5, 2, 1, B}, 12, 8},
+        {"a fifth premise not on the trail", CDSAT_RULE_REFL, 5, 0, {2, 5, 2, 5, 0}, 12, 9},
+        {"a rule that never gives the term", CDSAT_RULE_REFL, 5, 1, {B, B, B, B, B}, 13, 3},
+        {"a rule that never gives the value", CDSAT_RULE_CONG, 5, 0, {2, B, B, B, B}, 13, 4},
+        {"a premise that is missing", CDSAT_RULE_CONG, 5, 1, {B, B, B, B, B}, 13, 5},
+        {"another premise", CDSAT_RULE_CONG, 5, 1, {5, 2, B, B, B}, 13, 5},
+        {"a premise too many", CDSAT_RULE_CONG, 5, 1, {2, 2, B, B, B}, 13, 6},
+        {"a term that is no prop, from no row", CDSAT_RULE_CONG, 0, 1, {6, B, B, B, B}, 11, 5},
+        {"a term that is no prop", CDSAT_RULE_CONG, 0, 1, {0, B, B, B, B}, 22, 0},
+        {"a rule that there is not", CDSAT_RULE_SKIP + 1, 6, 1, {6, B, B, B, B}, 9, 0},
+    };
+    static const uint16_t kinds[] = {CDSAT_DEDUCE, CDSAT_CLASH, CDSAT_FAIL}, want_trail[] = {2, 1, 0, 0, 5, 0, 0, 0};
+    for (size_t i = 0; i < LENGTH(rows) * LENGTH(kinds); i++) {
+        size_t at = i / LENGTH(kinds);
+        cdsat_outcome wanted = outcome(CDSAT_REFUSED, 0, rows[at].number, 2);
+        wanted.place = (uint16_t)rows[at].place;
+        read_text(LISTING, strlen(LISTING));
+        steps[0] = kinds[i % LENGTH(kinds)];
+        steps[1] = rows[at].rule;
+        steps[2] = rows[at].term;
+        steps[3] = rows[at].value;
+        memcpy(steps + 4, rows[at].premises, sizeof rows[at].premises);
+        cdsat_outcome o = cdsat_run(
+            sorts, 2, terms, 36, inputs, 4, steps, CDSAT_STEP_COLUMNS, work, CDSAT_WORK_WORDS(6), trail, CDSAT_TRAIL_NUMBERS(6));
+        same_outcome(rows[at].what, o, wanted);
+        same_bytes(rows[at].what, trail, want_trail, sizeof want_trail);
+        same(rows[at].what, "workspace", others(work, 8 * CDSAT_WORK_WORDS(6), 0), 0);
     }
 }
 
@@ -177,6 +227,8 @@ static void test_learn(void) {
         {"learn with a fifth premise", 8, 5, 9, 2, conflict},
         {"learn of no row", 2, 8, 11, 2, conflict},
         {"learn with a member that is no row", 4, 8, 11, 2, conflict},
+        {"learn with a second member that is no row", 5, 8, 11, 2, conflict},
+        {"learn with a third member that is no row", 6, 8, 11, 2, conflict},
         {"learn with a member outside the conflict", 5, 6, 17, 2, conflict},
         {"learn of a not", 2, 6, 22, 2, conflict},
         {"learn with a member twice", 5, 2, 25, 2, conflict},
@@ -194,7 +246,9 @@ static void test_learn(void) {
         cdsat_outcome o = cdsat_run(
             sorts, r.rows[0] * CDSAT_SORT_COLUMNS, terms, n * CDSAT_TERM_COLUMNS, inputs, r.rows[2] * CDSAT_INPUT_COLUMNS,
             steps, r.rows[3] * CDSAT_STEP_COLUMNS, work, CDSAT_WORK_WORDS(n), trail, CDSAT_TRAIL_NUMBERS(n));
-        same_outcome(rows[i].what, o, allowed ? CDSAT_OPEN : CDSAT_REFUSED, 3 + allowed, rows[i].code, rows[i].entries);
+        cdsat_outcome wanted = outcome(allowed ? CDSAT_OPEN : CDSAT_REFUSED, 3 + allowed, rows[i].code, rows[i].entries);
+        wanted.place = (uint16_t)(rows[i].code == 11 ? rows[i].column + 1 : 0);
+        same_outcome(rows[i].what, o, wanted);
         same_bytes(rows[i].what, trail, rows[i].trail, 8 * rows[i].entries);
         same(rows[i].what, "trail behind the entries", others(trail + 4 * o.entries, sizeof trail - 8 * (size_t)o.entries, 0xaa), 0);
         same(rows[i].what, "workspace", others(work, 8 * CDSAT_WORK_WORDS(n), 0), 0);
@@ -205,13 +259,13 @@ static void test_learn(void) {
 static void test_lengths(void) {
     size_t n = 6, w = CDSAT_WORK_WORDS(n), t = CDSAT_TRAIL_NUMBERS(n);
     read_text(LISTING, strlen(LISTING));
-    same_outcome("31", cdsat_run(sorts, 1, terms, 36, inputs, 4, steps, 9, work, w, trail, t), CDSAT_REFUSED, 0, 31, 0);
-    same_outcome("30 terms", cdsat_run(sorts, 2, terms, 257 * 6, inputs, 4, steps, 9, work, w, trail, t), CDSAT_REFUSED, 0, 30, 0);
-    same_outcome("32 work", cdsat_run(sorts, 2, terms, 36, inputs, 4, steps, 9, work, w - 1, trail, t), CDSAT_REFUSED, 0, 32, 0);
-    same_outcome("32 trail", cdsat_run(sorts, 2, terms, 36, inputs, 4, steps, 9, work, w, trail, t - 1), CDSAT_REFUSED, 0, 32, 0);
+    same_outcome("31", cdsat_run(sorts, 1, terms, 36, inputs, 4, steps, 9, work, w, trail, t), outcome(CDSAT_REFUSED, 0, 31, 0));
+    same_outcome("30 terms", cdsat_run(sorts, 2, terms, 257 * 6, inputs, 4, steps, 9, work, w, trail, t), outcome(CDSAT_REFUSED, 0, 30, 0));
+    same_outcome("32 work", cdsat_run(sorts, 2, terms, 36, inputs, 4, steps, 9, work, w - 1, trail, t), outcome(CDSAT_REFUSED, 0, 32, 0));
+    same_outcome("32 trail", cdsat_run(sorts, 2, terms, 36, inputs, 4, steps, 9, work, w, trail, t - 1), outcome(CDSAT_REFUSED, 0, 32, 0));
     same("lengths", "workspace", others(work, sizeof work, 0xaa), 0);
     same("lengths", "trail", others(trail, sizeof trail, 0xaa), 0);
-    same_outcome("no step", cdsat_run(sorts, 2, terms, 36, inputs, 4, steps, 0, work, w, trail, t), CDSAT_OPEN, 0, 0, 2);
+    same_outcome("no step", cdsat_run(sorts, 2, terms, 36, inputs, 4, steps, 0, work, w, trail, t), outcome(CDSAT_OPEN, 0, 0, 2));
 }
 
 /* A text that cannot be read, what cdsat_read says of it and what cdsat_check says. */
@@ -249,7 +303,7 @@ static void test_said(const char *what, const char *text, const char *said, cdsa
         memset(wanted, 0xaa, sizeof wanted);
         for (size_t i = 0; i < length; i++)
             wanted[i] = i < strlen(said) ? (uint8_t)said[i] : 0;
-        same_outcome(what, cdsat_check((const uint8_t *)text, strlen(text), buffer, length), o.verdict, o.steps, o.number, o.entries);
+        same_outcome(what, cdsat_check((const uint8_t *)text, strlen(text), buffer, length), o);
         same_bytes(what, buffer, wanted, sizeof buffer);
     }
     same(what, "whether the line and a zero fit", strlen(said) < CDSAT_SAID, 1);
@@ -266,8 +320,7 @@ static void test_bad_texts(void) {
         same(b->what, "rows", others(r.rows, sizeof r.rows, 0), 0);
         same(b->what, "sheets", others(sorts, sizeof sorts, 0) + others(terms, sizeof terms, 0), 0);
         same(b->what, "sheets", others(inputs, sizeof inputs, 0) + others(steps, sizeof steps, 0), 0);
-        cdsat_outcome o = {CDSAT_REFUSED, 0, (uint16_t)b->number, 0};
-        test_said(b->what, b->text, b->said, o);
+        test_said(b->what, b->text, b->said, outcome(CDSAT_REFUSED, 0, b->number, 0));
     }
 }
 
@@ -278,34 +331,40 @@ static void test_checks(void) {
         cdsat_outcome o;
         const char *said;
     } texts[] = {
-        {"the listing", LISTING, {CDSAT_REFUTED, 1, 0, 2}, ""},
-        {"headers alone", HEADERS, {CDSAT_OPEN, 0, 0, 0}, ""},
-        {"the listing as a clash", SORTS TERMS INPUTS STEPS "clash cong g true e - - - -\n", {CDSAT_REFUSED, 0, 26, 2},
+        {"the listing", LISTING, {CDSAT_REFUTED, 1, 0, 2, 0}, ""},
+        {"headers alone", HEADERS, {CDSAT_OPEN, 0, 0, 0, 0}, ""},
+        {"the listing as a clash", SORTS TERMS INPUTS STEPS "clash cong g true e - - - -\n", {CDSAT_REFUSED, 0, 26, 2, 0},
          "line 17: 26 fail is the line at level 0, clash the one above it: fail was meant\n"},
         {"a fail above level 0", SORTS TERMS "term value\ng false\n\n" STEPS "decide - e true - - - - -\nfail cong g true e - - - -\n",
-         {CDSAT_REFUSED, 1, 26, 2}, "line 17: 26 fail is the line at level 0, clash the one above it: clash was meant\n"},
+         {CDSAT_REFUSED, 1, 26, 2, 0}, "line 17: 26 fail is the line at level 0, clash the one above it: clash was meant\n"},
         {"a conflict", SORTS TERMS "term value\ng false\n\n" STEPS "decide - e true - - - - -\nclash cong g true e - - - -\n",
-         {CDSAT_OPEN, 2, 0, 2}, ""},
-        {"a fail too early", SORTS TERMS "term value\ne true\n\n" STEPS "fail cong g true e - - - -\n", {CDSAT_REFUSED, 0, 16, 1},
+         {CDSAT_OPEN, 2, 0, 2, 0}, ""},
+        {"a fail too early", SORTS TERMS "term value\ne true\n\n" STEPS "fail cong g true e - - - -\n", {CDSAT_REFUSED, 0, 16, 1, 0},
          "line 16: 16 the opposite is not there\n"},
-        {"a clash too early", SORTS TERMS "term value\ne true\n\n" STEPS "clash cong g true e - - - -\n", {CDSAT_REFUSED, 0, 16, 1},
+        {"a clash too early", SORTS TERMS "term value\ne true\n\n" STEPS "clash cong g true e - - - -\n", {CDSAT_REFUSED, 0, 16, 1, 0},
          "line 16: 16 the opposite is not there\n"},
-        {"a clause learned", CONFLICT "learn - l 1 e g - - -\n", {CDSAT_OPEN, 4, 0, 2}, ""},
-        {"a clause learned at false", CONFLICT "learn - l false e g - - -\n", {CDSAT_OPEN, 4, 0, 1}, ""},
-        {"a clause used", CONFLICT "learn - l 0 e g - - -\ndecide - g false - - - - -\ndeduce unit n true l g - - -\n", {CDSAT_OPEN, 6, 0, 3}, ""},
-        {"a member twice", CONFLICT "learn - l 1 e e - - -\n", {CDSAT_REFUSED, 3, 25, 2},
+        {"a clause learned", CONFLICT "learn - l 1 e g - - -\n", {CDSAT_OPEN, 4, 0, 2, 0}, ""},
+        {"a clause learned at false", CONFLICT "learn - l false e g - - -\n", {CDSAT_OPEN, 4, 0, 1, 0}, ""},
+        {"a clause used", CONFLICT "learn - l 0 e g - - -\ndecide - g false - - - - -\ndeduce unit n true l g - - -\n", {CDSAT_OPEN, 6, 0, 3, 0}, ""},
+        {"a member twice", CONFLICT "learn - l 1 e e - - -\n", {CDSAT_REFUSED, 3, 25, 2, 0},
          "line 20: 25 the clause does not match the members, or one is named twice\n"},
-        {"a level too great", CONFLICT "learn - l 2 e g - - -\n", {CDSAT_REFUSED, 3, 21, 2},
+        {"a level too great", CONFLICT "learn - l 2 e g - - -\n", {CDSAT_REFUSED, 3, 21, 2, 0},
          "line 20: 21 its level is not above the rest, or learn's level is outside its range\n"},
-        {"a clause that is none", CONFLICT "learn - n 1 e g - - -\n", {CDSAT_REFUSED, 3, 22, 2},
+        {"a clause that is none", CONFLICT "learn - n 1 e g - - -\n", {CDSAT_REFUSED, 3, 22, 2, 0},
          "line 20: 22 a term's sort or head is wrong for the step, or the value does not suit it\n"},
-        {"a decision twice", SORTS TERMS "term value\n\n" STEPS "decide - a 7 - - - - -\ndecide - a 7 - - - - -\n", {CDSAT_REFUSED, 1, 14, 1},
+        {"a term that there is not", SORTS TERMS INPUTS STEPS "decide - x 7 - - - - -\n", {CDSAT_REFUSED, 0, 11, 2, 3},
+         "line 17, field 3: 11 the term or a premise is no row\n"},
+        {"a premise not on the trail", SORTS TERMS INPUTS STEPS "fail cong g true e a - - -\n", {CDSAT_REFUSED, 0, 12, 2, 6},
+         "line 17, field 6: 12 a premise is not on the trail\n"},
+        {"a premise too many", SORTS TERMS INPUTS STEPS "fail cong g true e e - - -\n", {CDSAT_REFUSED, 0, 13, 2, 6},
+         "line 17, field 6: 13 the rule does not fit\n"},
+        {"a decision twice", SORTS TERMS "term value\n\n" STEPS "decide - a 7 - - - - -\ndecide - a 7 - - - - -\n", {CDSAT_REFUSED, 1, 14, 1, 0},
          "line 16: 14 the value is there already\n"},
-        {"a sort row", "sort index value\nS - -\nT S -\n\nterm head sort a b c d\n\nterm value\n\n" STEPS, {CDSAT_REFUSED, 0, 1, 0},
+        {"a sort row", "sort index value\nS - -\nT S -\n\nterm head sort a b c d\n\nterm value\n\n" STEPS, {CDSAT_REFUSED, 0, 1, 0, 0},
          "line 3: 1 a sort row breaks the rule for sorts\n"},
-        {"a term row", SORTS "term head sort a b c d\na A S - - - -\ne eq prop a - - -\n\nterm value\n\n" STEPS, {CDSAT_REFUSED, 0, 4, 0},
+        {"a term row", SORTS "term head sort a b c d\na A S - - - -\ne eq prop a - - -\n\nterm value\n\n" STEPS, {CDSAT_REFUSED, 0, 4, 0, 0},
          "line 6: 4 head, sort and arguments do not fit\n"},
-        {"an input row", SORTS TERMS "term value\ne true\ne true\n\n" STEPS, {CDSAT_REFUSED, 0, 8, 0}, "line 14: 8 a term given twice\n"},
+        {"an input row", SORTS TERMS "term value\ne true\ne true\n\n" STEPS, {CDSAT_REFUSED, 0, 8, 0, 0}, "line 14: 8 a term given twice\n"},
     };
     for (size_t i = 0; i < LENGTH(texts); i++)
         test_said(texts[i].what, texts[i].text, texts[i].said, texts[i].o);
@@ -315,8 +374,8 @@ static void test_checks(void) {
 static void test_null(void) {
     const uint8_t *headers = (const uint8_t *)HEADERS, *listing = (const uint8_t *)LISTING;
     size_t all = strlen(LISTING);
-    same_outcome("no work", cdsat_run(NULL, 0, NULL, 0, NULL, 0, NULL, 0, NULL, 0, NULL, 0), CDSAT_REFUSED, 0, 32, 0);
-    same_outcome("no sheets", cdsat_run(NULL, 0, NULL, 0, NULL, 0, NULL, 0, work, 12, NULL, 0), CDSAT_OPEN, 0, 0, 0);
+    same_outcome("no work", cdsat_run(NULL, 0, NULL, 0, NULL, 0, NULL, 0, NULL, 0, NULL, 0), outcome(CDSAT_REFUSED, 0, 32, 0));
+    same_outcome("no sheets", cdsat_run(NULL, 0, NULL, 0, NULL, 0, NULL, 0, work, 12, NULL, 0), outcome(CDSAT_OPEN, 0, 0, 0));
     cdsat_read_result r = cdsat_read(NULL, 0, NULL, 0, NULL, 0, NULL, 0, NULL, 0);
     same("no text", "number", r.number, 31);
     same("no text", "why", r.why, CDSAT_WHY_EARLY);
@@ -334,14 +393,15 @@ static void test_null(void) {
     same("short inputs", "why", r.why, CDSAT_WHY_FINE);
     same("short inputs", "terms", others(terms, 72, 0), 0);
     same("short inputs", "what lies behind the terms", others(terms + 36, sizeof terms - 72, 0xaa), 0);
-    same_outcome("no text, nothing said", cdsat_check(NULL, 0, NULL, 0), CDSAT_REFUSED, 0, 31, 0);
-    same_outcome("nothing said", cdsat_check(listing, all, NULL, 0), CDSAT_REFUTED, 1, 0, 2);
+    same_outcome("no text, nothing said", cdsat_check(NULL, 0, NULL, 0), outcome(CDSAT_REFUSED, 0, 31, 0));
+    same_outcome("nothing said", cdsat_check(listing, all, NULL, 0), outcome(CDSAT_REFUTED, 1, 0, 2));
 }
 
 int main(void) {
     test_read();
     test_run();
     test_steps();
+    test_places();
     test_learn();
     test_lengths();
     test_bad_texts();

@@ -17,13 +17,13 @@ use std::process::ExitCode;
 use std::time::Instant;
 use work::Sheets;
 
-type Run = fn(&[u16], &[u16], &[u16], &[u16], &mut [u64], &mut [u16]) -> [u16; 4];
+type Run = fn(&[u16], &[u16], &[u16], &[u16], &mut [u64], &mut [u16]) -> [u16; 5];
 
 /// The reader of texts: the number and the rows.
 type ReadText = fn(&[u8], &mut [Vec<u16>; 4]) -> (u16, [u16; 4]);
 
-/// A text read and run at once: verdict, steps, number, entries.
-type CheckText = fn(&[u8]) -> [u16; 4];
+/// A text read and run at once: verdict, steps, number, entries, place.
+type CheckText = fn(&[u8]) -> [u16; 5];
 
 fn run_plain(
     sorts: &[u16],
@@ -32,9 +32,12 @@ fn run_plain(
     steps: &[u16],
     work: &mut [u64],
     trail: &mut [u16],
-) -> [u16; 4] {
-    let out = plain::run(sorts, terms, inputs, steps, work, trail);
-    [out.verdict, out.steps, out.number, out.entries]
+) -> [u16; 5] {
+    numbers(plain::run(sorts, terms, inputs, steps, work, trail))
+}
+
+fn numbers(out: plain::Outcome) -> [u16; 5] {
+    [out.verdict, out.steps, out.number, out.entries, out.place]
 }
 
 fn read_plain(text: &[u8], sheets: &mut [Vec<u16>; 4]) -> (u16, [u16; 4]) {
@@ -43,11 +46,10 @@ fn read_plain(text: &[u8], sheets: &mut [Vec<u16>; 4]) -> (u16, [u16; 4]) {
     (read.number, read.rows)
 }
 
-fn check_plain(text: &[u8]) -> [u16; 4] {
+fn check_plain(text: &[u8]) -> [u16; 5] {
     let checked = plain::check(text);
     black_box(checked.said());
-    let out = checked.outcome;
-    [out.verdict, out.steps, out.number, out.entries]
+    numbers(checked.outcome)
 }
 
 #[cfg(feature = "library")]
@@ -160,7 +162,8 @@ impl Bench {
         };
         for (run, buffers) in runners.iter().zip(&mut buffers) {
             let outcome = go(*run, buffers);
-            if outcome[..3] != [0, sheets.step_rows() as u16, 0] {
+            let [verdict, steps, number, _, place] = outcome;
+            if [verdict, steps, number, place] != sheets.expected() {
                 return Err(format!("{name}: the outcome is {outcome:?}"));
             }
         }
@@ -271,6 +274,7 @@ fn all(bench: &Bench) -> Result<(), String> {
     bench.run("terms, distinct heads", &work::distinct_heads(), false)?;
     bench.run("terms, one head", &work::one_head(), false)?;
     bench.run("terms, mixed heads", &work::mixed_heads(), false)?;
+    bench.run("refused row", &work::refused_row(), false)?;
     bench.read("text reader", work::text())?;
     bench.read("text, long names", work::long_names())?;
     bench.read("text, one byte's tag", work::one_byte_tag())?;

@@ -34,6 +34,8 @@ pub struct Sheets {
     pub terms: Vec<u16>,
     pub inputs: Vec<u16>,
     pub steps: Vec<u16>,
+    /// The place of the last step, which is refused with 13; 0 if all are allowed.
+    pub place: u16,
     free: u16,
 }
 
@@ -52,6 +54,15 @@ impl Sheets {
 
     pub fn step_rows(&self) -> usize {
         self.steps.len() / 9
+    }
+
+    /// Verdict, steps, number and place that they have to get.
+    pub fn expected(&self) -> [u16; 4] {
+        let steps = self.step_rows() as u16;
+        match self.place {
+            0 => [0, steps, 0, 0],
+            place => [2, steps - 1, 13, place],
+        }
     }
 
     fn term(&mut self, head: u16, sort: u16, args: &[u16]) -> u16 {
@@ -471,6 +482,29 @@ pub fn one_head() -> Sheets {
         s.term(f, SORT, &[c, c, c, last]);
     }
     s.about = "one head, rows equal but for the last column".into();
+    s
+}
+
+/// One deduce by pred whose place is 3: every row of its head could be the premise, and
+/// has all equalities but the last, and these stand at the end of the sheet.
+pub fn refused_row() -> Sheets {
+    let mut s = Sheets::new();
+    let slots: Vec<u16> = (0..5).map(|_| s.constant(SORT)).collect();
+    let apart = s.constant(SORT);
+    let head = s.head();
+    let row = s.prop(head, &[slots[0], slots[0], slots[0], apart]);
+    for at in 0..224 {
+        let slot = |step: usize| slots[at / step % slots.len()];
+        s.prop(head, &[slot(125), slot(25), slot(5), slot(1)]);
+    }
+    for left in &slots {
+        for right in &slots {
+            s.prop(EQ, &[*left, *right]);
+        }
+    }
+    s.step(DEDUCE, PRED, row, 1, &[]);
+    s.place = 3;
+    s.about = format!("one deduce by pred, refused, {} terms", s.rows());
     s
 }
 

@@ -91,12 +91,51 @@ pub struct Outcome {
     pub number: u16,
     /// How many entries are on the trail.
     pub entries: u16,
+    /// With the numbers 11, 12 and 13 the column of the step at which it went wrong,
+    /// from 1 for its kind to 9 for its fifth premise; 0 with every other number.
+    ///
+    /// With 11 and 12 it is the first column that has the fault. With 13 it is the
+    /// first, from the term on, after which nothing to the right makes the step fit
+    /// its rule: 3 where the rule never gives the term a value, 4 where it never gives
+    /// it this one, else a premise that is wrong, missing or one too many.
+    pub place: u16,
 }
+
+/// The columns of a step, by the names that a text has for them.
+const COLUMNS: [&str; STEP_COLUMNS] = ["step", "rule", "term", "value", "p", "q", "r", "s", "t"];
 
 impl Outcome {
     /// What the number means; no words for 0.
     pub fn meaning(&self) -> &'static str {
         words::meaning(self.number)
+    }
+
+    /// The name of the column at which the step went wrong, as a text has it; none
+    /// where the place is 0.
+    ///
+    /// ```
+    /// use cdsat::{Head, Log, Rule, Sort};
+    ///
+    /// let mut log = Log::new();
+    /// let s = log.sort();
+    /// let a = log.term(Head::Free(0), s, &[]);
+    /// let b = log.term(Head::Free(1), s, &[]);
+    /// let e = log.term(Head::Eq, Sort::PROP, &[a, b]);
+    /// log.input(a, 7).input(b, 8);
+    ///
+    /// let outcome = log.clone().deduce(Rule::Same, e, true, &[a, b]).run().outcome;
+    /// assert_eq!((outcome.number, outcome.place), (13, 6));
+    /// assert_eq!(outcome.column(), Some("q"));
+    ///
+    /// let outcome = log.clone().deduce(Rule::Differ, e, true, &[a, b]).run().outcome;
+    /// assert_eq!((outcome.number, outcome.column()), (13, Some("value")));
+    ///
+    /// let outcome = log.clone().deduce(Rule::Differ, e, false, &[a, b]).run().outcome;
+    /// assert_eq!((outcome.number, outcome.column()), (0, None));
+    /// ```
+    pub fn column(&self) -> Option<&'static str> {
+        let at = usize::from(self.place).checked_sub(1)?;
+        COLUMNS.get(at).copied()
     }
 
     /// The outcome of the library's numbers.
@@ -111,12 +150,19 @@ impl Outcome {
             steps: raw.steps,
             number: raw.number,
             entries: raw.entries,
+            place: raw.place,
         }
     }
 
-    /// The four numbers of the result, the verdict as 0, 1 or 2.
-    pub fn numbers(&self) -> [u16; 4] {
-        [self.verdict as u16, self.steps, self.number, self.entries]
+    /// The five numbers of the result, the verdict as 0, 1 or 2.
+    pub fn numbers(&self) -> [u16; 5] {
+        [
+            self.verdict as u16,
+            self.steps,
+            self.number,
+            self.entries,
+            self.place,
+        ]
     }
 }
 
@@ -157,8 +203,8 @@ pub fn run(
     Outcome::of(sys::run(sorts, terms, inputs, steps, work, trail))
 }
 
-/// The same with the result as the library's four numbers: verdict, steps,
-/// number, entries.
+/// The same with the result as the library's five numbers: verdict, steps,
+/// number, entries, place.
 pub fn run_numbers(
     sorts: &[u16],
     terms: &[u16],
@@ -166,7 +212,7 @@ pub fn run_numbers(
     steps: &[u16],
     work: &mut [u64],
     trail: &mut [u16],
-) -> [u16; 4] {
+) -> [u16; 5] {
     let raw = sys::run(sorts, terms, inputs, steps, work, trail);
-    [raw.verdict, raw.steps, raw.number, raw.entries]
+    [raw.verdict, raw.steps, raw.number, raw.entries, raw.place]
 }

@@ -10,6 +10,7 @@ pub struct RawOutcome {
     pub steps: u16,
     pub number: u16,
     pub entries: u16,
+    pub place: u16,
 }
 
 /// What `cdsat_read` returns.
@@ -57,7 +58,9 @@ extern "C" {
 
 // The sizes and places that the library's calls answer with.
 const _: () = {
-    assert!(size_of::<RawOutcome>() == 8);
+    assert!(size_of::<RawOutcome>() == 10);
+    assert!(offset_of!(RawOutcome, entries) == 6);
+    assert!(offset_of!(RawOutcome, place) == 8);
     assert!(size_of::<RawRead>() == 32);
     assert!(offset_of!(RawRead, why) == 10);
     assert!(offset_of!(RawRead, line) == 16);

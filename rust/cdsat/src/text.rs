@@ -165,9 +165,10 @@ pub fn read(
 /// A text read and run.
 #[derive(Clone, Debug, PartialEq, Eq)]
 pub struct Checked {
-    /// As a run's; what the reader refuses has no steps and no entries.
+    /// As a run's; what the reader refuses has no steps, no entries and no place.
     pub outcome: Outcome,
-    /// The line for a person, without its newline; empty if nothing was refused.
+    /// The line for a person, without its newline; empty if nothing was refused. The
+    /// field that it names is the reader's, or the place of a step.
     pub said: String,
 }
 
@@ -199,7 +200,7 @@ pub const SAID: usize = 256;
 ///
 /// let checked = cdsat::check(text.replace("refl", "sym").as_bytes());
 /// assert_eq!(checked.outcome.verdict, Verdict::Refused);
-/// assert_eq!(checked.said, "line 12: 13 the rule does not fit");
+/// assert_eq!(checked.said, "line 12, field 5: 13 the rule does not fit");
 ///
 /// let checked = cdsat::check(text.replace("fail", "clash").as_bytes());
 /// assert_eq!(checked.outcome.number, 26);

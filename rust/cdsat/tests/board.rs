@@ -48,7 +48,7 @@ fn clear_keeps_the_late_entry() {
     log.clash(Rule::Same, e, true, &[a, b]);
     log.clear(b);
     let run = log.run();
-    assert_eq!(run.outcome.numbers(), [0, 5, 0, 3]);
+    assert_eq!(run.outcome.numbers(), [0, 5, 0, 3, 0]);
     assert_eq!(run.outcome.verdict, Verdict::Open);
     let terms: Vec<Term> = run.trail.iter().map(|entry| entry.term).collect();
     assert_eq!(terms, [not_e, a, e]);
@@ -72,7 +72,7 @@ fn resolve_is_barred() {
     log.clash(Rule::Cong, g, true, &[e]);
     log.resolve(e);
     let run = log.run();
-    assert_eq!(run.outcome.numbers(), [2, 4, 19, 4]);
+    assert_eq!(run.outcome.numbers(), [2, 4, 19, 4, 0]);
     assert_eq!(run.outcome.verdict, Verdict::Refused);
     assert_eq!(run.outcome.meaning(), "resolve is barred");
 }
@@ -85,7 +85,7 @@ fn jump_learns() {
     log.clash(Rule::Cong, g, true, &[e]);
     log.jump(e);
     let run = log.run();
-    assert_eq!(run.outcome.numbers(), [0, 3, 0, 2]);
+    assert_eq!(run.outcome.numbers(), [0, 3, 0, 2, 0]);
     assert_eq!((run.trail[1].term, run.trail[1].value), (e, 0));
 }
 
@@ -96,13 +96,13 @@ fn fail_refutes() {
     log.fail(Rule::Cong, g, true, &[e]);
     assert_eq!(log.steps()[..2], [Step::Fail as u16, Rule::Cong as u16]);
     let run = log.run();
-    assert_eq!(run.outcome.numbers(), [1, 1, 0, 2]);
+    assert_eq!(run.outcome.numbers(), [1, 1, 0, 2, 0]);
     assert_eq!(run.outcome.verdict, Verdict::Refuted);
     assert_eq!(run.trail.len(), 2);
     let Board { mut log, e, g, .. } = board();
     log.input(e, 1);
     log.fail(Rule::Cong, g, true, &[e]);
-    assert_eq!(log.run().outcome.numbers(), [2, 0, 16, 1]);
+    assert_eq!(log.run().outcome.numbers(), [2, 0, 16, 1, 0]);
 }
 
 #[test]
@@ -112,7 +112,7 @@ fn the_other_line_was_meant() {
     log.input(e, 1).input(g, 0);
     log.clash(Rule::Cong, g, true, &[e]);
     let run = log.run();
-    assert_eq!(run.outcome.numbers(), [2, 0, 26, 2]);
+    assert_eq!(run.outcome.numbers(), [2, 0, 26, 2, 0]);
     assert_eq!(run.outcome.meaning(), meaning);
     let Board {
         mut log, a, e, g, ..
@@ -121,7 +121,7 @@ fn the_other_line_was_meant() {
     log.decide(a, 7).decide(e, 1);
     log.fail(Rule::Cong, g, true, &[e]);
     let run = log.run();
-    assert_eq!(run.outcome.numbers(), [2, 2, 26, 3]);
+    assert_eq!(run.outcome.numbers(), [2, 2, 26, 3, 0]);
     assert_eq!(run.outcome.meaning(), meaning);
 }
 
@@ -172,7 +172,7 @@ fn learn_keeps_a_level() {
         assert_eq!(log.steps()[49..51], [c.e.row(), c.g.row()]);
         assert_eq!(log.steps()[51..], [cdsat::BLANK; 3]);
         let run = log.run();
-        assert_eq!(run.outcome.numbers(), [0, 6, 0, kept + 1]);
+        assert_eq!(run.outcome.numbers(), [0, 6, 0, kept + 1, 0]);
         assert_eq!(run.outcome.verdict, Verdict::Open);
         let terms: Vec<Term> = run.trail.iter().map(|entry| entry.term).collect();
         let there = [c.both, c.a, c.e];
@@ -190,33 +190,34 @@ fn learn_is_refused() {
     let refused = |clause: Term, level: u16, members: &[Term]| {
         let mut log = c.log.clone();
         log.learn(clause, level, members);
-        let [verdict, steps, number, entries] = log.run().outcome.numbers();
+        let [verdict, steps, number, entries, place] = log.run().outcome.numbers();
         assert_eq!((verdict, steps, entries), (2, 5, 4));
-        (number, log.run().outcome.meaning())
+        (number, place, log.run().outcome.meaning())
     };
     let (e, g, clause) = (c.e, c.g, c.clause);
-    let columns = (9, "a step's columns are wrong");
+    let columns = (9, 0, "a step's columns are wrong");
     assert_eq!(refused(clause, cdsat::BLANK, &[e, g]), columns);
     assert_eq!(refused(clause, 1, &[e]), columns);
     assert_eq!(refused(clause, 1, &[]), columns);
     assert_eq!(refused(clause, 1, &[e, g, e, g, e]), columns);
     let no_row = Log::clone(&c.log).term(Head::Eq, Sort::PROP, &[]);
-    let row = (11, "the term or a premise is no row");
-    assert_eq!(refused(no_row, 1, &[e, g]), row);
-    assert_eq!(refused(clause, 1, &[e, no_row]), row);
-    let member = (17, "not a member of the conflict");
+    let row = "the term or a premise is no row";
+    assert_eq!(refused(no_row, 1, &[e, g]), (11, 3, row));
+    assert_eq!(refused(clause, 1, &[no_row, no_row]), (11, 5, row));
+    assert_eq!(refused(clause, 1, &[e, no_row]), (11, 6, row));
+    let member = (17, 0, "not a member of the conflict");
     assert_eq!(refused(clause, 1, &[e, c.a]), member);
     let head = "a term's sort or head is wrong for the step, or the value does not suit it";
-    assert_eq!(refused(e, 1, &[e, g]), (22, head));
+    assert_eq!(refused(e, 1, &[e, g]), (22, 0, head));
     let mismatch = "the clause does not match the members, or one is named twice";
-    assert_eq!(refused(clause, 1, &[e, e]), (25, mismatch));
-    assert_eq!(refused(clause, 1, &[e, c.both]), (25, mismatch));
-    assert_eq!(refused(clause, 1, &[e, g, c.both]), (25, mismatch));
-    let there = (14, "the value is there already");
+    assert_eq!(refused(clause, 1, &[e, e]), (25, 0, mismatch));
+    assert_eq!(refused(clause, 1, &[e, c.both]), (25, 0, mismatch));
+    assert_eq!(refused(clause, 1, &[e, g, c.both]), (25, 0, mismatch));
+    let there = (14, 0, "the value is there already");
     assert_eq!(refused(c.both, 1, &[e, g]), there);
     let level = "its level is not above the rest, or learn's level is outside its range";
     for m in [0, 4, 65_534] {
-        assert_eq!(refused(clause, m, &[e, g]), (21, level));
+        assert_eq!(refused(clause, m, &[e, g]), (21, 0, level));
     }
 }
 
@@ -225,7 +226,7 @@ fn learn_needs_a_conflict() {
     let Board { mut log, e, g, .. } = board();
     log.decide(e, 1).decide(g, 1);
     log.learn(e, 1, &[e, g]);
-    assert_eq!(log.run().outcome.numbers(), [2, 2, 10, 2]);
+    assert_eq!(log.run().outcome.numbers(), [2, 2, 10, 2, 0]);
 }
 
 /// A member that is no prop: the slots of a clash by same.
@@ -245,7 +246,7 @@ fn learn_takes_props() {
     for members in [[a, e], [e, b]] {
         let mut log = log.clone();
         log.learn(clause, 0, &members);
-        assert_eq!(log.run().outcome.numbers(), [2, 2, 22, 3]);
+        assert_eq!(log.run().outcome.numbers(), [2, 2, 22, 3, 0]);
     }
 }
 
@@ -262,7 +263,7 @@ fn learn_an_and() {
     log.clash(Rule::Eval, any, true, &on);
     log.learn(clause, 2, &[on[0], on[1], on[2], any]);
     let run = log.run();
-    assert_eq!(run.outcome.numbers(), [0, 5, 0, 4]);
+    assert_eq!(run.outcome.numbers(), [0, 5, 0, 4, 0]);
     let entry = run.trail[3];
     assert_eq!((entry.term, entry.value, entry.level), (clause, 0, 0));
 }

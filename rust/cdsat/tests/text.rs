@@ -114,12 +114,12 @@ fn a_log_from_a_text() {
     assert_eq!(log.inputs(), [2, 1, 5, 0]);
     assert_eq!(log.steps().len(), cdsat::STEP_COLUMNS);
     let run = log.run();
-    assert_eq!(run.outcome.numbers(), [1, 1, 0, 2]);
+    assert_eq!(run.outcome.numbers(), [1, 1, 0, 2, 0]);
     assert_eq!(run.outcome, check(TEXT.as_bytes()).outcome);
     assert_eq!(run.trail.len(), 2);
     let log = Log::read(NOTHING.as_bytes()).unwrap();
     assert_eq!(log, Log::new());
-    assert_eq!(log.run().outcome.numbers(), [0; 4]);
+    assert_eq!(log.run().outcome.numbers(), [0; 5]);
 }
 
 #[test]
@@ -173,20 +173,20 @@ fn lines_for_a_person() {
 #[test]
 fn which_line_was_meant() {
     let clash = check(with("fail", "clash").as_bytes());
-    assert_eq!(clash.outcome.numbers(), [2, 0, 26, 2]);
+    assert_eq!(clash.outcome.numbers(), [2, 0, 26, 2, 0]);
     assert_eq!(
         clash.said,
         "line 17: 26 fail is the line at level 0, clash the one above it: fail was meant"
     );
     let above = with("e true\n", "").replace("fail", "decide - e true - - - - -\nfail");
     let fail = check(above.as_bytes());
-    assert_eq!(fail.outcome.numbers(), [2, 1, 26, 2]);
+    assert_eq!(fail.outcome.numbers(), [2, 1, 26, 2, 0]);
     assert_eq!(
         fail.said,
         "line 17: 26 fail is the line at level 0, clash the one above it: clash was meant"
     );
     let open = check(above.replace("fail", "clash").as_bytes());
-    assert_eq!(open.outcome.numbers(), [0, 2, 0, 2]);
+    assert_eq!(open.outcome.numbers(), [0, 2, 0, 2, 0]);
     assert_eq!(open.said, "");
 }
 
@@ -210,7 +210,7 @@ fn learn_in_texts() {
     for (level, entries) in words {
         let text = learning(&format!("learn - c {level} e g - - -"));
         let checked = check(text.as_bytes());
-        assert_eq!(checked.outcome.numbers(), [0, 4, 0, entries], "{text}");
+        assert_eq!(checked.outcome.numbers(), [0, 4, 0, entries, 0], "{text}");
         assert_eq!(checked.said, "");
         let log = Log::read(text.as_bytes()).unwrap();
         let row = [8, cdsat::BLANK, 9, entries - 2, 2, 5];
@@ -221,28 +221,35 @@ fn learn_in_texts() {
 
 #[test]
 fn lines_of_learn() {
-    let head = "22 a term's sort or head is wrong for the step, or the value does not suit it";
+    let head = ": 22 a term's sort or head is wrong for the step, or the value does not suit it";
     for (row, said) in [
         (
             "learn - c 2 e g - - -",
-            "21 its level is not above the rest, or learn's level is outside its range",
+            ": 21 its level is not above the rest, or learn's level is outside its range",
         ),
         ("learn - n 0 e g - - -", head),
         (
             "learn - c 0 e e - - -",
-            "25 the clause does not match the members, or one is named twice",
+            ": 25 the clause does not match the members, or one is named twice",
         ),
-        ("learn - both 0 e g - - -", "14 the value is there already"),
-        ("learn - c 0 e n - - -", "17 not a member of the conflict"),
+        (
+            "learn - both 0 e g - - -",
+            ": 14 the value is there already",
+        ),
+        ("learn - c 0 e n - - -", ": 17 not a member of the conflict"),
+        (
+            "learn - x 0 e g - - -",
+            ", field 3: 11 the term or a premise is no row",
+        ),
         (
             "learn - c 0 e x - - -",
-            "11 the term or a premise is no row",
+            ", field 6: 11 the term or a premise is no row",
         ),
-        ("learn - c - e g - - -", "9 a step's columns are wrong"),
-        ("learns - c 0 e g - - -", "9 a step's columns are wrong"),
+        ("learn - c - e g - - -", ": 9 a step's columns are wrong"),
+        ("learns - c 0 e g - - -", ": 9 a step's columns are wrong"),
     ] {
         let checked = check(learning(row).as_bytes());
-        assert_eq!(checked.said, format!("line 23: {said}"), "{row}");
+        assert_eq!(checked.said, format!("line 23{said}"), "{row}");
         assert_eq!(checked.outcome.numbers()[..2], [2, 3]);
     }
     let early = learning("learn - c 0 e g - - -").replace("clash eval both true e g - - -\n", "");
@@ -254,29 +261,59 @@ fn lines_of_learn() {
 
 #[test]
 fn outcomes_of_texts() {
-    assert_eq!(check(TEXT.as_bytes()).outcome.numbers(), [1, 1, 0, 2]);
-    assert_eq!(check(NOTHING.as_bytes()).outcome.numbers(), [0; 4]);
+    assert_eq!(check(TEXT.as_bytes()).outcome.numbers(), [1, 1, 0, 2, 0]);
+    assert_eq!(check(NOTHING.as_bytes()).outcome.numbers(), [0; 5]);
     let open = check(with("fail cong g true e - - - -\n", "").as_bytes());
     assert_eq!(
         (open.outcome.verdict, open.said),
         (Verdict::Open, String::new())
     );
-    assert_eq!(open.outcome.numbers(), [0, 0, 0, 2]);
+    assert_eq!(open.outcome.numbers(), [0, 0, 0, 2, 0]);
     let refused = check(b"");
-    assert_eq!(refused.outcome.numbers(), [2, 0, 31, 0]);
+    assert_eq!(refused.outcome.numbers(), [2, 0, 31, 0, 0]);
     let refused = check(with("e true\n", "").as_bytes());
-    assert_eq!(refused.outcome.numbers(), [2, 0, 12, 1]);
+    assert_eq!(refused.outcome.numbers(), [2, 0, 12, 1, 5]);
     assert_eq!(refused.outcome.meaning(), "a premise is not on the trail");
+}
+
+/// The place of a step is the field that a person is told, and the column has a name.
+#[test]
+fn places_in_texts() {
+    let meanings = [
+        (11, "the term or a premise is no row"),
+        (12, "a premise is not on the trail"),
+        (13, "the rule does not fit"),
+    ];
+    for (row, number, place, column) in [
+        ("fail cong x true e - - - -", 11, 3, "term"),
+        ("fail cong g true x y - - -", 11, 5, "p"),
+        ("fail cong g true e fa e e x", 11, 9, "t"),
+        ("fail cong g true a - - - -", 12, 5, "p"),
+        ("fail cong g true e g e fb x", 11, 9, "t"),
+        ("fail cong g true e g e fb e", 12, 8, "s"),
+        ("fail refl g true - - - - -", 13, 3, "term"),
+        ("fail cong g false e - - - -", 13, 4, "value"),
+        ("fail cong g true - - - - -", 13, 5, "p"),
+        ("fail cong g true g - - - -", 13, 5, "p"),
+        ("fail cong g true e e - - -", 13, 6, "q"),
+    ] {
+        let checked = check(with("fail cong g true e - - - -", row).as_bytes());
+        assert_eq!(checked.outcome.numbers(), [2, 0, number, 2, place], "{row}");
+        assert_eq!(checked.outcome.column(), Some(column), "{row}");
+        let (_, meaning) = meanings[usize::from(number) - 11];
+        let said = format!("line 17, field {place}: {number} {meaning}");
+        assert_eq!(checked.said, said, "{row}");
+    }
 }
 
 #[test]
 fn lines_in_buffers() {
     let text = with("e true\n", "");
-    let line = "line 16: 12 a premise is not on the trail\n";
+    let line = "line 16, field 5: 12 a premise is not on the trail\n";
     for length in (0..line.len() + 3).chain([SAID, 1_000]) {
         let mut said = vec![b'?'; length];
         let outcome = check_into(text.as_bytes(), &mut said);
-        assert_eq!(outcome.numbers(), [2, 0, 12, 1]);
+        assert_eq!(outcome.numbers(), [2, 0, 12, 1, 5]);
         let (there, rest) = said.split_at(length.min(line.len()));
         assert_eq!(there, &line.as_bytes()[..there.len()]);
         assert!(rest.iter().all(|&byte| byte == 0));
@@ -290,18 +327,18 @@ fn lines_in_buffers() {
 fn empty_sheets() {
     let mut work = [9; cdsat::work_words(0)];
     let outcome = cdsat::run(&[], &[], &[], &[], &mut work, &mut []);
-    assert_eq!(outcome.numbers(), [0; 4]);
+    assert_eq!(outcome.numbers(), [0; 5]);
     assert_eq!(work, [0; cdsat::work_words(0)]);
     let outcome = cdsat::run(&[], &[], &[], &[], &mut [], &mut []);
-    assert_eq!(outcome.numbers(), [2, 0, 32, 0]);
+    assert_eq!(outcome.numbers(), [2, 0, 32, 0, 0]);
     let outcome = cdsat::run(&[], &[], &[], &[9; 9], &mut work, &mut []);
-    assert_eq!(outcome.numbers(), [2, 0, 9, 0]);
-    assert_eq!(Log::new().run().outcome.numbers(), [0; 4]);
+    assert_eq!(outcome.numbers(), [2, 0, 9, 0, 0]);
+    assert_eq!(Log::new().run().outcome.numbers(), [0; 5]);
     assert_eq!(read_rows(NOTHING, [0; 4]).0.number, 0);
     assert_eq!(read_rows(TEXT, [0; 4]).0.number, 32);
     assert_eq!(read_rows("", [0; 4]).0.why, Why::Early);
-    assert_eq!(check_into(b"", &mut []).numbers(), [2, 0, 31, 0]);
-    assert_eq!(check_into(NOTHING.as_bytes(), &mut []).numbers(), [0; 4]);
+    assert_eq!(check_into(b"", &mut []).numbers(), [2, 0, 31, 0, 0]);
+    assert_eq!(check_into(NOTHING.as_bytes(), &mut []).numbers(), [0; 5]);
 }
 
 #[test]
@@ -320,7 +357,7 @@ fn the_most_rows() {
     let lengths = [log.sorts(), log.terms(), log.inputs(), log.steps()].map(<[u16]>::len);
     assert_eq!(lengths, [64, 1_536, 512, 9_216]);
     let checked = check(text.as_bytes());
-    assert_eq!(checked.outcome.numbers(), [2, 0, 10, 256]);
+    assert_eq!(checked.outcome.numbers(), [2, 0, 10, 256, 0]);
     assert_eq!(checked.outcome, log.run().outcome);
     assert_eq!(checked.said, "line 552: 10 wrong state for the step");
 }

@@ -325,16 +325,7 @@ impl Grower<'_> {
     /// opposite of what it gives too, then clash.
     fn plan_use(&mut self) -> Option<()> {
         let rule = *self.rng.pick(&TRIED);
-        let real = self.values.clone();
-        for (value, row) in self.values.iter_mut().zip(&self.model.terms) {
-            if value.is_none() && row[1] == 0 {
-                let truth = row[0] == 0 && rule != 12;
-                let other = self.rng.percent(30);
-                *value = Some(u16::from(truth != other));
-            }
-        }
-        let found = self.instances(rule);
-        let dreamt = std::mem::replace(&mut self.values, real);
+        let (found, dreamt) = self.dreamt(rule);
         if found.is_empty() {
             return None;
         }
@@ -351,6 +342,21 @@ impl Grower<'_> {
         }
         self.plan = rows;
         Some(())
+    }
+
+    /// The uses of the rule if every prop had a value, where it has none often one that
+    /// suits the rule, and these values.
+    fn dreamt(&mut self, rule: u16) -> (Vec<Instance>, Vec<Option<u16>>) {
+        let real = self.values.clone();
+        for (value, row) in self.values.iter_mut().zip(&self.model.terms) {
+            if value.is_none() && row[1] == 0 {
+                let truth = row[0] == 0 && rule != 12;
+                let other = self.rng.percent(30);
+                *value = Some(u16::from(truth != other));
+            }
+        }
+        let found = self.instances(rule);
+        (found, std::mem::replace(&mut self.values, real))
     }
 
     /// Plans a conflict that a clause without a value can be learned from: decide a
@@ -880,6 +886,9 @@ impl Grower<'_> {
 
     /// A step that may or may not be allowed, near one that is.
     fn attempt(&mut self) -> Row {
+        if self.model.conflict.is_none() && self.rng.percent(30) {
+            return self.misplaced();
+        }
         let learns = if self.model.conflict.is_some() { 45 } else { 2 };
         if self.rng.percent(learns) {
             if let Some(row) = self.near_learn() {
@@ -923,6 +932,60 @@ impl Grower<'_> {
             }
         }
         self.decision().unwrap_or([X; 9])
+    }
+
+    /// A use of some rule with a column or two that are not right, perhaps with more
+    /// premises than there have to be.
+    fn misplaced(&mut self) -> Row {
+        let unfinished = self.unfinished().filter(|_| self.rng.percent(40));
+        let mut row = unfinished.unwrap_or_else(|| self.any_use());
+        let count = row[4..].iter().filter(|&&premise| premise != X).count();
+        let more = *self.rng.pick(&[0, 0, 0, 0, 0, 1, 1, 2, 3, 5]);
+        if let Some(other) = self.any_row(|grower, term| grower.value(term).is_some()) {
+            row[4 + count..(4 + count + more).min(9)].fill(other);
+        }
+        for _ in 0..*self.rng.pick(&[1, 1, 1, 2]) {
+            self.misplace(&mut row);
+        }
+        row
+    }
+
+    /// A use of some rule up to the first premise that is not on the trail.
+    fn unfinished(&mut self) -> Option<Row> {
+        let rule = *self.rng.pick(&TRIED);
+        let (found, _) = self.dreamt(rule);
+        if found.is_empty() {
+            return None;
+        }
+        let step = *self.rng.pick(&[DEDUCE, CLASH, FAIL]);
+        let mut row = self.rng.pick(&found).row(step);
+        let absent = |&premise: &u16| premise != X && self.value(premise).is_none();
+        if let Some(at) = row[4..].iter().position(absent) {
+            row[4 + at..].fill(X);
+        }
+        Some(row)
+    }
+
+    /// Makes a column of a rule's use wrong: the rule, the term or the value, a premise
+    /// that is another row, no row or not on the trail, or one too few or too many.
+    fn misplace(&mut self, row: &mut Row) {
+        let count = row[4..].iter().filter(|&&premise| premise != X).count();
+        let at = 4 + self.rng.below(count.max(1));
+        let any = Self::any_term(self.rng, &self.model);
+        let prop = self.any_row(|grower, term| grower.model.is_prop(term));
+        let there = self.any_row(|grower, term| grower.value(term).is_some());
+        let absent = self.any_row(|grower, term| grower.value(term).is_none());
+        let no_row = self.model.terms.len() as u16;
+        match self.rng.below(14) {
+            0..=1 => row[1] = self.rng.below(13) as u16,
+            2 => row[2] = prop.unwrap_or(any),
+            3..=5 if row[3] < 2 => row[3] = 1 - row[3],
+            6..=7 => row[at] = there.unwrap_or(any),
+            8 => row[at..].fill(X),
+            9 => row[at] = absent.unwrap_or(any),
+            10 => row[*self.rng.pick(&[2, at, at, at])] = no_row,
+            _ => row[(4 + count).min(8)] = there.unwrap_or(any),
+        }
     }
 
     /// A rule's use as it would be if a few terms had other values than they have,

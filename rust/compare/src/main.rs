@@ -14,6 +14,7 @@ mod case;
 mod grow;
 mod learn;
 mod naive;
+mod naive_place;
 mod naive_text;
 mod print;
 mod problem;
@@ -22,13 +23,17 @@ mod stats;
 mod texts;
 
 use case::Case;
+use naive_place::Place;
 use rng::Rng;
 use stats::Stats;
 use std::collections::BTreeMap;
 use std::process::ExitCode;
 
-/// The call, whoever makes it.
-type Run = fn(&[u16], &[u16], &[u16], &[u16], &mut [u64], &mut [u16]) -> [u16; 4];
+/// The call, whoever makes it and whatever it answers.
+type Call<T> = fn(&[u16], &[u16], &[u16], &[u16], &mut [u64], &mut [u16]) -> T;
+
+/// The call with the numbers that it answers: verdict, steps, number, entries, place.
+type Run = Call<[u16; 5]>;
 
 fn run_plain(
     sorts: &[u16],
@@ -37,18 +42,21 @@ fn run_plain(
     steps: &[u16],
     work: &mut [u64],
     trail: &mut [u16],
-) -> [u16; 4] {
-    let out = plain::run(sorts, terms, inputs, steps, work, trail);
-    [out.verdict, out.steps, out.number, out.entries]
+) -> [u16; 5] {
+    numbers(plain::run(sorts, terms, inputs, steps, work, trail))
+}
+
+/// The outcome of `plain`: verdict, steps, number, entries and place.
+fn numbers(out: plain::Outcome) -> [u16; 5] {
+    [out.verdict, out.steps, out.number, out.entries, out.place]
 }
 
 /// What a run leaves: the outcome, the workspace and the trail buffer.
-type Ran = ([u16; 4], Vec<u64>, Vec<u16>);
+type Ran = ([u16; 5], Vec<u64>, Vec<u16>);
 
-/// Those that are held against `plain`.
+/// Those that are held against `plain` besides the slow checker.
 fn runners() -> Vec<(&'static str, Run)> {
     vec![
-        ("the slow checker", naive::run),
         #[cfg(feature = "library")]
         ("the library", cdsat::run_numbers),
     ]
@@ -123,7 +131,8 @@ fn main() -> ExitCode {
         return ExitCode::SUCCESS;
     }
     let complete = session.stats.print();
-    let names: Vec<&str> = runners().iter().map(|runner| runner.0).collect();
+    let mut names = vec!["the slow checker"];
+    names.extend(runners().iter().map(|runner| runner.0));
     let readers: Vec<&str> = texts::readers().iter().map(|reader| reader.0).collect();
     println!(
         "{} cases and {} probes of seed {} agree with plain: {}; {} texts: {}; {} through the program",
@@ -161,9 +170,9 @@ impl Session {
             probes,
             learns,
         } = case::make(rng);
-        let ran = compare_run(&case)?;
+        let (ran, place) = compare_run(&case)?;
         let outcome = ran.0;
-        self.stats.run(&ran, &case.steps, 0);
+        self.stats.run(&ran, place, &case.steps, 0);
         self.events(&case, outcome, late);
         if rng.percent(40) && case.steps.len() < 9 * 2_000 {
             let damaged = rng.percent(65);
@@ -179,17 +188,18 @@ impl Session {
         for (rows, row) in probes.into_iter().rev() {
             case.steps.truncate(9 * rows);
             case.steps.extend(row);
-            let ran = compare_run(&case)?;
+            let (ran, place) = compare_run(&case)?;
             self.probes += 1;
-            self.stats.run(&ran, &case.steps, rows);
-            if rng.percent(5) {
+            self.stats.run(&ran, place, &case.steps, rows);
+            let far_right = ran.0[4] > 7;
+            if rng.percent(if far_right { 50 } else { 5 }) {
                 self.text(rng, &case, false)?;
             }
         }
         Ok(())
     }
 
-    fn events(&mut self, case: &Case, outcome: [u16; 4], late: u64) {
+    fn events(&mut self, case: &Case, outcome: [u16; 5], late: u64) {
         let rows = case.terms.len() / 6;
         let ran = outcome[2] == 0 || stats::is_of_a_step(outcome[2]);
         let mut count = |name: &str, happened: bool| self.stats.event(name, u64::from(happened));
@@ -228,28 +238,38 @@ impl Session {
     }
 }
 
-/// Runs the case with everyone; what `plain` makes of it, if all agree.
-fn compare_run(case: &Case) -> Result<Ran, String> {
-    let go = |run: Run| {
-        let (mut work, mut trail) = (case.work.clone(), case.trail.clone());
-        let outcome = run(
-            &case.sorts,
-            &case.terms,
-            &case.inputs,
-            &case.steps,
-            &mut work,
-            &mut trail,
-        );
-        (outcome, work, trail)
-    };
-    let ours = go(run_plain);
-    for (name, run) in runners() {
-        let theirs = go(run);
+/// Runs the case with everyone; what `plain` makes of it, if all agree, and how the
+/// slow checker found the place.
+fn compare_run(case: &Case) -> Result<(Ran, Place), String> {
+    let ours = run_with(case, run_plain);
+    stats::expect_place(ours.0, &case.steps)?;
+    let ((slow, place), work, trail) = run_with(case, naive::run);
+    let [verdict, steps, number, entries] = slow;
+    let outcome = [verdict, steps, number, entries, place.or(ours.0[4])];
+    let slow = ("the slow checker", (outcome, work, trail));
+    let others = runners()
+        .into_iter()
+        .map(|(name, run)| (name, run_with(case, run)));
+    for (name, theirs) in [slow].into_iter().chain(others) {
         if ours != theirs {
             return Err(difference(case, name, &ours, &theirs));
         }
     }
-    Ok(ours)
+    Ok((ours, place))
+}
+
+/// Runs the case over copies of its buffers.
+fn run_with<T>(case: &Case, run: Call<T>) -> (T, Vec<u64>, Vec<u16>) {
+    let (mut work, mut trail) = (case.work.clone(), case.trail.clone());
+    let outcome = run(
+        &case.sorts,
+        &case.terms,
+        &case.inputs,
+        &case.steps,
+        &mut work,
+        &mut trail,
+    );
+    (outcome, work, trail)
 }
 
 /// The difference and the case, as arrays and as text.

@@ -2,6 +2,8 @@
 //! with no index, no bit sets and no shortcuts. It is what the random logs are
 //! grown with, and what `plain` is held against when there is nothing else.
 
+use crate::naive_place::{self, Place};
+
 const X: u16 = 65_535;
 
 /// An entry of the trail. A decision has no justification.
@@ -11,6 +13,23 @@ pub struct Entry {
     pub value: u16,
     pub level: u16,
     pub reason: Option<Vec<u16>>,
+}
+
+/// A row with a value, as a premise.
+#[derive(Clone, Copy, Debug, PartialEq, Eq)]
+pub struct Premise {
+    pub row: u16,
+    pub value: u16,
+}
+
+impl Premise {
+    fn is_true(self) -> bool {
+        self.value == 1
+    }
+
+    fn is_false(self) -> bool {
+        self.value == 0
+    }
 }
 
 impl Entry {
@@ -38,7 +57,12 @@ fn rows<const N: usize>(sheet: &[u16]) -> Vec<[u16; N]> {
     sheet.chunks(N).map(|row| row.try_into().unwrap()).collect()
 }
 
-/// Verdict, steps, number, entries; the buffers as the paper says.
+/// The refusal of sheets that no step was tried on.
+fn unread(number: u16) -> ([u16; 4], Place) {
+    ([2, 0, number, 0], Place::Read(0))
+}
+
+/// Verdict, steps, number, entries, and the place; the buffers as the papers say.
 pub fn run(
     sorts: &[u16],
     terms: &[u16],
@@ -46,11 +70,11 @@ pub fn run(
     steps: &[u16],
     work: &mut [u64],
     trail: &mut [u16],
-) -> [u16; 4] {
+) -> ([u16; 4], Place) {
     let lengths = [sorts.len(), terms.len(), inputs.len(), steps.len()];
     for (len, columns) in lengths.into_iter().zip([2, 6, 2, 9]) {
         if len % columns != 0 {
-            return [2, 0, 31, 0];
+            return unread(31);
         }
     }
     if lengths[0] > 2 * 32
@@ -58,37 +82,20 @@ pub fn run(
         || lengths[2] > 2 * 256
         || lengths[3] > 9 * 65_535
     {
-        return [2, 0, 30, 0];
+        return unread(30);
     }
     let n = terms.len() / 6;
     if work.len() < 8 * n + 12 || trail.len() < 4 * n {
-        return [2, 0, 32, 0];
+        return unread(32);
     }
     for word in work.iter_mut() {
         *word = 0;
     }
     let mut model = match Model::start(sorts, terms, inputs) {
         Ok(model) => model,
-        Err(number) => return [2, 0, number, 0],
+        Err(number) => return unread(number),
     };
-    let mut result = [0; 4];
-    for row in rows::<9>(steps) {
-        match model.next(&row) {
-            Err(number) => {
-                result[0] = 2;
-                result[2] = number;
-                break;
-            }
-            Ok(next) => {
-                result[1] += 1;
-                if matches!(next, Next::Refuted) {
-                    result[0] = 1;
-                    break;
-                }
-                model.enter(next);
-            }
-        }
-    }
+    let (mut result, place) = model.run(steps);
     model.assert_levels();
     for (at, entry) in model.trail.iter().enumerate() {
         trail[4 * at] = entry.term;
@@ -97,7 +104,7 @@ pub fn run(
         trail[4 * at + 3] = if entry.is_decision() { 1 } else { 0 };
     }
     result[3] = model.trail.len() as u16;
-    result
+    (result, place)
 }
 
 /// 1 if a sort row breaks the rule.
@@ -206,6 +213,25 @@ impl Model {
         Ok(model)
     }
 
+    /// Runs the steps: verdict, steps, number and 0, and the place.
+    fn run(&mut self, steps: &[u16]) -> ([u16; 4], Place) {
+        let mut allowed = 0;
+        for row in rows::<9>(steps) {
+            match self.next(&row) {
+                Err(number) => {
+                    let place = naive_place::place(self, &row, number);
+                    return ([2, allowed, number, 0], place);
+                }
+                Ok(Next::Refuted) => return ([1, allowed + 1, 0, 0], Place::Read(0)),
+                Ok(next) => {
+                    allowed += 1;
+                    self.enter(next);
+                }
+            }
+        }
+        ([0, allowed, 0, 0], Place::Read(0))
+    }
+
     pub fn is_prop(&self, term: u16) -> bool {
         self.terms[usize::from(term)][1] == 0
     }
@@ -312,16 +338,19 @@ impl Model {
         if !self.is_prop(term) {
             return Err(22);
         }
-        if premises
-            .iter()
-            .any(|&premise| self.entry(premise).is_none())
-        {
+        let Some(premises) = self.on_trail(premises) else {
             return Err(12);
-        }
-        if !self.gives(rule, term, value, premises) {
+        };
+        if !self.gives(rule, term, value, &premises) {
             return Err(13);
         }
         Ok(())
+    }
+
+    /// The premises with their values, if all are on the trail.
+    pub fn on_trail(&self, premises: &[u16]) -> Option<Vec<Premise>> {
+        let premise = |&row: &u16| self.value(row).map(|value| Premise { row, value });
+        premises.iter().map(premise).collect()
     }
 
     fn deduce(&self, rule: u16, term: u16, value: u16, premises: &[u16]) -> Result<Next, u16> {
@@ -514,7 +543,7 @@ impl Model {
         let head = self.row(clause)[0];
         let pairs = |&(&arg, &member): &(&u16, &u16)| self.appears(head, member, arg);
         args.len() == members.len()
-            && orders(&args)
+            && orders(args)
                 .iter()
                 .any(|order| order.iter().zip(members).all(|pair| pairs(&pair)))
     }
@@ -532,12 +561,15 @@ impl Model {
         }
     }
 
-    fn row(&self, term: u16) -> [u16; 6] {
+    pub fn row(&self, term: u16) -> [u16; 6] {
         self.terms[usize::from(term)]
     }
 
-    fn args(&self, term: u16) -> Vec<u16> {
-        filled(&self.row(term))
+    /// The arguments, which a checked sheet has from the left.
+    pub fn args(&self, term: u16) -> &[u16] {
+        let args = &self.terms[usize::from(term)][2..];
+        let count = args.iter().take_while(|&&arg| arg != X).count();
+        &args[..count]
     }
 
     fn is_true(&self, term: u16) -> bool {
@@ -549,57 +581,57 @@ impl Model {
     }
 
     /// Whether the premises are, in order, true equalities of the arguments.
-    fn equal_args(&self, premises: &[u16], left: u16, right: u16) -> bool {
-        let pairs: Vec<_> = self.args(left).into_iter().zip(self.args(right)).collect();
-        premises.len() == pairs.len()
-            && premises.iter().zip(pairs).all(|(&premise, (t, u))| {
-                self.row(premise) == eq_row(t, u) && self.is_true(premise)
+    fn equal_args(&self, premises: &[Premise], left: u16, right: u16) -> bool {
+        let (left, right) = (self.args(left), self.args(right));
+        premises.len() == left.len().min(right.len())
+            && premises.iter().enumerate().all(|(at, premise)| {
+                self.row(premise.row) == eq_row(left[at], right[at]) && premise.is_true()
             })
     }
 
     /// Whether the rule gives the term the value from the premises.
-    pub fn gives(&self, rule: u16, term: u16, value: u16, premises: &[u16]) -> bool {
+    pub fn gives(&self, rule: u16, term: u16, value: u16, premises: &[Premise]) -> bool {
         let row = self.row(term);
         let truth = value == 1;
         match rule {
             0 | 1 => {
                 premises.len() == 2
-                    && row == eq_row(premises[0], premises[1])
-                    && (self.value(premises[0]) == self.value(premises[1])) == (rule == 0)
+                    && row == eq_row(premises[0].row, premises[1].row)
+                    && (premises[0].value == premises[1].value) == (rule == 0)
                     && truth == (rule == 0)
             }
             2 => premises.is_empty() && row == eq_row(row[2], row[2]) && truth,
             3 => {
                 premises.len() == 1
                     && row == eq_row(row[2], row[3])
-                    && self.row(premises[0]) == eq_row(row[3], row[2])
-                    && self.is_true(premises[0])
+                    && self.row(premises[0].row) == eq_row(row[3], row[2])
+                    && premises[0].is_true()
                     && truth
             }
             4 => {
                 premises.len() == 2 && truth && {
-                    let [first, second] = [self.row(premises[0]), self.row(premises[1])];
+                    let [first, second] = [self.row(premises[0].row), self.row(premises[1].row)];
                     first[0] == 0
                         && second[0] == 0
                         && first[3] == second[2]
                         && row == eq_row(first[2], second[3])
-                        && self.is_true(premises[0])
-                        && self.is_true(premises[1])
+                        && premises[0].is_true()
+                        && premises[1].is_true()
                 }
             }
             5 => {
                 premises.len() == 1
-                    && self.row(premises[0]) == [1, 0, term, X, X, X]
-                    && self.is_true(premises[0]) != truth
+                    && self.row(premises[0].row) == [1, 0, term, X, X, X]
+                    && premises[0].value == 1 - value
             }
-            6 => {
-                premises.len() == 1
-                    && self.args(premises[0]).contains(&term)
-                    && ((self.row(premises[0])[0] == 3 && self.is_false(premises[0]) && !truth)
-                        || (self.row(premises[0])[0] == 2 && self.is_true(premises[0]) && truth))
-            }
+            6 => premises.len() == 1 && self.part(term, truth, premises[0]),
             7 => !premises.is_empty() && self.unit(term, truth, premises[0], &premises[1..]),
-            8 => self.args(term) == premises && self.evaluated(row[0], premises) == Some(truth),
+            8 => {
+                self.args(term)
+                    .iter()
+                    .eq(premises.iter().map(|premise| &premise.row))
+                    && self.evaluated(row[0], premises) == Some(truth)
+            }
             9 => {
                 row[0] == 0 && truth && {
                     let head = self.row(row[2])[0];
@@ -611,9 +643,9 @@ impl Model {
             10 => {
                 !premises.is_empty()
                     && row[0] >= 16
-                    && self.row(premises[0])[0] == row[0]
-                    && self.is_true(premises[0]) == truth
-                    && self.equal_args(&premises[1..], premises[0], term)
+                    && self.row(premises[0].row)[0] == row[0]
+                    && premises[0].value == value
+                    && self.equal_args(&premises[1..], premises[0].row, term)
             }
             11 => {
                 premises.is_empty() && truth && row[0] == 0 && self.row(row[2])[0] == 4 && {
@@ -623,50 +655,58 @@ impl Model {
                         && self.args(store)[2] == row[3]
                 }
             }
-            12 => {
-                premises.len() == 1 && truth && row[0] == 0 && self.row(row[2])[0] == 4 && {
-                    let [_, _, store, j, ..] = self.row(row[2]);
-                    self.row(store)[0] == 5 && {
-                        let [_, _, a, i, ..] = self.row(store);
-                        let right = self.row(row[3]);
-                        right[0] == 4
-                            && right[2..4] == [a, j]
-                            && self.row(premises[0]) == eq_row(i, j)
-                            && self.is_false(premises[0])
-                    }
-                }
-            }
+            12 => premises.len() == 1 && truth && self.skip(row, premises[0]),
             _ => unreachable!(),
         }
     }
 
-    fn unit(&self, term: u16, truth: bool, whole: u16, others: &[u16]) -> bool {
-        let args = self.args(whole);
-        let asked = match self.row(whole)[0] {
-            3 => self.is_true(whole) && truth,
-            2 => self.is_false(whole) && !truth,
+    fn part(&self, term: u16, truth: bool, whole: Premise) -> bool {
+        let asked = match self.row(whole.row)[0] {
+            3 => whole.is_false() && !truth,
+            2 => whole.is_true() && truth,
             _ => false,
         };
-        let others_say = others.iter().all(|&other| {
-            if truth {
-                self.is_false(other)
-            } else {
-                self.is_true(other)
-            }
-        });
-        let position_fits = |at: usize| {
-            let mut left = args.clone();
-            left.remove(at) == term && left == others
-        };
-        asked && others_say && (0..args.len()).any(position_fits)
+        asked && self.args(whole.row).contains(&term)
     }
 
-    fn evaluated(&self, head: u16, args: &[u16]) -> Option<bool> {
+    fn unit(&self, term: u16, truth: bool, whole: Premise, others: &[Premise]) -> bool {
+        let asked = match self.row(whole.row)[0] {
+            3 => whole.is_true() && truth,
+            2 => whole.is_false() && !truth,
+            _ => false,
+        };
+        let says = |other: &Premise| match truth {
+            true => other.is_false(),
+            false => other.is_true(),
+        };
+        let args = self.args(whole.row);
+        let position_fits = |at: usize| {
+            let mut left = args.to_vec();
+            left.remove(at) == term && left.iter().eq(others.iter().map(|other| &other.row))
+        };
+        asked && others.iter().all(says) && (0..args.len()).any(position_fits)
+    }
+
+    fn evaluated(&self, head: u16, args: &[Premise]) -> Option<bool> {
         match head {
-            1 => Some(!self.is_true(args[0])),
-            2 => Some(args.iter().all(|&arg| self.is_true(arg))),
-            3 => Some(args.iter().any(|&arg| self.is_true(arg))),
+            1 => Some(!args[0].is_true()),
+            2 => Some(args.iter().all(|arg| arg.is_true())),
+            3 => Some(args.iter().any(|arg| arg.is_true())),
             _ => None,
+        }
+    }
+
+    fn skip(&self, row: [u16; 6], apart: Premise) -> bool {
+        row[0] == 0 && self.row(row[2])[0] == 4 && {
+            let [_, _, store, j, ..] = self.row(row[2]);
+            self.row(store)[0] == 5 && {
+                let [_, _, a, i, ..] = self.row(store);
+                let right = self.row(row[3]);
+                right[0] == 4
+                    && right[2..4] == [a, j]
+                    && self.row(apart.row) == eq_row(i, j)
+                    && apart.is_false()
+            }
         }
     }
 }

@@ -40,14 +40,11 @@ pub fn make(rng: &mut Rng) -> Problem {
         61..=200 => rng.within(5, 16),
         _ => rng.within(16, 40),
     };
-    let mut maker = Maker {
-        sorts: sorts(rng),
-        rng,
-        terms: Vec::new(),
-        known: HashMap::new(),
-        heads: Vec::new(),
-        limit,
-    };
+    if rng.percent(15) {
+        return small(rng);
+    }
+    let mut maker = Maker::new(rng, limit);
+    maker.sorts = sorts(maker.rng);
     let (splits, lessons) = match maker.rng.below(100) {
         0..=17 => (true, false),
         18..=37 => (false, true),
@@ -63,6 +60,40 @@ pub fn make(rng: &mut Rng) -> Problem {
     let (sorts, terms) = (maker.sorts, maker.terms);
     let inputs = match splits {
         true => clauses(rng, &terms),
+        false => inputs(rng, &terms),
+    };
+    Problem {
+        sorts,
+        terms,
+        inputs,
+    }
+}
+
+/// A problem of few terms: arrays, or wide terms over few others, where often all
+/// equalities are given, as true.
+fn small(rng: &mut Rng) -> Problem {
+    let theme = rng.below(6);
+    let limit = match theme {
+        0..=1 => 7,
+        _ => rng.within(4, 8),
+    };
+    let mut maker = Maker::new(rng, limit);
+    maker.sorts = vec![[X, X], [1, 1]];
+    for _ in 0..3 * limit {
+        match theme {
+            0..=1 => maker.narrow_arrays(),
+            2..=3 => maker.wide(1),
+            4 => maker.wide(0),
+            _ => maker.bundle(),
+        };
+    }
+    let (sorts, terms) = (maker.sorts, maker.terms);
+    let is_eq = |&term: &u16| terms[usize::from(term)][0] == 0;
+    let inputs = match theme > 1 && rng.percent(60) {
+        true => {
+            let equalities = (0..terms.len() as u16).filter(is_eq);
+            equalities.map(|term| [term, 1]).collect()
+        }
         false => inputs(rng, &terms),
     };
     Problem {
@@ -131,7 +162,19 @@ pub fn value(rng: &mut Rng, row: &[u16; 6]) -> u16 {
     }
 }
 
-impl Maker<'_> {
+impl<'a> Maker<'a> {
+    /// No terms yet, and no sorts.
+    fn new(rng: &'a mut Rng, limit: usize) -> Self {
+        Maker {
+            rng,
+            sorts: Vec::new(),
+            terms: Vec::new(),
+            known: HashMap::new(),
+            heads: Vec::new(),
+            limit,
+        }
+    }
+
     /// The row of the term, made if it is not there and there is room.
     fn term(&mut self, head: u16, sort: u16, args: &[u16]) -> Option<u16> {
         let mut row = [X; 6];
@@ -299,6 +342,40 @@ impl Maker<'_> {
         if self.rng.percent(20) {
             self.eq(t, t)?;
         }
+        Some(())
+    }
+
+    /// Two uses of a free head of the sort with three or four arguments, and the
+    /// equalities between.
+    fn wide(&mut self, own: u16) -> Option<()> {
+        if self.rng.percent(40) {
+            let head = self.head(|_| false, 1, Vec::new());
+            self.term(head.number, 1, &[])?;
+        }
+        let args = vec![1; self.rng.within(3, 4)];
+        let suits = |head: &Head| head.sort == own && head.args == args;
+        let head = self.head(suits, own, args.clone());
+        let first = self.apply(&head, 0)?;
+        let args = self.second(first)?;
+        let second = self.term(head.number, own, &args)?;
+        if own != 0 {
+            self.eq(first, second)?;
+        }
+        Some(())
+    }
+
+    /// What read and skip give of a store that has its index for its value.
+    fn narrow_arrays(&mut self) -> Option<()> {
+        let [i, a] = [self.of_sort(1, 0)?, self.of_sort(2, 0)?];
+        let store = self.term(5, 2, &[a, i, i])?;
+        let select = self.term(4, 1, &[store, i])?;
+        if self.rng.percent(30) {
+            self.eq(select, i)?;
+            return Some(());
+        }
+        let under = self.term(4, 1, &[a, i])?;
+        self.eq(i, i)?;
+        self.eq(select, under)?;
         Some(())
     }
 

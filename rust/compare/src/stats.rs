@@ -1,6 +1,7 @@
 //! How often everything occurred.
 
 use crate::learn::{self, Shown};
+use crate::naive_place::Place;
 use crate::naive_text::{RULE_WORDS, STEP_WORDS};
 use crate::problem::X;
 use crate::Ran;
@@ -35,6 +36,52 @@ const ORDERS: [&[u16]; 9] = [
     &learn::NUMBERS,
 ];
 
+/// The places that 11 can have in each step: the term, and the premises it takes.
+const STRANGE: [&[u16]; 9] = [
+    &[3],
+    &[3, 5, 6, 7, 8, 9],
+    &[3, 5, 6, 7, 8, 9],
+    &[3],
+    &[3],
+    &[3],
+    &[3, 5],
+    &[3, 5, 6, 7, 8, 9],
+    &[3, 5, 6, 7, 8],
+];
+
+/// The steps that use a rule, and the places that 12 can have in them.
+const INFERENCES: [u16; 3] = [1, 2, 7];
+const ABSENT: [u16; 5] = [5, 6, 7, 8, 9];
+
+/// The places that 13 can have with each rule: 3 where the rule never gives the term a
+/// value, 4 where it never gives it this one (neg, eval and pred give both or none),
+/// then every premise, and the column after the last one for a surplus premise. same,
+/// differ and trans take two premises, sym, neg, part and skip one, refl and read none;
+/// unit, eval and cong take up to four, and pred up to five, which leaves no column for
+/// another.
+const UNFIT: [&[u16]; 13] = [
+    &[3, 4, 5, 6, 7],
+    &[3, 4, 5, 6, 7],
+    &[3, 4, 5],
+    &[3, 4, 5, 6],
+    &[3, 4, 5, 6, 7],
+    &[3, 5, 6],
+    &[3, 4, 5, 6],
+    &[3, 4, 5, 6, 7, 8, 9],
+    &[3, 5, 6, 7, 8, 9],
+    &[3, 4, 5, 6, 7, 8, 9],
+    &[3, 5, 6, 7, 8, 9],
+    &[3, 4, 5],
+    &[3, 4, 5, 6],
+];
+
+/// The fields that a person is told with 11, 12 and 13.
+const FIELDS: [(usize, &[u16]); 3] = [
+    (11, &[3, 5, 6, 7, 8, 9]),
+    (12, &ABSENT),
+    (13, &[3, 4, 5, 6, 7, 8, 9]),
+];
+
 const VERDICTS: [&str; 3] = ["open", "refuted", "refused"];
 
 /// Where premises and opposite can stand: nowhere, at level 0 or above it.
@@ -47,6 +94,8 @@ const MEANT: [Meant; 2] = [Meant::Fail, Meant::Clash];
 /// Everything that has to occur, by heading and name, in the order of printing.
 pub struct Stats {
     counts: BTreeMap<(Heading, u16), (String, u64)>,
+    /// Places of 13 that the slow checker did not find.
+    unknown: u64,
 }
 
 #[derive(Clone, Copy, PartialEq, Eq, PartialOrd, Ord)]
@@ -61,11 +110,16 @@ enum Heading {
     Standing,
     Learns,
     Before,
+    Strange,
+    Absent,
+    Unfit,
+    Listed,
     Events,
     TextNumbers,
     TextVerdicts,
     Causes,
     Told,
+    Fields,
     Meant,
 }
 
@@ -82,18 +136,26 @@ impl Heading {
             Heading::Standing => "levels of clashes and fails that ended a run",
             Heading::Learns => "what learns showed",
             Heading::Before => "numbers of learns with a later one's fault too",
+            Heading::Strange => "places of 11 in each step",
+            Heading::Absent => "places of 12 in each step",
+            Heading::Unfit => "places of 13 with each rule",
+            Heading::Listed => "places of 13 with each rule, by completions with every row",
             Heading::Events => "other events",
             Heading::TextNumbers => "numbers of texts",
             Heading::TextVerdicts => "verdicts of texts",
             Heading::Causes => "causes of malformed texts",
             Heading::Told => "numbers of lines for a person",
+            Heading::Fields => "fields that a person is told, with each number",
             Heading::Meant => "lines that were meant",
         }
     }
 }
 
 /// Events that are counted besides.
-pub const EVENTS: [&str; 17] = [
+pub const EVENTS: [&str; 20] = [
+    "11 behind a premise not on the trail",
+    "12 with a premise too many for the rule",
+    "12 behind every place that 13 can have",
     "late entries kept by a cut",
     "learned clauses used by a unit deduce",
     "learned clauses in a clash or a fail",
@@ -122,6 +184,7 @@ impl Stats {
     pub fn new() -> Self {
         let mut stats = Stats {
             counts: BTreeMap::new(),
+            unknown: 0,
         };
         stats.expect(Heading::Steps, &STEP_WORDS);
         for uses in [Heading::Deduces, Heading::Clashes, Heading::Fails] {
@@ -141,6 +204,7 @@ impl Stats {
         stats.expect_refusals();
         stats.expect_standing();
         stats.expect_before();
+        stats.expect_places();
         stats
     }
 
@@ -191,6 +255,34 @@ impl Stats {
         }
     }
 
+    /// Every place of 11, 12 and 13.
+    fn expect_places(&mut self) {
+        for (step, places) in STRANGE.iter().enumerate() {
+            self.expect_at(Heading::Strange, step, STEP_WORDS[step], places);
+        }
+        for step in INFERENCES.map(usize::from) {
+            self.expect_at(Heading::Absent, step, STEP_WORDS[step], &ABSENT);
+        }
+        for (rule, places) in UNFIT.iter().enumerate() {
+            for heading in [Heading::Unfit, Heading::Listed] {
+                self.expect_at(heading, rule, RULE_WORDS[rule], places);
+            }
+        }
+        for (number, places) in FIELDS {
+            self.expect_at(Heading::Fields, number, &number.to_string(), places);
+        }
+    }
+
+    fn expect_at(&mut self, heading: Heading, at: usize, word: &str, places: &[u16]) {
+        for &place in places {
+            self.expect_one(
+                heading,
+                located(at as u16, place),
+                format!("{word} at {place}"),
+            );
+        }
+    }
+
     fn add(&mut self, heading: Heading, at: u16, more: u64) {
         let count = self
             .counts
@@ -199,10 +291,11 @@ impl Stats {
         count.1 += more;
     }
 
-    /// Counts a run: its outcome, the steps that were allowed from the given row on,
-    /// and how it ended.
-    pub fn run(&mut self, (outcome, _, trail): &Ran, steps: &[u16], from: usize) {
-        let [verdict, allowed, number, entries] = *outcome;
+    /// Counts a run: its outcome, with how the slow checker found the place, the steps
+    /// that were allowed from the given row on, and how it ended.
+    pub fn run(&mut self, ran: &Ran, found: Place, steps: &[u16], from: usize) {
+        let (outcome, _, trail) = ran;
+        let [verdict, allowed, number, entries, place] = *outcome;
         self.add(Heading::Verdicts, verdict, 1);
         self.add(Heading::Numbers, number, 1);
         let mut learned = Vec::new();
@@ -219,13 +312,54 @@ impl Stats {
         }
         let refused = is_of_a_step(number);
         let read = usize::from(allowed) + usize::from(refused);
+        let trail: Vec<&[u16]> = trail.chunks(4).take(usize::from(entries)).collect();
         if let Some(row) = steps.chunks(9).take(read).next_back() {
             if refused && usize::from(row[0]) < STEP_WORDS.len() {
                 self.add(Heading::Refusals, refusal(row[0], number), 1);
+                self.place(row, number, place, found);
+                self.order(row, number, place, &trail);
             }
-            let trail: Vec<&[u16]> = trail.chunks(4).take(usize::from(entries)).collect();
             self.end(row, number, &trail);
         }
+    }
+
+    /// Counts the place of a row that was refused.
+    fn place(&mut self, row: &[u16], number: u16, place: u16, found: Place) {
+        match number {
+            11 => self.add(Heading::Strange, located(row[0], place), 1),
+            12 => self.add(Heading::Absent, located(row[0], place), 1),
+            13 => {
+                self.add(Heading::Unfit, located(row[1], place), 1);
+                match found {
+                    Place::Listed(_) => self.add(Heading::Listed, located(row[1], place), 1),
+                    Place::Unknown => self.unknown += 1,
+                    _ => (),
+                }
+            }
+            _ => (),
+        }
+    }
+
+    /// Counts the rows that have the fault of a later number further to the left: a
+    /// number is asked of all columns before the next.
+    fn order(&mut self, row: &[u16], number: u16, place: u16, trail: &[&[u16]]) {
+        if !INFERENCES.contains(&row[0]) {
+            return;
+        }
+        let before = &row[4..usize::from(place.max(5)) - 1];
+        let absent = |premise: &u16| trail.iter().all(|entry| entry[0] != *premise);
+        let behind = number == 11 && before.iter().any(absent);
+        self.event("11 behind a premise not on the trail", behind.into());
+        let Some(&last) = UNFIT
+            .get(usize::from(row[1]))
+            .and_then(|places| places.last())
+        else {
+            return;
+        };
+        let too_many = number == 12 && last < 9 && row[usize::from(last) - 1] != X;
+        self.event("12 with a premise too many for the rule", too_many.into());
+        let behind = number == 12 && place > last;
+        self.event("12 behind every place that 13 can have", behind.into());
     }
 
     fn step(&mut self, row: &[u16]) {
@@ -300,6 +434,10 @@ impl Stats {
         if checked.outcome.number != 0 {
             self.add(Heading::Told, checked.outcome.number, 1);
         }
+        if let number @ 11..=13 = checked.outcome.number {
+            let at = located(number, checked.field as u16);
+            self.add(Heading::Fields, at, 1);
+        }
         if let Some(meant) = checked.meant {
             self.add(Heading::Meant, meant as u16, 1);
         }
@@ -334,7 +472,22 @@ impl Stats {
         for name in &missing {
             println!("never occurred: {name}");
         }
-        missing.is_empty()
+        missing.is_empty() && self.enough_places()
+    }
+
+    /// Whether the slow checker found at least two of three places of 13.
+    fn enough_places(&self) -> bool {
+        let all: u64 = self.counted(Heading::Unfit);
+        let listed = self.counted(Heading::Listed);
+        let found = all - self.unknown;
+        println!("{found} of {all} places of 13 by completions, {listed} of them with every row");
+        3 * found >= 2 * all
+    }
+
+    fn counted(&self, heading: Heading) -> u64 {
+        let of_heading = |&(key, _): &(&(Heading, u16), _)| key.0 == heading;
+        let counts = self.counts.iter().filter(of_heading);
+        counts.map(|(_, (_, count))| count).sum()
     }
 }
 
@@ -346,6 +499,27 @@ fn refusal(step: u16, number: u16) -> u16 {
 /// The place of a step in the counts by where its premises and opposite stand.
 fn standing(step: u16, premises: usize, opposite: usize) -> u16 {
     100 * step + (3 * premises + opposite) as u16
+}
+
+/// The place in the counts of a column of the rows of a step, or of a rule.
+fn located(of: u16, column: u16) -> u16 {
+    10 * of + column
+}
+
+/// Only 11, 12 and 13 have a place, and each only those of its table.
+pub fn expect_place(outcome: [u16; 5], steps: &[u16]) -> Result<(), String> {
+    let [_, allowed, number, _, place] = outcome;
+    let row = steps.chunks(9).nth(allowed.into()).unwrap_or_default();
+    let places = match number {
+        11 => STRANGE[usize::from(row[0])],
+        12 => &ABSENT,
+        13 => UNFIT[usize::from(row[1])],
+        _ => &[0],
+    };
+    match places.contains(&place) {
+        true => Ok(()),
+        false => Err(format!("plain gives {number} the place {place} in {row:?}")),
+    }
 }
 
 /// The place in the counts of a number of learn before a later one.

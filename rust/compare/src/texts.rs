@@ -4,7 +4,7 @@
 use crate::case::Case;
 use crate::learn::LEARN;
 use crate::rng::Rng;
-use crate::{compare_run, naive, naive_text, print, Session};
+use crate::{compare_run, naive, naive_text, numbers, print, run_with, Session};
 use plain::{Checked, Read};
 use std::fmt::Debug;
 use std::io::Write;
@@ -14,10 +14,10 @@ use std::process::{Command, Output, Stdio};
 type ReadText = fn(&[u8], &mut [Vec<u16>; 4]) -> Read;
 
 /// A text read and run, whoever does it, with the line for a person in a buffer.
-type CheckText = fn(&[u8], &mut [u8]) -> [u16; 4];
+type CheckText = fn(&[u8], &mut [u8]) -> [u16; 5];
 
-/// Texts of one kind have one verdict, one number and one cause in words.
-pub type Kind = (u16, u16, &'static str);
+/// Texts of one kind have one verdict, one number, one place and one cause in words.
+pub type Kind = (u16, u16, u16, &'static str);
 
 /// How many texts of each kind go through the program.
 const PROGRAM_TEXTS: u64 = 12;
@@ -73,6 +73,7 @@ pub fn compare_words() -> Result<(), String> {
             steps: 0,
             number,
             entries: 0,
+            place: 0,
         };
         outcome.meaning()
     };
@@ -111,7 +112,7 @@ impl Session {
         let checked = plain::check(&printed.text);
         if read.number == 0 {
             let case = read_case(&read, sheets);
-            let (outcome, ..) = compare_run(&case)?;
+            let ((outcome, ..), _) = compare_run(&case)?;
             self.stats.text_verdict(outcome[0]);
             self.learns(&printed.text, &case, outcome[1].into());
             expect_outcome(&printed.text, &checked, outcome)?;
@@ -132,11 +133,11 @@ impl Session {
         compare_check(rng, text, checked, SAID)?;
         let length = *rng.pick(&[0, 1, short, short, SAID - 1, SAID + 44]);
         compare_check(rng, text, checked, length)?;
-        let [verdict, _, number, _] = numbers(checked);
+        let [verdict, _, number, _, place] = numbers(checked.outcome);
         let Some(program) = &self.program else {
             return Ok(());
         };
-        let kind = (verdict, number, checked.cause());
+        let kind = (verdict, number, place, checked.cause());
         let through = self.programs.entry(kind).or_default();
         if *through < PROGRAM_TEXTS {
             *through += 1;
@@ -257,14 +258,10 @@ fn expect_sheets(
     Ok(())
 }
 
-fn numbers(checked: &Checked) -> [u16; 4] {
-    let out = checked.outcome;
-    [out.verdict, out.steps, out.number, out.entries]
-}
-
 /// A text checked at once has to end as it does read first and then run.
-fn expect_outcome(text: &[u8], checked: &Checked, outcome: [u16; 4]) -> Result<(), String> {
-    if numbers(checked) != outcome || checked.field != 0 || checked.why != plain::Why::Fine {
+fn expect_outcome(text: &[u8], checked: &Checked, outcome: [u16; 5]) -> Result<(), String> {
+    let told = (checked.field, checked.why);
+    if numbers(checked.outcome) != outcome || told != (outcome[4].into(), plain::Why::Fine) {
         let about = "plain's check and its reading and running differ";
         return Err(difference(about, text, checked, outcome));
     }
@@ -274,7 +271,8 @@ fn expect_outcome(text: &[u8], checked: &Checked, outcome: [u16; 4]) -> Result<(
 /// What the reader refuses has to be refused at once, in the same way.
 fn expect_refusal(text: &[u8], checked: &Checked, read: &Read) -> Result<(), String> {
     let place = (checked.line, checked.field, checked.why);
-    if numbers(checked) != [2, 0, read.number, 0] || place != (read.line, read.place, read.why) {
+    let outcome = [2, 0, read.number, 0, 0];
+    if numbers(checked.outcome) != outcome || place != (read.line, read.place, read.why) {
         let about = "plain's check and its reading differ";
         return Err(difference(about, text, checked, read));
     }
@@ -291,7 +289,7 @@ fn expect_line(text: &[u8], checked: &Checked) -> Result<(), String> {
     let line = checked.line as usize;
     let without = slow_check(&naive_text::cut(text, line - 1));
     let with = slow_check(&naive_text::cut(text, line));
-    if without[0] != 0 || with != numbers(checked) {
+    if without[0] != 0 || with[..] != numbers(checked.outcome)[..4] {
         let about = "the line of plain's check is not the one; without it and with it";
         return Err(difference(
             &format!("{checked:?}: {about}"),
@@ -338,22 +336,15 @@ fn other_line(text: &[u8], line: usize) -> (&'static str, Vec<u8>) {
     }
 }
 
-/// The outcome of a text that can be read.
+/// The outcome of a text that can be read, without the place.
 fn slow_check(text: &[u8]) -> [u16; 4] {
     let mut sheets = ROOM.map(|length| vec![0; length]);
     let read = naive_text::read(text, &mut sheets);
     if read.number != 0 {
         return [2, 0, read.number, 0];
     }
-    let mut case = read_case(&read, sheets);
-    naive::run(
-        &case.sorts,
-        &case.terms,
-        &case.inputs,
-        &case.steps,
-        &mut case.work,
-        &mut case.trail,
-    )
+    let ((outcome, _), ..) = run_with(&read_case(&read, sheets), naive::run);
+    outcome
 }
 
 /// Checks the text at once with everyone, the line in a buffer of the length full
@@ -369,7 +360,7 @@ fn compare_check(
         return Err(difference("too long a line", text, checked, line));
     }
     line.resize(length, 0);
-    let ours = (numbers(checked), line);
+    let ours = (numbers(checked.outcome), line);
     for (name, check) in checkers() {
         let mut said: Vec<u8> = (0..length).map(|_| rng.next() as u8).collect();
         let outcome = check(text, &mut said);
@@ -385,12 +376,10 @@ fn compare_check(
 
 /// The program has to print the outcome, and what a person is told as an error.
 fn through_program(program: &str, text: &[u8], checked: &Checked) -> Result<(), String> {
-    let [verdict, steps, number, entries] = numbers(checked);
-    let word = ["open", "refuted", "refused"][usize::from(verdict)];
-    let lines = format!("verdict steps code trail\n{word} {steps} {number} {entries}\n");
     let output = feed(program, text).map_err(|trouble| format!("{program}: {trouble}"))?;
     let printed = [output.stdout, output.stderr].map(|bytes| looks(&bytes));
-    let expected = [lines, checked.said()].map(|line| looks(line.as_bytes()));
+    let expected = [checked.outcome.listing(), checked.said()];
+    let expected = expected.map(|lines| looks(lines.as_bytes()));
     if printed != expected {
         let about = "the program printed as output and error, and should";
         return Err(difference(about, text, printed, expected));

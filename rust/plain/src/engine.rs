@@ -1,9 +1,12 @@
 //! The trail, the conflict and the steps.
 
+use crate::place::{FIRST_PREMISE, TERM};
 use crate::problem::{self, BadRow, Terms, AND, NOT, OR, PROP};
 use crate::rules::{Premises, View, RULES};
 use crate::set::Set;
-use crate::{BLANK, ENTRY_COLUMNS, INPUT_COLUMNS, MAX_TERMS, OPEN, REFUSED, REFUTED, STEP_COLUMNS};
+use crate::{
+    Outcome, BLANK, ENTRY_COLUMNS, INPUT_COLUMNS, MAX_TERMS, OPEN, REFUSED, REFUTED, STEP_COLUMNS,
+};
 
 /// The kinds of steps, in the order of their numbers.
 const DECIDE: u16 = 0;
@@ -100,21 +103,73 @@ impl State {
         Ok(())
     }
 
-    /// Runs the steps: verdict, steps allowed, number.
-    pub fn run(&mut self, steps: &[u16]) -> (u16, u16, u16) {
-        let mut allowed = 0;
+    /// Runs the steps and writes the entries that are left to the trail buffer.
+    pub fn run(&mut self, steps: &[u16], trail: &mut [u16]) -> Outcome {
+        let mut outcome = Outcome {
+            verdict: OPEN,
+            steps: 0,
+            number: 0,
+            entries: 0,
+            place: 0,
+        };
         for step in steps.as_chunks::<STEP_COLUMNS>().0 {
             match self.step(step) {
-                Ok(false) => allowed += 1,
-                Ok(true) => return (REFUTED, allowed + 1, 0),
-                Err(number) => return (REFUSED, allowed, number),
+                Ok(false) => outcome.steps += 1,
+                Ok(true) => {
+                    outcome.verdict = REFUTED;
+                    outcome.steps += 1;
+                    break;
+                }
+                Err(number) => {
+                    outcome.verdict = REFUSED;
+                    outcome.number = number;
+                    outcome.place = self.place(number, step);
+                    break;
+                }
             }
         }
-        (OPEN, allowed, 0)
+        outcome.entries = self.write(trail);
+        outcome
+    }
+
+    /// The column of a step refused with 11, 12 or 13 that went wrong, 0 for a step
+    /// refused with another number.
+    #[cold]
+    fn place(&self, number: u16, step: &[u16; STEP_COLUMNS]) -> u16 {
+        let [_, rule, term, value, premises @ ..] = *step;
+        let filled = premises.iter().filter(|&&premise| premise != BLANK);
+        let rows = filled.map(|&premise| self.row(premise));
+        let first = |fault: fn(&State, Option<u8>) -> bool| {
+            let before = rows.clone().take_while(|&row| !fault(self, row));
+            FIRST_PREMISE + before.count() as u16
+        };
+        match (number, self.row(term)) {
+            (11, None) => TERM,
+            (11, _) => first(|_, row| row.is_none()),
+            (12, _) => first(|state, row| row.is_some_and(|row| !state.is_assigned(row))),
+            (13, Some(row)) => {
+                let mut premises = [0; 5];
+                let mut len = 0;
+                for premise in rows.flatten() {
+                    premises[len] = premise;
+                    len += 1;
+                }
+                self.view().unfit_column(rule, row, value, &premises[..len])
+            }
+            _ => 0,
+        }
+    }
+
+    fn view(&self) -> View<'_> {
+        View {
+            rows: self.terms.rows,
+            terms: &self.terms.terms,
+            entries: &self.entries,
+        }
     }
 
     /// Writes the entries to the trail buffer and returns how many there are.
-    pub fn write(&self, trail: &mut [u16]) -> u16 {
+    fn write(&self, trail: &mut [u16]) -> u16 {
         let rows = trail.as_chunks_mut::<ENTRY_COLUMNS>().0;
         for (out, &row) in rows.iter_mut().zip(&self.order[..self.len]) {
             let entry = self.entry(row);
@@ -237,11 +292,7 @@ impl State {
         if !on_trail {
             return Err(12);
         }
-        let view = View {
-            terms: &self.terms.terms,
-            entries: &self.entries,
-        };
-        if !view.gives(rule, row, value, &premises) {
+        if !self.view().gives(rule, row, value, &premises) {
             return Err(13);
         }
         Ok((row, premises))

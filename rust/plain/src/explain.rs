@@ -17,7 +17,8 @@ pub enum Meant {
 }
 
 /// What became of a text: the outcome of the run, and where and why it was
-/// refused. Line and field count from 1 and are 0 where there is none. The
+/// refused. Line and field count from 1 and are 0 where there is none; the field of a
+/// step is its place. The
 /// reader's cause is `Fine` but for 31; another line was meant with 26 alone.
 #[derive(Clone, Copy, Debug, PartialEq, Eq)]
 pub struct Checked {
@@ -58,6 +59,22 @@ impl Checked {
     }
 }
 
+impl Outcome {
+    /// The two lines that a program prints: the names, then the verdict's word and the
+    /// other numbers.
+    pub fn listing(&self) -> String {
+        let word = ["open", "refuted", "refused"][usize::from(self.verdict)];
+        let Outcome {
+            steps,
+            number,
+            entries,
+            place,
+            ..
+        } = self;
+        format!("verdict steps code trail place\n{word} {steps} {number} {entries} {place}\n")
+    }
+}
+
 /// Reads a text and runs its steps. What the reader refuses is not run.
 pub fn check(text: &[u8]) -> Checked {
     let mut sorts = [0; SORT_COLUMNS * MAX_SORTS];
@@ -88,7 +105,7 @@ pub fn check(text: &[u8]) -> Checked {
     Checked {
         outcome,
         line: bad.map_or(0, |bad| line_of(&rows, bad.sheet.into(), bad.row.into())),
-        field: 0,
+        field: outcome.place.into(),
         why: Why::Fine,
         meant: bad
             .filter(|bad| bad.number == 26)

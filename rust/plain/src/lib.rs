@@ -9,6 +9,7 @@
 
 mod engine;
 mod explain;
+mod place;
 mod problem;
 mod rules;
 mod set;
@@ -53,13 +54,15 @@ pub const fn trail_numbers(terms: usize) -> usize {
 }
 
 /// The result of a run: verdict, steps allowed, number of the trouble (0 if
-/// none) and entries on the trail.
+/// none), entries on the trail, and with 11, 12 and 13 the place: the column, counted
+/// from 1, at which the step went wrong (0 with every other number).
 #[derive(Clone, Copy, Debug, PartialEq, Eq)]
 pub struct Outcome {
     pub verdict: u16,
     pub steps: u16,
     pub number: u16,
     pub entries: u16,
+    pub place: u16,
 }
 
 impl Outcome {
@@ -70,6 +73,7 @@ impl Outcome {
             steps: 0,
             number,
             entries: 0,
+            place: 0,
         }
     }
 }
@@ -106,19 +110,13 @@ fn run_to(
     let result = match engine::State::new(sorts, terms, inputs) {
         Err(bad) => (Outcome::unread(bad.number), Some(bad)),
         Ok(mut state) => {
-            let (verdict, steps, number) = state.run(steps);
-            let outcome = Outcome {
-                verdict,
-                steps,
-                number,
-                entries: state.write(trail),
-            };
+            let outcome = state.run(steps, trail);
             let refused = BadRow {
-                number,
+                number: outcome.number,
                 sheet: 3,
-                row: steps,
+                row: outcome.steps,
             };
-            (outcome, (number != 0).then_some(refused))
+            (outcome, (outcome.number != 0).then_some(refused))
         }
     };
     // This checker keeps its state on the stack; the workspace is lent for

@@ -8,19 +8,19 @@ use crate::MAX_TERMS;
 pub const RULES: u16 = 13;
 
 /// The rules, in the order of their numbers.
-const SAME: u16 = 0;
-const DIFFER: u16 = 1;
-const REFL: u16 = 2;
-const SYM: u16 = 3;
-const TRANS: u16 = 4;
-const NEG: u16 = 5;
-const PART: u16 = 6;
-const UNIT: u16 = 7;
-const EVAL: u16 = 8;
-const CONG: u16 = 9;
-const PRED: u16 = 10;
-const READ: u16 = 11;
-const SKIP: u16 = 12;
+pub const SAME: u16 = 0;
+pub const DIFFER: u16 = 1;
+pub const REFL: u16 = 2;
+pub const SYM: u16 = 3;
+pub const TRANS: u16 = 4;
+pub const NEG: u16 = 5;
+pub const PART: u16 = 6;
+pub const UNIT: u16 = 7;
+pub const EVAL: u16 = 8;
+pub const CONG: u16 = 9;
+pub const PRED: u16 = 10;
+pub const READ: u16 = 11;
+pub const SKIP: u16 = 12;
 
 /// The premises of a deduce, a clash or a fail; those past the length are 0.
 pub struct Premises {
@@ -44,16 +44,17 @@ impl Premises {
 /// What a rule looks at: the terms and what the trail says of each.
 #[derive(Clone, Copy)]
 pub struct View<'a> {
+    pub rows: u16,
     pub terms: &'a [Term; MAX_TERMS],
     pub entries: &'a [Entry; MAX_TERMS],
 }
 
 impl<'a> View<'a> {
-    fn term(self, row: u8) -> &'a Term {
+    pub fn term(self, row: u8) -> &'a Term {
         &self.terms[usize::from(row)]
     }
 
-    fn value(self, row: u8) -> u16 {
+    pub fn value(self, row: u8) -> u16 {
         self.entries[usize::from(row)].value
     }
 
@@ -70,7 +71,7 @@ impl<'a> View<'a> {
     }
 
     /// The two sides of a row, if it is an equality.
-    fn sides(self, row: u8) -> Option<(u8, u8)> {
+    pub fn sides(self, row: u8) -> Option<(u8, u8)> {
         let term = self.term(row);
         (term.head == EQ).then_some((term.args[0], term.args[1]))
     }
@@ -111,7 +112,7 @@ impl<'a> View<'a> {
         }
     }
 
-    fn negates(self, row: u8, of: u8) -> bool {
+    pub fn negates(self, row: u8, of: u8) -> bool {
         let term = self.term(row);
         term.head == NOT && term.args[0] == of
     }
@@ -134,7 +135,7 @@ impl<'a> View<'a> {
         let term = self.term(whole);
         let args = term.args();
         if self.value(whole) != value
-            || term.head != if value == 1 { OR } else { AND }
+            || term.head != unit_head(value)
             || others.len() + 1 != args.len()
         {
             return false;
@@ -176,7 +177,7 @@ impl<'a> View<'a> {
     }
 
     /// select(store(a,i,v),i) = v.
-    fn read(self, row: u8) -> bool {
+    pub fn read(self, row: u8) -> bool {
         self.sides(row).is_some_and(|(left, right)| {
             self.select_of_store(left)
                 .is_some_and(|([_, i, v], at)| at == i && right == v)
@@ -184,7 +185,7 @@ impl<'a> View<'a> {
     }
 
     /// i=j, false, gives select(store(a,i,v),j) = select(a,j).
-    fn skip(self, row: u8, premise: u8) -> bool {
+    pub fn skip(self, row: u8, premise: u8) -> bool {
         let Some((left, right)) = self.sides(row) else {
             return false;
         };
@@ -209,10 +210,15 @@ impl<'a> View<'a> {
 }
 
 /// The connective that, having the value, gives each argument that value.
-fn part_head(value: u16) -> u16 {
-    if value == 1 {
-        AND
-    } else {
-        OR
+pub fn part_head(value: u16) -> u16 {
+    match value {
+        1 => AND,
+        _ => OR,
     }
+}
+
+/// The connective that gives an argument the value, its own, if all others have the
+/// opposite.
+pub fn unit_head(value: u16) -> u16 {
+    part_head(1 - value)
 }

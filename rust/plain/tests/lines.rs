@@ -55,6 +55,17 @@ fn nothing_to_say() {
     assert_eq!(said_of("fail cong g true e - - - -\n", ""), "");
     let refuted = check(TEXT.as_bytes()).outcome;
     assert_eq!((refuted.verdict, refuted.steps, refuted.entries), (1, 1, 2));
+    let lines = "verdict steps code trail place\nrefuted 1 0 2 0\n";
+    assert_eq!(refuted.listing(), lines);
+    let refused = check(TEXT.replace("cong g true e", "cong g true g").as_bytes());
+    let lines = "verdict steps code trail place\nrefused 0 13 2 5\n";
+    assert_eq!(refused.outcome.listing(), lines);
+    assert_eq!(
+        refused.said(),
+        "line 19, field 5: 13 the rule does not fit\n"
+    );
+    let lines = "verdict steps code trail place\nrefused 0 31 0 0\n";
+    assert_eq!(check(b"").outcome.listing(), lines);
 }
 
 #[test]
@@ -283,7 +294,7 @@ fn learn_said(row: &str) -> String {
 fn lines_of_learn() {
     assert_eq!(
         said(LEARNT),
-        "line 28: 12 a premise is not on the trail\n",
+        "line 28, field 5: 12 a premise is not on the trail\n",
         "the clause is learned, and what it does not give is not there"
     );
     let level =
@@ -311,11 +322,11 @@ fn lines_of_learn() {
         ("8 - either 0 p q - - -", columns),
         (
             "learn - nor 0 p q - - -",
-            "line 27: 11 the term or a premise is no row\n",
+            "line 27, field 3: 11 the term or a premise is no row\n",
         ),
         (
             "learn - either 0 p x - - -",
-            "line 27: 11 the term or a premise is no row\n",
+            "line 27, field 6: 11 the term or a premise is no row\n",
         ),
         (
             "learn - either 0 p swap - - -",
