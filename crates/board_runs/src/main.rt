@@ -1,5 +1,5 @@
 // The runs on the small board and the ceilings, through the exported call. For each run a line: its name, the verdict, the steps
-// allowed, the number, the entries, and then each entry of the trail buffer as term, value, level and decision.
+// allowed, the number, the entries, the place, and then each entry of the trail buffer as term, value, level and decision.
 ghost use Prim.Native.Nat.{_<_, _≤_};
 ghost use lib.ListN.{length};
 use calculus::Outcome;
@@ -90,6 +90,7 @@ fn print_outcome(name: &[u8], o: Outcome) {
     print_number(o.steps);
     print_number(o.number);
     print_number(o.entries);
+    print_number(o.place);
 }
 
 // Entry i of the trail buffer, where there is one.
@@ -184,6 +185,15 @@ fn table() {
     run(b"learn by one member/71/0.20.....0.50.....287025...8.702....");
 }
 
+// Rows that went wrong, each at another place.
+fn places() {
+    run(b"no such premise/21/19512a...");
+    run(b"premise absent//19512....");
+    run(b"cong of another term/21/19212....");
+    run(b"cong false/21/19502....");
+    run(b"a premise too many/21/195122...");
+}
+
 // ---- ceilings
 
 // A term sheet of free constants, all of them different.
@@ -217,8 +227,9 @@ fn ceilings() {
     run_lines(b"4N-1 numbers//", 76, 31);
 }
 
-// Every row of the table in order, then the ceilings.
+// Every row of the table in order, then the places and the ceilings.
 fn main() {
     table();
+    places();
     ceilings();
 }
