@@ -16,7 +16,8 @@ use Rattle.calculus.specs.Sorts.{sortRefusal, sortsRefusal}
 use Rattle.calculus.specs.Terms.{termRefusal, termsRefusal}
 use Rattle.calculus.specs.Inputs.{inputRefusal, inputsRefusal}
 use Rattle.calculus.specs.Steps as Steps
-use Rattle.calculus.specs.Steps.{State, Answer, allowed, refuted, refused, answer, rowRefusal, step, kindOf, stepBy, stepAt}
+use Rattle.calculus.specs.Place.{placeOf}
+use Rattle.calculus.specs.Steps.{State, trailOf, Answer, allowed, refuted, refused, answer, rowRefusal, step, kindOf, stepBy, stepAt}
 use Rattle.calculus.specs.Run.{Ending, follow, run, start, callRefusal, endingOf, ending, outcome}
 use Rattle.calculus.specs.Blame.{ownNumbers, numbersOf, Between, OfStep, NoneOr, Blame}
 use Rattle.calculus.proofs.Facts.{both-true, all-at, has-at}
@@ -139,14 +140,40 @@ module _ (ts log : List ℕ) where
       let e : n + suc k ≡ suc n + k = omega arith in
       follow-blame _ _ s n (n + suc k) _ (step-blame ts s (stepAt log n)) (omega arith) (λ s′. rw e (run-blame s′ (suc n) k))
 
+  -- its place is that of its number in that row, at the trail that is left
+  abbrev EndPlace : Ending → Type 0
+  EndPlace e = e .place ≡ placeOf ts (trailOf (e .state)) (stepAt log (e .steps)) (e .number)
+
+  follow-place : (go : State → Ending) (s : State) (n : ℕ) (a : Answer) → ((s′ : State) → EndPlace (go s′))
+      → EndPlace (follow go (placeOf ts (trailOf s) (stepAt log n)) s n a)
+  unfolding follow placeOf
+  follow-place go s n (allowed s′) k = k s′
+  follow-place go s n refuted k = refl
+  follow-place go s n (refused c) k = refl
+
+  run-place : (s : State) (n k : ℕ) → EndPlace (run ts log s n k)
+  unfolding run placeOf
+  run-place s n zero = refl
+  run-place s n (suc k) = follow-place _ s n _ (λ s′. run-place s′ (suc n) k)
+
 -- ---- the call
 
 module _ (x : Call) (ok : callRefusal x ≡ 0) where
+  ended-place : EndPlace (x .terms) (x .steps) (ending x)
+  unfolding ending endingOf
+  ended-place = rw ok (run-place (x .terms) (x .steps) (start x) 0 (stepRows (x .steps)))
+
   ended : EndBlame (x .terms) (x .steps) (ending x) (stepRows (x .steps))
   unfolding ending endingOf
   ended =
       let e : 0 + stepRows (x .steps) ≡ stepRows (x .steps) = omega arith in
       rw ok (rw e at (run-blame (x .terms) (x .steps) (start x) 0 (stepRows (x .steps))))
+
+-- refused before any step
+away-place : (x : Call) (c : ℕ) → callRefusal x ≡ c → (c ≡ 0 → ⊥) → ending x .place ≡ 0
+unfolding ending endingOf
+away-place x zero e h = absurd (h refl)
+away-place x (suc c) e h = rw e
 
 pub blame : (x : Call) → Blame x
 unfolding outcome
@@ -158,6 +185,8 @@ blame x =
       inputs = inputs-blame (x .terms) (x .inputs);
       log = λ ok z. ended x ok z .0;
       row = λ ok z. ended x ok z .1;
+      place = λ ok. ended-place x ok;
+      nowhere = λ bad. away-place x (callRefusal x) refl bad;
     }
 
 -- a step's number is 9 or more

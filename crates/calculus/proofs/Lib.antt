@@ -17,4 +17,5 @@ pub mod Runs
 pub mod Slips
 pub mod Order
 pub mod Learning
+pub mod Places
 pub mod Blame

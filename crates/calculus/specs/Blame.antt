@@ -1,4 +1,4 @@
--- Who can cause which number: the four groups of document 01, and of the log's author by the step.
+-- Who can cause which number: the four groups of document 01, and of the log's author by the step and the column.
 use mathlib.Core.Path.{_≡_}
 use mathlib.Core.List.{List, [], _∷_}
 use Prim.Native.Nat.{ℕ, _≤_, _<_}
@@ -10,8 +10,9 @@ use Rattle.calculus.specs.Sheets.{Call, stepRows, lengthRefusal}
 use Rattle.calculus.specs.Sorts.{sortsRefusal}
 use Rattle.calculus.specs.Terms.{termsRefusal}
 use Rattle.calculus.specs.Inputs.{inputsRefusal}
-use Rattle.calculus.specs.Steps.{stepAt, kindOf}
-use Rattle.calculus.specs.Run.{callRefusal, outcome}
+use Rattle.calculus.specs.Steps.{trailOf, stepAt, kindOf}
+use Rattle.calculus.specs.Place.{placeOf}
+use Rattle.calculus.specs.Run.{callRefusal, ending, outcome}
 
 -- the numbers of a step's own tests, in their order
 abbrev pub ownNumbers : Kind → List ℕ
@@ -52,3 +53,7 @@ pub record Blame (x : Call) : Type 0 where
   -- the log's author, by the row behind those that were allowed
   pub log : callRefusal x ≡ 0 → NoneOr (OfStep (kindOf (stepAt (x .steps) (outcome x .steps) .step))) (outcome x .number)
   pub row : callRefusal x ≡ 0 → (outcome x .number ≡ 0 → ⊥) → outcome x .steps < stepRows (x .steps)
+  -- where in that row: the trail is the one that the run leaves; elsewhere there is no place
+  pub place : callRefusal x ≡ 0
+      → outcome x .place ≡ placeOf (x .terms) (trailOf (ending x .state)) (stepAt (x .steps) (outcome x .steps)) (outcome x .number)
+  pub nowhere : (callRefusal x ≡ 0 → ⊥) → outcome x .place ≡ 0
