@@ -53,6 +53,10 @@ with w a = record { row = a; value = w }
 unfoldable pub freeValues : ℕ
 freeValues = 65536
 
+-- how many columns to the right of column c are open to rows: after a blank there are blanks only
+abbrev pub openAfter : List Premise → ℕ → ℕ
+openAfter ps c = cond (ltb (length ps) (c - valueColumn)) 0 (lastColumn - c)
+
 module _ (ts : List ℕ) (k : Rule) (l : ℕ) where
   -- the rule gives l the value v from the premises ps and, in the n columns to their right, rows of the term sheet and then blanks;
   -- each of these rows has a free value
@@ -60,10 +64,6 @@ module _ (ts : List ℕ) (k : Rule) (l : ℕ) where
   completes zero v ps = fits ts k l v ps
   completes (suc n) v ps =
       fits ts k l v ps || somewhere (termRows ts) (λ a. somewhere freeValues (λ w. completes n v (ps ++ with w a ∷ [])))
-
-  -- how many columns to the right of column c are open to rows: after a blank there are blanks only
-  abbrev pub openAfter : List Premise → ℕ → ℕ
-  openAfter ps c = cond (ltb (length ps) (c - valueColumn)) 0 (lastColumn - c)
 
   -- the row with value v and premises ps can be completed, where the columns up to c stand; at the term the value is open, 0 or 1
   unfoldable pub completable : ℕ → List Premise → ℕ → Bool

@@ -3,7 +3,6 @@ use mathlib.Core.Path.{_≡_, refl, _∙_}
 use mathlib.Core.Bool.{Bool, _&&_}
 use mathlib.Core.List.{List, [], _∷_, _++_, map}
 use Prim.Native.Nat.{ℕ}
-use lib.ListN.{length}
 use lib.Dec.{T, eqb, leb}
 use Rattle.calculus.specs.declared.Premise.{Premise}
 use Rattle.calculus.specs.declared.Rule.{Rule}
@@ -205,11 +204,11 @@ sought x = foundPlace (x .terms) (x .rule) (x .term) (x .value) (x .given)
 abbrev found : Slip → Bool
 found x =
     let ps = x .given in
-    leb (length ps) 5 && (all (isRow (x .terms)) ps && (all small ps && (leb (x .value) 1 && eqb (sought x) (x .place))))
+    all (isRow (x .terms)) ps && (all small ps && (leb (x .value) 1 && eqb (sought x) (x .place)))
 
 place-is : (x : Slip) → T (found x) → meant x ≡ x .place
 place-is x h =
-    let G : Legible (x .terms) (x .value) (x .given) = record { five = search facts; rows = search facts; values = search facts; truth = search facts } in
+    let G : Legible (x .terms) (x .value) (x .given) = record { rows = search facts; values = search facts; truth = search facts } in
     let e : sought x ≡ x .place = search facts in
     search-finds-places (x .terms) (x .rule) (x .term) (x .value) (x .given) G ∙ e
 

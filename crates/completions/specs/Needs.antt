@@ -11,7 +11,7 @@ use Rattle.calculus.specs.Terms.{args, arg}
 use Rattle.calculus.specs.Rules.{isEq, allBut}
 use Rattle.calculus.specs.Place.{with}
 
--- the rules whose first premise the term and its value do not settle: trans, neg, part, unit, pred
+-- the rules whose first premise the term and its value do not settle
 abbrev pub searched : Rule → Bool
 searched Same = false
 searched Differ = false
@@ -28,8 +28,7 @@ searched Read = false
 searched Skip = false
 searched Unlisted = false
 
--- in how many ways the premises may follow from term, value and first premise: for unit by the position of the term, for eval with the open
--- arguments all false or all true
+-- in how many ways the premises may follow: unit's by the position of the term, eval's with all arguments false or all true
 abbrev pub ways : Rule → ℕ
 ways Same = 1
 ways Differ = 1
@@ -57,8 +56,7 @@ module _ (ts : List ℕ) where
   equations (a ∷ xs) [] = []
   equations (a ∷ xs) (b ∷ ys) = with 1 (equation a b) ∷ equations xs ys
 
-  -- the premises from which rule k gives l the value v, in the i-th way; where k's first premise is searched it is the row of f,
-  -- and values that are free follow from the value of f
+  -- the premises from which the rule gives l the value v in the i-th way; f has the row of a first premise that is searched, and tells free values
   unfoldable pub needs : Rule → ℕ → ℕ → Premise → ℕ → List Premise
   needs Same l v f i = with (f .value) (arg ts l 0) ∷ with (f .value) (arg ts l 1) ∷ []
   needs Differ l v f i = with (f .value) (arg ts l 0) ∷ with (opposite (f .value)) (arg ts l 1) ∷ []

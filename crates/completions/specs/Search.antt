@@ -1,4 +1,4 @@
--- Whether a row can still be completed, by a search among the rows of the term sheet, and the place that this search finds.
+-- Whether a row can be completed, by a search among the rows of the term sheet, and the place that the search finds.
 use mathlib.Core.Path.{_≡_}
 use mathlib.Core.Bool.{Bool, not, _&&_, _||_, cond}
 use mathlib.Core.List.{List, [], _∷_}
@@ -13,7 +13,7 @@ use Rattle.calculus.specs.Rules.{fits}
 use Rattle.calculus.specs.Place.{termColumn, valueColumn, freeValues, with, unfitPlace}
 use Rattle.completions.specs.Needs.{searched, ways, needs}
 
--- qs, and from the column after them on what ps has there
+-- qs, and in the columns after them what ps has there
 abbrev pub over : List Premise → List Premise → List Premise
 over [] ps = ps
 over (q ∷ qs) [] = q ∷ qs
@@ -36,29 +36,28 @@ module _ (ts : List ℕ) where
   unfoldable pub followed : Rule → ℕ → ℕ → List Premise → Premise → Bool
   followed k l v qs f = somewhere (ways k) (λ i. serves k l v (over qs (needs ts k l v f i)))
 
-  -- how many rows are tried as a first premise that is open
+  -- how many rows are tried as the first premise where none is known
   abbrev pub tried : Rule → ℕ
   tried k = cond (searched k) (termRows ts) 1
 
-  -- the premises qs, or none, can be completed
+  -- the known premises can be completed
   unfoldable pub extensible : Rule → ℕ → ℕ → List Premise → Bool
   extensible k l v [] = somewhere (tried k) (λ r. followed k l v [] (with 0 r))
   extensible k l v (q ∷ qs) = followed k l v (q ∷ qs) q
 
-  -- the columns up to c can be completed; after a blank nothing more counts
+  -- the columns up to c can be completed; after a blank the row stands as it is
   unfoldable pub findable : Rule → ℕ → ℕ → List Premise → ℕ → Bool
   findable k l v ps c =
       cond (ltb c valueColumn)
       (extensible k l 0 [] || extensible k l 1 [])
       (cond (ltb (length ps) (c - valueColumn)) (fits ts k l v ps) (extensible k l v (take (c - valueColumn) ps)))
 
-  -- the first column from the term on that cannot
+  -- the first column, from the term on, where this fails
   unfoldable pub foundPlace : Rule → ℕ → ℕ → List Premise → ℕ
   foundPlace k l v ps = termColumn + firstWhere 7 (λ j. not (findable k l v ps (termColumn + j)))
 
-  -- what the numbers before 13 leave of a row's premises
+  -- what the numbers before 13 leave of a row's value and premises
   pub record Legible (v : ℕ) (ps : List Premise) : Type 0 where
-    pub five : length ps ≤ 5
     pub rows : T (all isRow ps)
     pub values : T (all small ps)
     pub truth : v ≤ 1

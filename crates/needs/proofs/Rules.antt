@@ -80,7 +80,7 @@ module _ (ts : List ℕ) (x : Known) (c : Columns) where
     unfolding needs
     part-needs p = one ∙ rw p
 
-    module _ {e : Term} (row : e ≡ termAt ts (x .term)) where
+    module _ {e : Term} (row : e ≡ termAt ts (x .term .0)) where
       pub sym-needs : p ≡ with 1 (equation ts (e .b) (e .a)) → listed c ≡ needsOf ts Symmetry x
       unfolding needs arg cells
       sym-needs p = one ∙ rw (p, row)
@@ -90,7 +90,7 @@ module _ (ts : List ℕ) (x : Known) (c : Columns) where
       unfolding needs arg cells
       skip-needs s a r p = one ∙ rw (p, r, a, s, row)
 
-  module _ {e : Term} (row : e ≡ termAt ts (x .term)) where
+  module _ {e : Term} (row : e ≡ termAt ts (x .term .0)) where
     module _ {p q : Premise} (two : listed c ≡ p ∷ q ∷ []) where
       pub same-needs : p ≡ with (x .first .value) (e .a) → q ≡ with (x .first .value) (e .b) → listed c ≡ needsOf ts Same x
       unfolding needs arg cells

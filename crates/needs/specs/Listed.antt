@@ -30,4 +30,4 @@ threeOf e a b c = record { head = e .head; sort = e .sort; a = a; b = b; c = c; 
 
 -- the premises that rule k needs
 abbrev pub needsOf : List ℕ → Rule → Known → List Premise
-needsOf ts k x = needs ts k (x .term) (x .value) (x .first) (x .way)
+needsOf ts k x = needs ts k (x .term .0) (x .value) (x .first) (x .way)

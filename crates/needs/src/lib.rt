@@ -34,17 +34,17 @@ pub struct Columns {
 
 // What the premises follow from: the term, its value, the first premise, and the way where there are several.
 pub struct Known {
-    pub term: u16,
+    pub term: Row,
     pub value: u16,
     pub first: Premise,
     pub way: u16,
 }
 
 // Row a with value w.
-fn with(w: u16, a: u16) -> Premise
-    ensures { λ r. ⌜ r ≡ with w a ⌝ }
+fn with(w: u16, a: Row) -> Premise
+    ensures { λ r. ⌜ r ≡ with w (a .0) ⌝ }
 {
-    Premise { row: a, value: w }
+    Premise { row: a.0, value: w }
 }
 
 // The other truth value.
@@ -58,7 +58,10 @@ fn other(v: u16) -> u16
 fn none() -> Columns
     ensures { λ r. ⌜ listed r ≡ [] ⌝ }
 {
-    let p = with(0, BLANK);
+    let p = Premise {
+        row: BLANK,
+        value: 0,
+    };
     Columns {
         count: 0,
         p,
@@ -141,12 +144,12 @@ fn count(e: Term) -> u16
 fn arguments(w: u16, e: Term) -> Columns
     ensures { λ r. ⌜ Four r (map (with w) (argsOf e)) ⌝ }
 {
-    let d = with(w, e.d);
+    let d = with(w, Row(e.d));
     Columns {
         count: count(e),
-        p: with(w, e.a),
-        q: with(w, e.b),
-        r: with(w, e.c),
+        p: with(w, Row(e.a)),
+        q: with(w, Row(e.b)),
+        r: with(w, Row(e.c)),
         s: d,
         t: d,
     }
@@ -189,25 +192,25 @@ fn but(i: u16, e: Term) -> Term
 // ---- equalities
 
 // The first row that is a = b; n where there is none.
-fn find_equation(terms: &[u16], n: u16, a: u16, b: u16) -> u16
+fn find_equation(terms: &[u16], n: u16, a: Row, b: Row) -> Row
     requires { ⌜ n ≡ termRows (now terms) ⌝ }
-    ensures { λ r. ⌜ r ≡ equation (now (terms .entry)) a b ⌝ }
+    ensures { λ r. ⌜ r .0 ≡ equation (now (terms .entry)) (a .0) (b .0) ⌝ }
 {
     let mut e: u16 = 0;
     while e < n {
         let t = term_at(terms, Row(e));
-        if is_eq(t, Row(a), Row(b)) {
-            return e;
+        if is_eq(t, a, b) {
+            return Row(e);
         }
         e += 1;
     }
-    n
+    Row(n)
 }
 
 // The true equality of a and b.
-fn equal(terms: &[u16], n: u16, a: u16, b: u16) -> Premise
+fn equal(terms: &[u16], n: u16, a: Row, b: Row) -> Premise
     requires { ⌜ n ≡ termRows (now terms) ⌝ }
-    ensures { λ r. ⌜ r ≡ with 1 (equation (now (terms .entry)) a b) ⌝ }
+    ensures { λ r. ⌜ r ≡ with 1 (equation (now (terms .entry)) (a .0) (b .0)) ⌝ }
 {
     with(1, find_equation(terms, n, a, b))
 }
@@ -225,10 +228,10 @@ fn equalities(terms: &[u16], n: u16, f: Term, g: Term) -> Columns
     ensures { λ r. ⌜ Four r (equations (now (terms .entry)) (argsOf f) (argsOf g)) ⌝ }
 {
     let m = smaller(count(f), count(g));
-    let p = equal(terms, n, f.a, g.a);
-    let q = equal(terms, n, f.b, g.b);
-    let r = equal(terms, n, f.c, g.c);
-    let s = equal(terms, n, f.d, g.d);
+    let p = equal(terms, n, Row(f.a), Row(g.a));
+    let q = equal(terms, n, Row(f.b), Row(g.b));
+    let r = equal(terms, n, Row(f.c), Row(g.c));
+    let s = equal(terms, n, Row(f.d), Row(g.d));
     Columns {
         count: m,
         p,
@@ -245,16 +248,18 @@ fn equalities(terms: &[u16], n: u16, f: Term, g: Term) -> Columns
 fn same(terms: &[u16], x: Known) -> Columns
     ensures { λ r. ⌜ listed r ≡ needsOf (now (terms .entry)) Same x ⌝ }
 {
-    let e = term_at(terms, Row(x.term));
-    two(with(x.first.value, e.a), with(x.first.value, e.b))
+    let e = term_at(terms, x.term);
+    let v = x.first.value;
+    two(with(v, Row(e.a)), with(v, Row(e.b)))
 }
 
 // Both sides, with different values.
 fn differ(terms: &[u16], x: Known) -> Columns
     ensures { λ r. ⌜ listed r ≡ needsOf (now (terms .entry)) Differ x ⌝ }
 {
-    let e = term_at(terms, Row(x.term));
-    two(with(x.first.value, e.a), with(other(x.first.value), e.b))
+    let e = term_at(terms, x.term);
+    let v = x.first.value;
+    two(with(v, Row(e.a)), with(other(v), Row(e.b)))
 }
 
 // The equality the other way round.
@@ -262,8 +267,8 @@ fn sym(terms: &[u16], n: u16, x: Known) -> Columns
     requires { ⌜ n ≡ termRows (now terms) ⌝ }
     ensures { λ r. ⌜ listed r ≡ needsOf (now (terms .entry)) Symmetry x ⌝ }
 {
-    let e = term_at(terms, Row(x.term));
-    one(equal(terms, n, e.b, e.a))
+    let e = term_at(terms, x.term);
+    one(equal(terms, n, Row(e.b), Row(e.a)))
 }
 
 // The first premise, and the equality from its right side to the term's.
@@ -271,40 +276,42 @@ fn trans(terms: &[u16], n: u16, x: Known) -> Columns
     requires { ⌜ n ≡ termRows (now terms) ⌝ }
     ensures { λ r. ⌜ listed r ≡ needsOf (now (terms .entry)) Transitivity x ⌝ }
 {
-    let e = term_at(terms, Row(x.term));
-    let f = term_at(terms, Row(x.first.row));
-    let q = equal(terms, n, f.b, e.b);
-    two(with(1, x.first.row), q)
+    let e = term_at(terms, x.term);
+    let p = Row(x.first.row);
+    let f = term_at(terms, p);
+    let q = equal(terms, n, Row(f.b), Row(e.b));
+    two(with(1, p), q)
 }
 
 // The first premise, with the other value.
 fn neg(terms: &[u16], x: Known) -> Columns
     ensures { λ r. ⌜ listed r ≡ needsOf (now (terms .entry)) Negated x ⌝ }
 {
-    one(with(other(x.value), x.first.row))
+    one(with(other(x.value), Row(x.first.row)))
 }
 
 // The first premise, with the same value.
 fn part(terms: &[u16], x: Known) -> Columns
     ensures { λ r. ⌜ listed r ≡ needsOf (now (terms .entry)) Part x ⌝ }
 {
-    one(with(x.value, x.first.row))
+    one(with(x.value, Row(x.first.row)))
 }
 
 // The first premise with the same value, and its arguments with the other, without one of them.
 fn unit(terms: &[u16], x: Known) -> Columns
     ensures { λ r. ⌜ listed r ≡ needsOf (now (terms .entry)) Unit x ⌝ }
 {
-    let e = term_at(terms, Row(x.first.row));
+    let p = Row(x.first.row);
+    let e = term_at(terms, p);
     let rest = arguments(other(x.value), but(x.way, e));
-    front(with(x.value, x.first.row), rest)
+    front(with(x.value, p), rest)
 }
 
 // The term's arguments, all with the value that the way is.
 fn eval(terms: &[u16], x: Known) -> Columns
     ensures { λ r. ⌜ listed r ≡ needsOf (now (terms .entry)) Evaluation x ⌝ }
 {
-    let e = term_at(terms, Row(x.term));
+    let e = term_at(terms, x.term);
     arguments(x.way, e)
 }
 
@@ -313,7 +320,7 @@ fn cong(terms: &[u16], n: u16, x: Known) -> Columns
     requires { ⌜ n ≡ termRows (now terms) ⌝ }
     ensures { λ r. ⌜ listed r ≡ needsOf (now (terms .entry)) Congruence x ⌝ }
 {
-    let e = term_at(terms, Row(x.term));
+    let e = term_at(terms, x.term);
     let f = term_at(terms, Row(e.a));
     let g = term_at(terms, Row(e.b));
     equalities(terms, n, f, g)
@@ -324,10 +331,11 @@ fn pred(terms: &[u16], n: u16, x: Known) -> Columns
     requires { ⌜ n ≡ termRows (now terms) ⌝ }
     ensures { λ r. ⌜ listed r ≡ needsOf (now (terms .entry)) Predicate x ⌝ }
 {
-    let e = term_at(terms, Row(x.term));
-    let f = term_at(terms, Row(x.first.row));
+    let e = term_at(terms, x.term);
+    let p = Row(x.first.row);
+    let f = term_at(terms, p);
     let rest = equalities(terms, n, f, e);
-    front(with(x.value, x.first.row), rest)
+    front(with(x.value, p), rest)
 }
 
 // The false equality of the index that is stored at and the index that is read.
@@ -335,10 +343,10 @@ fn skip(terms: &[u16], n: u16, x: Known) -> Columns
     requires { ⌜ n ≡ termRows (now terms) ⌝ }
     ensures { λ r. ⌜ listed r ≡ needsOf (now (terms .entry)) Skip x ⌝ }
 {
-    let e = term_at(terms, Row(x.term));
+    let e = term_at(terms, x.term);
     let s = term_at(terms, Row(e.a));
     let a = term_at(terms, Row(s.a));
-    one(with(0, find_equation(terms, n, a.b, s.b)))
+    one(with(0, find_equation(terms, n, Row(a.b), Row(s.b))))
 }
 
 // The premises that the rule needs.

@@ -114,21 +114,11 @@ first-listed m x h = stated-take m (x .p ∷ x .q ∷ x .r ∷ x .s ∷ x .t ∷
 
 -- ---- the answer
 
-stated-length : (ps : List Premise) → length (stated ps) ≤ length ps
-unfolding stated
-stated-length [] = omega arith
-stated-length (p ∷ ps) = go (gap p) (stated-length ps)
-  where
-    go : (g : Bool) → length (stated ps) ≤ length ps → length (cond g [] (p ∷ stated ps)) ≤ suc (length ps)
-    go true h = omega arith
-    go false h = omega arith
-
 -- what the search finds is the place
 pub place-is : (ts : List ℕ) (k : Rule) (x : Claim) {n m : ℕ} → Tested ts n x → Counted x m
     → foundPlace ts k (x .term .0) (x .value) (premisesOf x) ≡ unfitPlace ts k (x .term .0) (x .value) (premisesOf x)
 place-is ts k x h s =
-    let five = stated-length (x .p ∷ x .q ∷ x .r ∷ x .s ∷ x .t ∷ []) in
-    sym (search-finds-places ts k (x .term .0) (x .value) (premisesOf x) (record { five = five; rows = h .listed; values = s .values; truth = h .truth }))
+    sym (search-finds-places ts k (x .term .0) (x .value) (premisesOf x) (record { rows = h .listed; values = s .values; truth = h .truth }))
 
 module _ (ts : List ℕ) (k : Rule) (x : Claim) {b : Bool} (is : b ≡ allows ts k x) where
   pub test-fits : (c : ℕ) → b ≡ true → Fits ≡ fitOf (allows ts k x) c

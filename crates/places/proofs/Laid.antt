@@ -10,6 +10,7 @@ use mir.Syntax.{w16}
 use mir.Val.{Fits}
 use borrow.Author.Tests.{ne-eqb, ltb-true, lt-ltb, lt-leb, not-true, not-false}
 use Rattle.calculus.specs.declared.Premise.{Premise}
+use Rattle.calculus.specs.declared.Row.{Row}
 use Rattle.calculus.specs.declared.Rule.{Rule}
 use Rattle.calculus.specs.Lists.{all}
 use Rattle.calculus.specs.Sheets.{blank, termRows}
@@ -139,26 +140,27 @@ stated-mix n l (suc m) (x ∷ xs) (y ∷ ys) h g e =
 abbrev without : Columns
 without = record { count = 0; p = noPremise; q = noPremise; r = noPremise; s = noPremise; t = noPremise }
 
-claim-listed : (n : ℕ) → n ≤ blank → (l v : ℕ) (x : Columns) → all (λ p. ltb (p .row) n) (listed x) ≡ true → premisesOf (claimOf l v x) ≡ listed x
+claim-listed : (n : ℕ) → n ≤ blank → (l : Row) (v : ℕ) (x : Columns) → all (λ p. ltb (p .row) n) (listed x) ≡ true → premisesOf (claimOf l v x) ≡ listed x
 unfolding listed
 claim-listed n b l v x h = ap stated (mixed x without (x .count)) ∙ stated-mix n b (x .count) (columnsOf x) (columnsOf without) h refl refl
 
-pub claimed : (l v : ℕ) (x : Columns) {p q r s t : Premise} → p ≡ cond (ltb 0 (x .count)) (x .p) noPremise → q ≡ cond (ltb 1 (x .count)) (x .q) noPremise
+pub claimed : (l : Row) (v : ℕ) (x : Columns) {p q r s t : Premise}
+    → p ≡ cond (ltb 0 (x .count)) (x .p) noPremise → q ≡ cond (ltb 1 (x .count)) (x .q) noPremise
     → r ≡ cond (ltb 2 (x .count)) (x .r) noPremise → s ≡ cond (ltb 3 (x .count)) (x .s) noPremise → t ≡ cond (ltb 4 (x .count)) (x .t) noPremise
-    → record { term = record { 0 = l }; value = v; p = p; q = q; r = r; s = s; t = t } ≡ claimOf l v x
+    → record { term = l; value = v; p = p; q = q; r = r; s = s; t = t } ≡ claimOf l v x
 claimed l v x p q r s t = rw (p, q, r, s, t)
 
 -- ---- premises that serve
 
-module _ (ts : List ℕ) (k : Rule) (l v : ℕ) (x : Columns) {n : ℕ} (rows : n ≡ termRows ts)
+module _ (ts : List ℕ) (k : Rule) (l : Row) (v : ℕ) (x : Columns) {n : ℕ} (rows : n ≡ termRows ts)
     {b : Bool} (all-rows : b ≡ all (λ p. ltb (p .row) n) (listed x)) where
   rows-of : all (isRow ts) (listed x) ≡ b
   rows-of = ap (λ m. all (λ p. ltb (p .row) m) (listed x)) (sym rows) ∙ sym all-rows
 
-  pub serves-not : not b ≡ true → false ≡ serves ts k l v (listed x)
+  pub serves-not : not b ≡ true → false ≡ serves ts k (l .0) v (listed x)
   serves-not e = rw (rows-of ∙ not-true b e)
 
-  pub serves-fits : {c : Claim} {r : Bool} → not b ≡ false → Fits w16 n → c ≡ claimOf l v x → r ≡ allows ts k c → r ≡ serves ts k l v (listed x)
+  pub serves-fits : {c : Claim} {r : Bool} → not b ≡ false → Fits w16 n → c ≡ claimOf l v x → r ≡ allows ts k c → r ≡ serves ts k (l .0) v (listed x)
   serves-fits e f c r =
       let h = not-false b e in
       let q = claim-listed n (let g = f .fits in omega arith) l v x (sym all-rows ∙ h) in

@@ -44,9 +44,6 @@ module _ (ts : List ℕ) (k : Rule) (l v : ℕ) where
     abbrev pub NoWay : ℕ → Type 0
     NoWay i = somewhere i way ≡ false
 
-    pub no-way-yet : NoWay 0
-    no-way-yet = refl
-
     module _ (i : ℕ) (rest laid : Columns) {b : Bool}
         (o : listed rest ≡ needs ts k l v f i) (d : listed laid ≡ over (listed known) (listed rest)) (s : b ≡ serves ts k l v (listed laid)) where
       served : way i ≡ b
@@ -72,9 +69,6 @@ module _ (ts : List ℕ) (k : Rule) (l v : ℕ) where
   -- no row below r does
   abbrev pub NoRow : ℕ → Type 0
   NoRow r = somewhere r begins ≡ false
-
-  pub no-row-yet : NoRow 0
-  no-row-yet = refl
 
   pub no-row-more : (r : ℕ) {b : Bool} → NoRow r → b ≡ followed ts k l v [] (with 0 r) → b ≡ false → NoRow (r + 1)
   no-row-more r h s e = some-more begins r h (sym s ∙ e)

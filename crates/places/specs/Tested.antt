@@ -5,6 +5,7 @@ use mathlib.Core.List.{List, []}
 use Prim.Native.Nat.{ℕ, _≤_}
 use lib.Dec.{T, ltb}
 use lib.ListN.{length}
+use Rattle.calculus.specs.declared.Row.{Row}
 use Rattle.calculus.specs.declared.Rule.{Rule}
 use Rattle.calculus.specs.Lists.{all}
 use Rattle.calculus.specs.Sheets.{termRows}
@@ -31,10 +32,10 @@ pub record Counted (x : Claim) (m : ℕ) : Type 0 where
   pub values : T (all small (premisesOf x))
 
 -- the claim that the premises of x give l the value v
-abbrev pub claimOf : ℕ → ℕ → Columns → Claim
+abbrev pub claimOf : Row → ℕ → Columns → Claim
 claimOf l v x =
     record {
-      term = record { 0 = l };
+      term = l;
       value = v;
       p = cond (ltb 0 (x .count)) (x .p) noPremise;
       q = cond (ltb 1 (x .count)) (x .q) noPremise;

@@ -90,12 +90,12 @@ fn counted(b: bool, p: Premise) -> Premise
 }
 
 // The claim that the premises give l the value v.
-fn claim(l: u16, v: u16, x: Columns) -> Claim
+fn claim(l: Row, v: u16, x: Columns) -> Claim
     ensures { λ r. ⌜ r ≡ claimOf l v x ⌝ }
 {
     let m = x.count;
     Claim {
-        term: Row(l),
+        term: l,
         value: v,
         p: counted(0 < m, x.p),
         q: counted(1 < m, x.q),
@@ -106,9 +106,9 @@ fn claim(l: u16, v: u16, x: Columns) -> Claim
 }
 
 // The premises are rows, and give l the value v.
-fn serves(terms: &[u16], n: u16, k: Rule, l: u16, v: u16, x: Columns) -> bool
+fn serves(terms: &[u16], n: u16, k: Rule, l: Row, v: u16, x: Columns) -> bool
     requires { ⌜ n ≡ termRows (now terms) ⌝ }
-    ensures { λ r. ⌜ r ≡ serves (now (terms .entry)) k l v (listed x) ⌝ }
+    ensures { λ r. ⌜ r ≡ serves (now (terms .entry)) k (l .0) v (listed x) ⌝ }
 {
     if !all_rows(n, x) {
         return false;
@@ -140,7 +140,7 @@ fn ways(k: Rule) -> u16
     }
 }
 
-// How many rows are tried as a first premise that is open.
+// How many rows are tried as the first premise where none is known.
 fn tried(n: u16, k: Rule) -> u16
     ensures { λ r. ⌜ r ≡ cond (searched k) n 1 ⌝ }
 {
@@ -163,9 +163,9 @@ fn tried(n: u16, k: Rule) -> u16
 }
 
 // Some way completes the known premises, the first being f.
-fn followed(terms: &[u16], n: u16, k: Rule, l: u16, v: u16, known: Columns, f: Premise) -> bool
+fn followed(terms: &[u16], n: u16, k: Rule, l: Row, v: u16, known: Columns, f: Premise) -> bool
     requires { ⌜ n ≡ termRows (now terms) ⌝ }
-    ensures { λ r. ⌜ r ≡ followed (now (terms .entry)) k l v (listed known) f ⌝ }
+    ensures { λ r. ⌜ r ≡ followed (now (terms .entry)) k (l .0) v (listed known) f ⌝ }
 {
     let w = ways(k);
     let mut i: u16 = 0;
@@ -190,11 +190,11 @@ fn followed(terms: &[u16], n: u16, k: Rule, l: u16, v: u16, known: Columns, f: P
 }
 
 // Whether row r may be the first premise. It is asked only of the rules that seek equalities besides: a row that is passed over saves finding them.
-fn begins(terms: &[u16], k: Rule, l: u16, r: u16) -> bool
-    ensures { λ b. ⌜ Begins (now (terms .entry)) k l r b ⌝ }
+fn begins(terms: &[u16], k: Rule, l: Row, r: Row) -> bool
+    ensures { λ b. ⌜ Begins (now (terms .entry)) k (l .0) (r .0) b ⌝ }
 {
-    let e = term_at(terms, Row(l));
-    let f = term_at(terms, Row(r));
+    let e = term_at(terms, l);
+    let f = term_at(terms, r);
     match k {
         Rule::Transitivity => (f.head == EQ) & (f.a == e.a),
         Rule::Predicate => f.head == e.head,
@@ -203,20 +203,20 @@ fn begins(terms: &[u16], k: Rule, l: u16, r: u16) -> bool
 }
 
 // Some way completes row r as the first premise, where none is known.
-fn begun(terms: &[u16], n: u16, k: Rule, l: u16, v: u16, none: Columns, r: u16) -> bool
+fn begun(terms: &[u16], n: u16, k: Rule, l: Row, v: u16, none: Columns, r: Row) -> bool
     requires { ⌜ (n ≡ termRows (now terms)) × (none .count ≡ 0) ⌝ }
-    ensures { λ b. ⌜ b ≡ followed (now (terms .entry)) k l v [] (with 0 r) ⌝ }
+    ensures { λ b. ⌜ b ≡ followed (now (terms .entry)) k (l .0) v [] (with 0 (r .0)) ⌝ }
 {
     if !begins(terms, k, l, r) {
         return false;
     }
-    followed(terms, n, k, l, v, none, Premise { row: r, value: 0 })
+    followed(terms, n, k, l, v, none, Premise { row: r.0, value: 0 })
 }
 
 // The known premises can be completed. Where none is known and the rule does not settle the first one, every row is tried as the first.
-fn extensible(terms: &[u16], n: u16, k: Rule, l: u16, v: u16, known: Columns) -> bool
+fn extensible(terms: &[u16], n: u16, k: Rule, l: Row, v: u16, known: Columns) -> bool
     requires { ⌜ n ≡ termRows (now terms) ⌝ }
-    ensures { λ r. ⌜ r ≡ extensible (now (terms .entry)) k l v (listed known) ⌝ }
+    ensures { λ r. ⌜ r ≡ extensible (now (terms .entry)) k (l .0) v (listed known) ⌝ }
 {
     if known.count != 0 {
         return followed(terms, n, k, l, v, known, known.p);
@@ -224,7 +224,7 @@ fn extensible(terms: &[u16], n: u16, k: Rule, l: u16, v: u16, known: Columns) ->
     let w = tried(n, k);
     let mut r: u16 = 0;
     while r < w {
-        if begun(terms, n, k, l, v, known, r) {
+        if begun(terms, n, k, l, v, known, Row(r)) {
             return true;
         }
         r += 1;
@@ -281,20 +281,20 @@ fn findable(terms: &[u16], n: u16, k: Rule, x: Claim, count: u16, c: u16) -> boo
     requires { ⌜ (n ≡ termRows (now terms)) × (count ≡ length (premisesOf x)) ⌝ }
     ensures { λ r. ⌜ r ≡ findable (now (terms .entry)) k (x .term .0) (x .value) (premisesOf x) c ⌝ }
 {
-    let l = x.term.0;
+    let l = x.term;
     if c < 4 {
         let none = first(0, x);
         return extensible(terms, n, k, l, 0, none) | extensible(terms, n, k, l, 1, none);
     }
     let m = c - 4;
-    // After a blank nothing more counts.
+    // After a blank the row stands as it is.
     if count < m {
         return rules::fits(terms, k, x);
     }
     extensible(terms, n, k, l, x.value, first(m, x))
 }
 
-// The first column from the term on that cannot.
+// The first column, from the term on, where this fails.
 fn place_of(terms: &[u16], n: u16, k: Rule, x: Claim) -> u16
     requires { ⌜ Tested (now terms) n x ⌝ }
     ensures { λ r. ⌜ r ≡ unfitPlace (now (terms .entry)) k (x .term .0) (x .value) (premisesOf x) ⌝ }

@@ -7,7 +7,7 @@ use Rattle.needs.proofs.find_equation.Statement.{statement}
 use Rattle.needs.proofs.find_equation.Tie as tie
 
 abbrev Inv-loop : tie.InvT-loop
-Inv-loop terms n a b e₀ e = (e ≤ n) × NoneBefore terms a b e
+Inv-loop terms n a b e₀ e = (e ≤ n) × NoneBefore terms (a .0) (b .0) e
 
 abbrev μ-loop : tie.MeasureT-loop
 μ-loop terms n a b e₀ e = n - e

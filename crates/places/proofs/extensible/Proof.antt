@@ -1,13 +1,14 @@
 -- `places::extensible` meets its contract.
+use mathlib.Core.Path.{refl}
 use borrow.Author.Needs.{needs}
 use Prim.Native.Nat.{_-_, _≤_}
 use native.Mathlib.Omega.{arith}
-use Rattle.places.proofs.Search.{NoRow, no-row-yet, no-row-more, extensible-known, extensible-yes, extensible-no}
+use Rattle.places.proofs.Search.{NoRow, no-row-more, extensible-known, extensible-yes, extensible-no}
 use Rattle.places.proofs.extensible.Statement.{statement}
 use Rattle.places.proofs.extensible.Tie as tie
 
 abbrev Inv-loop : tie.InvT-loop
-Inv-loop terms n k l v known w r₀ r = (r ≤ w) × NoRow terms k l v r
+Inv-loop terms n k l v known w r₀ r = (r ≤ w) × NoRow terms k (l .0) v r
 
 abbrev μ-loop : tie.MeasureT-loop
 μ-loop terms n k l v known w r₀ r = w - r
@@ -22,7 +23,7 @@ tried-requires : tie.Need-tried-requires Inv-loop μ-loop
 tried-requires c κs = search needs
 
 loop-holds : tie.Need-loop-holds Inv-loop μ-loop
-loop-holds c = (omega arith, search no-row-yet)
+loop-holds c = (omega arith, refl)
 
 begun-requires : tie.Need-begun-requires Inv-loop μ-loop
 begun-requires c κs = search needs

@@ -1,13 +1,14 @@
 -- `places::followed` meets its contract.
+use mathlib.Core.Path.{refl}
 use borrow.Author.Needs.{needs}
 use Prim.Native.Nat.{_-_, _≤_}
 use native.Mathlib.Omega.{arith}
-use Rattle.places.proofs.Search.{NoWay, no-way-yet, no-way-more, followed-yes, followed-no}
+use Rattle.places.proofs.Search.{NoWay, no-way-more, followed-yes, followed-no}
 use Rattle.places.proofs.followed.Statement.{statement}
 use Rattle.places.proofs.followed.Tie as tie
 
 abbrev Inv-loop : tie.InvT-loop
-Inv-loop terms n k l v known f w i₀ i = (i ≤ w) × NoWay terms k l v known f i
+Inv-loop terms n k l v known f w i₀ i = (i ≤ w) × NoWay terms k (l .0) v known f i
 
 abbrev μ-loop : tie.MeasureT-loop
 μ-loop terms n k l v known f w i₀ i = w - i
@@ -16,7 +17,7 @@ ways-requires : tie.Need-ways-requires Inv-loop μ-loop
 ways-requires c κs = search needs
 
 loop-holds : tie.Need-loop-holds Inv-loop μ-loop
-loop-holds c = (omega arith, search no-way-yet)
+loop-holds c = (omega arith, refl)
 
 needed-requires : tie.Need-needed-requires Inv-loop μ-loop
 needed-requires c κs = search needs
