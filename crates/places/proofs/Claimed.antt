@@ -49,11 +49,11 @@ stated-all f (p ∷ ps) h = let b = both-true (f p) (all f ps) h in go (gap p) (
     go true a b = refl
     go false a b = rw (a, b)
 
-module _ (x : Claim) (ranges : (Range w16 (x .term .0) × Unit {0}) × (Range w16 (x .value)
-    × (Sixteen (x .p) × (Sixteen (x .q) × (Sixteen (x .r) × (Sixteen (x .s) × (Sixteen (x .t) × Unit {0}))))))) where
+module _ (x : Claim) (ranges : (Range w16 (x .term .0) × Unit {0})
+    × (Sixteen (x .p) × (Sixteen (x .q) × (Sixteen (x .r) × (Sixteen (x .s) × (Sixteen (x .t) × (Range w16 (x .value) × Unit {0}))))))) where
   values : T (all small (premisesOf x))
   values =
-      let p = ranges .1 .1 in
+      let p = ranges .1 in
       true-T (all small (premisesOf x)) (stated-all small (x .p ∷ x .q ∷ x .r ∷ x .s ∷ x .t ∷ [])
       (rw (
         sixteen-small (x .p) (p .0),

@@ -25,15 +25,16 @@ pub const STORE: u16 = 5;
 pub const FIRST_FREE: u16 = 16;
 
 // A term, its value, and the premises with their values on the trail.
-// A premise whose row is blank is none, and those after it are not read.
+// A premise whose row is blank is none, and those after it are not read. (The value stands last: beside the term the two would be copied as one word,
+// and such a copy waits until both have been stored.)
 pub struct Claim {
     pub term: Row,
-    pub value: u16,
     pub p: Premise,
     pub q: Premise,
     pub r: Premise,
     pub s: Premise,
     pub t: Premise,
+    pub value: u16,
 }
 
 // There is no premise.
