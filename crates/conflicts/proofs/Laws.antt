@@ -24,7 +24,8 @@ found w n ts ws st g =
     }
 
 -- the search goes on
-pub search-on : (w n : ℕ) (ts ws : List ℕ) (st : Status) {t : ℕ} (vs : List ℕ) (at : ℕ → ℕ) (count : ℕ) (top : Level) {tr : Trail} {a : calculus.Answer} {r : Answer}
+pub search-on : (w n : ℕ) (ts ws : List ℕ) (st : Status) {t : ℕ} (vs : List ℕ) (at : ℕ → ℕ) (count : ℕ) (top : Level)
+    {tr : Trail} {a : calculus.Answer} {r : Answer}
     → Conflicted w n ts ws st t → Stands w n vs count (top .0) tr → a ≡ calculus.allowed (calculus.searching tr) → r ≡ Allowed (inSearch count top)
     → Answers w n ts ws vs at a r
 search-on w n ts ws st vs at count top g s e q = rw q (landed w n ts ws vs at (inSearch count top) refl (g .standing .held .rows) s e)

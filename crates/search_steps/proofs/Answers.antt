@@ -132,7 +132,8 @@ module _ (w n : ℕ) (ts ws : List ℕ) (st : Status) where
 
         pub deduce-premised : Premised w n ws (st .count) x
         unfolding deduceRefusal
-        deduce-premised = record { laid = g .searching .standing .held .laid; stand = inference-on ts here (x .rule) (x .term) (x .value) (premises x) _ allowed-0 }
+        deduce-premised =
+            record { laid = inferred g .laid; stand = inference-on ts here (x .rule) (x .term) (x .value) (premises x) _ allowed-0 }
 
         pub deduce-within : Within (has (premises x)) here
         unfolding deduceRefusal
@@ -167,7 +168,9 @@ module _ (w n : ℕ) (ts ws : List ℕ) (st : Status) where
         pub clash-opens : Inferring w n ts ws st x → (vs : List ℕ) → Conflicts w n vs (st .count) here (clashSet (x .term) (premises x))
             → Answers w n ts ws vs at the-clash (Allowed (record { count = st .count; top = st .top; conflict = true }))
         unfolding calculus.clash
-        clash-opens g vs s = opened w n ts ws vs _ _ refl (g .searching .standing .held .rows) (g .searching .standing .held .top) s (passed-by _ (c-is .number) c-no)
+        clash-opens g vs s =
+            let held = g .searching .standing .held in
+            opened w n ts ws vs _ _ refl (held .rows) (held .top) s (passed-by _ (c-is .number) c-no)
 
     module _ {c : Refusal} (c-is : Refuses at (failRefusal ts here (x .rule) (x .term) (x .value) (premises x)) c) where
       abbrev the-fail : calculus.Answer
