@@ -35,6 +35,11 @@ evaluates-or h xs v e = rw e
 pub evaluates-none : (h : ℕ) (xs : List ℕ) (v : ℕ) → eqb h notHead ≡ false → eqb h andHead ≡ false → eqb h orHead ≡ false → false ≡ evaluates h xs v
 evaluates-none h xs v a b c = rw (a, b, c)
 
+-- no premise
+pub stated-none : stated [] ≡ []
+unfolding stated
+stated-none = refl
+
 pub and-more : (p : Premise) (ps : List Premise) → andOf (map valueOf (stated (p ∷ ps))) ≡ (gap p || (isTrue (p .value) && andOf (map valueOf (stated ps))))
 unfolding stated
 and-more p ps = go (gap p)
@@ -76,5 +81,15 @@ unfolding stated
 same-none p ps = go (gap p)
   where
     go : (g : Bool) → eqList (map rowOf (cond g [] (p ∷ stated ps))) [] ≡ g
+    go true = refl
+    go false = refl
+
+-- no premise, where the first column is blank
+pub same-blank : (p : Premise) (ps : List Premise) (y : ℕ) (ys : List ℕ) → p .row ≡ blank
+    → eqb y blank ≡ eqList (map rowOf (stated (p ∷ ps))) (filled (y ∷ ys))
+unfolding stated
+same-blank p ps y ys e = rw (eq-eqb _ _ e) (go (eqb y blank))
+  where
+    go : (g : Bool) → g ≡ eqList [] (cond g [] (y ∷ filled ys))
     go true = refl
     go false = refl

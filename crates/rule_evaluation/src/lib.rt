@@ -1,6 +1,6 @@
 // From all arguments of not, and, or to its value: eval.
 ghost use mathlib.Core.Path.{_≡_};
-ghost use mathlib.Core.List.{List, _∷_, map};
+ghost use mathlib.Core.List.{List, [], _∷_, map};
 ghost use Prim.Native.Nat.{ℕ};
 ghost use Rattle.calculus.specs.declared.Premise.{Premise};
 ghost use Rattle.calculus.specs.declared.Rule.the-variants.{Evaluation};
@@ -39,12 +39,46 @@ fn more_or(p: Premise, rest: bool) -> bool
     !(p.row == BLANK) & ((p.value == 1) | rest)
 }
 
+// The premises' rows from column r on are the arguments from the third on. Most terms have none there, and then nothing more is read.
+fn late_same(e: Term, x: Claim) -> bool
+    ensures { λ r. ⌜ r ≡ eqList (map rowOf (stated (x .r ∷ x .s ∷ x .t ∷ []))) (filled (e .c ∷ e .d ∷ [])) ⌝ }
+{
+    if x.r.row == BLANK {
+        return e.c == BLANK;
+    }
+    let d = more_same(x.s, e.d, x.t.row == BLANK);
+    more_same(x.r, e.c, d)
+}
+
+// All premises from column r on are true.
+fn late_and(x: Claim) -> bool
+    ensures { λ r. ⌜ r ≡ andOf (map valueOf (stated (x .r ∷ x .s ∷ x .t ∷ []))) ⌝ }
+{
+    if x.r.row == BLANK {
+        return true;
+    }
+    let t = more_and(x.t, true);
+    let s = more_and(x.s, t);
+    more_and(x.r, s)
+}
+
+// Some premise from column r on is true.
+fn late_or(x: Claim) -> bool
+    ensures { λ r. ⌜ r ≡ orOf (map valueOf (stated (x .r ∷ x .s ∷ x .t ∷ []))) ⌝ }
+{
+    if x.r.row == BLANK {
+        return false;
+    }
+    let t = more_or(x.t, false);
+    let s = more_or(x.s, t);
+    more_or(x.r, s)
+}
+
 // The premises' rows are the term's arguments.
 fn same_rows(e: Term, x: Claim) -> bool
     ensures { λ r. ⌜ r ≡ eqList (map rowOf (premisesOf x)) (argsOf e) ⌝ }
 {
-    let d = more_same(x.s, e.d, x.t.row == BLANK);
-    let c = more_same(x.r, e.c, d);
+    let c = late_same(e, x);
     let b = more_same(x.q, e.b, c);
     more_same(x.p, e.a, b)
 }
@@ -60,9 +94,7 @@ fn first_false(x: Claim) -> bool
 fn all_true(x: Claim) -> bool
     ensures { λ r. ⌜ r ≡ andOf (map valueOf (premisesOf x)) ⌝ }
 {
-    let t = more_and(x.t, true);
-    let s = more_and(x.s, t);
-    let r = more_and(x.r, s);
+    let r = late_and(x);
     let q = more_and(x.q, r);
     more_and(x.p, q)
 }
@@ -71,9 +103,7 @@ fn all_true(x: Claim) -> bool
 fn any_true(x: Claim) -> bool
     ensures { λ r. ⌜ r ≡ orOf (map valueOf (premisesOf x)) ⌝ }
 {
-    let t = more_or(x.t, false);
-    let s = more_or(x.s, t);
-    let r = more_or(x.r, s);
+    let r = late_or(x);
     let q = more_or(x.q, r);
     more_or(x.p, q)
 }

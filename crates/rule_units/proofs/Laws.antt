@@ -4,6 +4,7 @@ use mathlib.Core.Bool.{Bool, true, false, not, _&&_, _||_, cond, or-false}
 use mathlib.Core.List.{List, [], _∷_}
 use Prim.Native.Nat.{ℕ}
 use lib.Dec.{eqb}
+use borrow.Author.Tests.{eq-eqb}
 use Rattle.calculus.specs.declared.Premise.{Premise}
 use Rattle.calculus.specs.declared.Rule.the-variants as rule
 use Rattle.calculus.specs.Sheets.{blank}
@@ -34,6 +35,13 @@ others-none w p ps = go (gap p)
     go : (g : Bool) → others w [] (cond g [] (p ∷ stated ps)) ≡ g
     go true = refl
     go false = refl
+
+-- no argument, where the first column is blank
+pub others-blank : (w x : ℕ) (xs : List ℕ) (p : Premise) (ps : List Premise) → x ≡ blank → gap p ≡ others w (filled (x ∷ xs)) (stated (p ∷ ps))
+others-blank w x xs p ps e = rw (eq-eqb _ _ e, others-none w p ps)
+
+pub unit-blank : (w l x : ℕ) (xs : List ℕ) (ps : List Premise) → x ≡ blank → false ≡ unitAt w l (filled (x ∷ xs)) ps
+unit-blank w l x xs ps e = rw (eq-eqb _ _ e, unit-none w l ps)
 
 pub others-more : (w x : ℕ) (xs : List ℕ) (p : Premise) (ps : List Premise)
     → others w (filled (x ∷ xs)) (stated (p ∷ ps))

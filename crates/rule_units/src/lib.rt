@@ -4,6 +4,7 @@ ghost use mathlib.Core.List.{List, _∷_};
 ghost use Prim.Native.Nat.{ℕ};
 ghost use Rattle.calculus.specs.declared.Premise.{Premise};
 ghost use Rattle.calculus.specs.declared.Rule.the-variants.{Unit};
+ghost use Rattle.calculus.specs.Sheets.{blank};
 ghost use Rattle.calculus.specs.Terms.{filled, argsOf};
 ghost use Rattle.calculus.specs.Rules.{others, unitAt};
 ghost use Rattle.rule_claims.specs.Claims.{stated, premisesOf, allows};
@@ -37,10 +38,24 @@ fn more_unit(w: u16, l: Row, a: u16, p: Premise, here: bool, rest: bool) -> bool
         & (((a == l.0) & here) | (!(p.row == BLANK) & (((p.row == a) & (p.value == w)) & rest)))
 }
 
-// l is an argument of the term, and the claim's premises are those at all other positions, each with value w.
+// l is an argument of the term, and the claim's premises are those at all other positions, each with value w. Here the term has no third argument.
+fn unit_of_two(w: u16, l: Row, e: Term, x: Claim) -> bool
+    requires { ⌜ e .c ≡ blank ⌝ }
+    ensures { λ r. ⌜ r ≡ unitAt w (l .0) (argsOf e) (premisesOf x) ⌝ }
+{
+    let last = x.q.row == BLANK;
+    let ob = more_other(w, e.b, x.p, last);
+    let ub = more_unit(w, l, e.b, x.q, last, false);
+    more_unit(w, l, e.a, x.p, ob, ub)
+}
+
+// The same for any term. Most have no third argument, and then no later column is read.
 fn unit_at(w: u16, l: Row, e: Term, x: Claim) -> bool
     ensures { λ r. ⌜ r ≡ unitAt w (l .0) (argsOf e) (premisesOf x) ⌝ }
 {
+    if e.c == BLANK {
+        return unit_of_two(w, l, e, x);
+    }
     let od = more_other(w, e.d, x.r, x.s.row == BLANK);
     let oc = more_other(w, e.c, x.q, od);
     let ob = more_other(w, e.b, x.p, oc);

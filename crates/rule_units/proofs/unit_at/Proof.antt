@@ -7,6 +7,12 @@ use borrow.Author.Needs.{needs}
 use Rattle.rule_units.proofs.unit_at.Statement.{statement}
 use Rattle.rule_units.proofs.unit_at.Tie as tie
 
+unit-of-two-requires : tie.Need-unit-of-two-requires
+unit-of-two-requires c κs = search needs
+
+returns : tie.Need-returns
+returns c = search needs
+
 more-other-requires : tie.Need-more-other-requires
 more-other-requires c κs = search needs
 
@@ -28,15 +34,15 @@ more-unit-requires-3 c κs = search needs
 more-unit-requires-4 : tie.Need-more-unit-requires-4
 more-unit-requires-4 c κs = search needs
 
-returns : tie.Need-returns
-returns c =
+returns-2 : tie.Need-returns-2
+returns-2 c =
     let at-more-unit3 = c .before in
     let at-more-unit2 = at-more-unit3 .before in
     let at-more-unit = at-more-unit2 .before in
     let at-more-other3 = at-more-unit .before .before in
     let at-more-other2 = at-more-other3 .before in
     let at-more-other = at-more-other2 .before in
-    let start = at-more-other .before .before in
+    let start = at-more-other .before .before .before .before in
     let y = start .args in
     let e = y .e in
     let x = y .x in
@@ -53,6 +59,8 @@ pub unit-at-spec : {M : Type 1} → statement M
 unit-at-spec =
     tie.close
     (tie.spec
+    unit-of-two-requires
+    returns
     more-other-requires
     more-other-requires-2
     more-other-requires-3
@@ -60,4 +68,4 @@ unit-at-spec =
     more-unit-requires-2
     more-unit-requires-3
     more-unit-requires-4
-    returns)
+    returns-2)
