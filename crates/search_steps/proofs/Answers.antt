@@ -1,9 +1,14 @@
 -- The answers of the steps of the search: what the number 0 says, and for each return a law.
-use mathlib.Core.Path.{_≡_, refl, sym, ap, _∙_}
+use mathlib.Core.Path.{_≡_, refl, sym, ap, subst, _∙_}
 use mathlib.Core.Bool.{Bool, true, false, not}
-use mathlib.Core.List.{List, _∷_}
+use mathlib.Core.List.{List, [], _∷_}
+use mathlib.Core.Logic.{inl, inr}
 use Prim.Native.Nat.{ℕ, _<_}
 use native.Mathlib.Omega.{arith}
+use types.Run.{OneOf, miss}
+use denote.Enum.Declared.{tagOf}
+use Rattle.calculus.specs.declared.Kind.{Kind}
+use Rattle.calculus.specs.declared.Kind.the-variants.{Deduce, Clash, Fail}
 use Rattle.calculus.specs.declared.Refusal.{Refusal}
 use Rattle.calculus.specs.declared.Step.{Step}
 use Rattle.calculus.specs.Lists.{all, has}
@@ -12,9 +17,10 @@ use Rattle.calculus.specs.Place.{placeOf}
 use Rattle.calculus.specs.WellFormed.{Within}
 use Rattle.calculus.specs.Steps as calculus
 use Rattle.calculus.specs.Steps.{premises, clashSet, decideRefusal, inferenceRefusal, deduceRefusal, contradictionRefusal, clashRefusal, failRefusal}
+use Rattle.calculus.proofs.Kind.{the-type}
 use Rattle.calculus.proofs.Facts.{T-false, T-true, unless-ok}
 use Rattle.calculus.proofs.WellFormed.{top-length, inference-ok, contradiction-ok}
-use Rattle.trail.specs.Words.{trailIn}
+use Rattle.trail.specs.Words.{trailIn, Laid}
 use Rattle.calculus.proofs.Trails.{room-more}
 use Rattle.trail.proofs.Laws.{trail-length}
 use Rattle.moves.specs.Post.{Stands, Conflicts}
@@ -28,8 +34,9 @@ use Rattle.state.proofs.Tests.{told-yes}
 use Rattle.rule_claims.specs.declared.Claim.{Claim}
 use Rattle.places.specs.Tested.{Tested}
 use Rattle.premises.specs.Columns.{Premised, Claims}
-use Rattle.search_steps.specs.Searches.{Searching, Inferring, Inferred, Refuses}
+use Rattle.search_steps.specs.Searches.{Searching, Inferring, Inferred, Inference, Passed, Refuses}
 use Rattle.search_steps.proofs.Laws.{rows-on}
+use Rattle.search_steps.proofs.Tests.{deduce-first, contradiction-first, clash-first, fail-first}
 
 -- the premises were tested
 pub premised : (w n : ℕ) (ts ws : List ℕ) (count : ℕ) (x : Step) {b : Bool} → Inferred w n ts ws count x
@@ -62,12 +69,30 @@ module _ (w n : ℕ) (ts ws : List ℕ) (count : ℕ) (x : Step) {at : ℕ → �
   none : contradictionRefusal ts (trailIn w n ws count) (x .rule) (x .term) (x .value) (premises x) true ≡ 0
   none = sym (c-is .number) ∙ c-no
 
-  pub contradiction-premised : Inferred w n ts ws count x → Premised w n ws count x
+  pub contradiction-premised : Laid w n ws count → Premised w n ws count x
   unfolding contradictionRefusal
-  contradiction-premised l = record { laid = l .laid; stand = inference-on ts _ (x .rule) (x .term) (x .value) (premises x) _ none }
+  contradiction-premised l = record { laid = l; stand = inference-on ts _ (x .rule) (x .term) (x .value) (premises x) _ none }
 
   pub contradiction-on : on (trailIn w n ws count) (x .term) ≡ true
   contradiction-on = contradiction-ok ts _ (x .rule) (x .term) (x .value) (premises x) true none .1
+
+-- ---- the kinds
+
+-- the tags of the kinds that are neither deduce nor clash
+abbrev otherTags : List ℕ
+otherTags = 0 ∷ 3 ∷ 4 ∷ 5 ∷ 6 ∷ 7 ∷ 8 ∷ 9 ∷ []
+
+-- of those that infer, fail alone is left
+last-kind : {k : Kind} → Inference k → OneOf otherTags (tagOf the-type k) → k ≡ Fail
+last-kind {k} g t = go g
+  where
+    tag : {j : Kind} → k ≡ j → OneOf otherTags (tagOf the-type j)
+    tag e = subst (λ j. OneOf otherTags (tagOf the-type j)) e t
+
+    go : Inference k → k ≡ Fail
+    go (inl e) = absurd (miss otherTags 1 tt (tag e))
+    go (inr (inl e)) = absurd (miss otherTags 2 tt (tag e))
+    go (inr (inr e)) = e
 
 -- ---- the steps
 
@@ -108,6 +133,15 @@ module _ (w n : ℕ) (ts ws : List ℕ) (st : Status) where
     abbrev at : ℕ → ℕ
     at = placeOf ts here x
 
+    abbrev the-deduce : calculus.Answer
+    the-deduce = calculus.deduce ts here (x .rule) (x .term) (x .value) (premises x)
+
+    abbrev the-clash : calculus.Answer
+    the-clash = calculus.clash ts here (x .rule) (x .term) (x .value) (premises x)
+
+    abbrev the-fail : calculus.Answer
+    the-fail = calculus.fail ts here (x .rule) (x .term) (x .value) (premises x)
+
     -- what the tests ask
     pub inferred : Inferring w n ts ws st x → Inferred w n ts ws (st .count) x
     inferred g = record { laid = g .searching .standing .held .laid; rows = g .searching .standing .held .rows; truth = g .truth }
@@ -119,9 +153,6 @@ module _ (w n : ℕ) (ts ws : List ℕ) (st : Status) where
     refused-at a c-is h = (refused-by _ (c-is .number) h, c-is .place ∙ ap at (sym (c-is .number)), refl)
 
     module _ {c : Refusal} (c-is : Refuses at (deduceRefusal ts here (x .rule) (x .term) (x .value) (premises x)) c) where
-      abbrev the-deduce : calculus.Answer
-      the-deduce = calculus.deduce ts here (x .rule) (x .term) (x .value) (premises x)
-
       pub deduce-refused : (c .number ≡ 0 → ⊥) → Answers w n ts ws ws at the-deduce (Refused c)
       unfolding calculus.deduce
       deduce-refused h = refused-at _ c-is h
@@ -153,9 +184,6 @@ module _ (w n : ℕ) (ts ws : List ℕ) (st : Status) where
         deduce-done vs after e s = landed w n ts ws vs _ after e (g .searching .standing .held .rows) s (passed-by _ (c-is .number) c-no)
 
     module _ {c : Refusal} (c-is : Refuses at (clashRefusal ts here (x .rule) (x .term) (x .value) (premises x)) c) where
-      abbrev the-clash : calculus.Answer
-      the-clash = calculus.clash ts here (x .rule) (x .term) (x .value) (premises x)
-
       pub clash-refused : (c .number ≡ 0 → ⊥) → Answers w n ts ws ws at the-clash (Refused c)
       unfolding calculus.clash
       clash-refused h = refused-at _ c-is h
@@ -173,9 +201,6 @@ module _ (w n : ℕ) (ts ws : List ℕ) (st : Status) where
             opened w n ts ws vs _ _ refl (held .rows) (held .top) s (passed-by _ (c-is .number) c-no)
 
     module _ {c : Refusal} (c-is : Refuses at (failRefusal ts here (x .rule) (x .term) (x .value) (premises x)) c) where
-      abbrev the-fail : calculus.Answer
-      the-fail = calculus.fail ts here (x .rule) (x .term) (x .value) (premises x)
-
       pub fail-refused : (c .number ≡ 0 → ⊥) → Answers w n ts ws ws at the-fail (Refused c)
       unfolding calculus.fail
       fail-refused h = refused-at _ c-is h
@@ -183,3 +208,28 @@ module _ (w n : ℕ) (ts ws : List ℕ) (st : Status) where
       pub fail-refutes : c .number ≡ 0 → Answers w n ts ws ws at the-fail Refuted
       unfolding Answers calculus.fail
       fail-refutes z = (passed-by _ (c-is .number) z, refl)
+
+    -- ---- by the kind of the row
+
+    abbrev the-inference : Kind → calculus.Answer
+    the-inference k = calculus.stepBy ts k (calculus.searching here) x
+
+    module _ {c : Refusal} (c-is : Refuses at (inferenceRefusal ts here (x .rule) (x .term) (x .value) (premises x) 0) c) where
+      pub infer-refused : {k : Kind} → Inference k → (c .number ≡ 0 → ⊥) → Answers w n ts ws ws at (the-inference k) (Refused c)
+      unfolding calculus.stepBy
+      infer-refused (inl e) h = rw e (deduce-refused (deduce-first ts here x c-is h) h)
+      infer-refused (inr (inl e)) h = rw e (clash-refused (clash-first ts here x (contradiction-first ts here x c-is h) h) h)
+      infer-refused (inr (inr e)) h = rw e (fail-refused (fail-first ts here x (contradiction-first ts here x c-is h) h) h)
+
+    module _ (vs : List ℕ) (r : Answer) {k : Kind} where
+      pub infer-deduces : k ≡ Deduce → Answers w n ts ws vs at the-deduce r → Answers w n ts ws vs at (the-inference k) r
+      unfolding calculus.stepBy
+      infer-deduces e h = rw e h
+
+      pub infer-clashes : k ≡ Clash → Answers w n ts ws vs at the-clash r → Answers w n ts ws vs at (the-inference k) r
+      unfolding calculus.stepBy
+      infer-clashes e h = rw e h
+
+      pub infer-fails : Inference k → OneOf otherTags (tagOf the-type k) → Answers w n ts ws vs at the-fail r → Answers w n ts ws vs at (the-inference k) r
+      unfolding calculus.stepBy
+      infer-fails g t h = rw (last-kind g t) h

@@ -23,7 +23,7 @@ use Rattle.rule_claims.specs.Claims.{premisesOf}
 use Rattle.state.specs.States.{unplaced}
 use Rattle.state.proofs.Tests.{told, told-not, told-yes, past, stops}
 use Rattle.premises.specs.Columns.{Claims}
-use Rattle.search_steps.specs.Searches.{Refuses}
+use Rattle.search_steps.specs.Searches.{Passed, Refuses}
 use Rattle.search_steps.proofs.Laws.{fits-true, fits-false, unfitAt, tested}
 
 -- ---- decide
@@ -157,35 +157,35 @@ module _ (ts : List ℕ) (tr : Trail) (x : Step) where
     unfolding contradictionRefusal
     contradiction-first h = carried ts tr x c-is (first-part _ (shared-parts _) (c-is .number) h)
 
-    module _ (c-no : c .number ≡ 0) where
-      then-rest : (n : ℕ) (rest : ℕ) → at ts tr x n ≡ 0 → n ≡ rest → Said (shared rest) (unplaced n)
-      then-rest n rest z e = bare ts tr x n z (second-part rest (shared-parts rest) (c-is .number) c-no e)
+  module _ (g : Passed ts tr x) where
+    then-rest : (n : ℕ) (rest : ℕ) → at ts tr x n ≡ 0 → n ≡ rest → Said (shared rest) (unplaced n)
+    then-rest n rest z e = bare ts tr x n z (second-part rest (shared-parts rest) (sym (g .passed)) refl e)
 
-      module _ {a : Bool} (a-is : a ≡ assigned tr l v) where
-        pub deduce-14 : a ≡ true → Said (deduceRefusal ts tr r l v ps) (unplaced 14)
+    module _ {a : Bool} (a-is : a ≡ assigned tr l v) where
+      pub deduce-14 : a ≡ true → Said (deduceRefusal ts tr r l v ps) (unplaced 14)
+      unfolding deduceRefusal placeOf
+      deduce-14 h = then-rest 14 _ refl (stops _ _ (ap not (told a-is h)))
+
+      module _ (a-no : a ≡ false) {b : Bool} (b-is : b ≡ on tr l) where
+        pub deduce-15 : b ≡ true → Said (deduceRefusal ts tr r l v ps) (unplaced 15)
         unfolding deduceRefusal placeOf
-        deduce-14 h = then-rest 14 _ refl (stops _ _ (ap not (told a-is h)))
+        deduce-15 h = then-rest 15 _ refl (past _ _ (ap not (told a-is a-no)) (stops _ _ (ap not (told b-is h))))
 
-        module _ (a-no : a ≡ false) {b : Bool} (b-is : b ≡ on tr l) where
-          pub deduce-15 : b ≡ true → Said (deduceRefusal ts tr r l v ps) (unplaced 15)
-          unfolding deduceRefusal placeOf
-          deduce-15 h = then-rest 15 _ refl (past _ _ (ap not (told a-is a-no)) (stops _ _ (ap not (told b-is h))))
+        pub deduce-0 : b ≡ false → Said (deduceRefusal ts tr r l v ps) (unplaced 0)
+        unfolding deduceRefusal placeOf
+        deduce-0 h = then-rest 0 _ refl (past _ _ (ap not (told a-is a-no)) (past _ _ (ap not (told b-is h)) refl))
 
-          pub deduce-0 : b ≡ false → Said (deduceRefusal ts tr r l v ps) (unplaced 0)
-          unfolding deduceRefusal placeOf
-          deduce-0 h = then-rest 0 _ refl (past _ _ (ap not (told a-is a-no)) (past _ _ (ap not (told b-is h)) refl))
+    module _ {o : ℕ} (o-is : o ≡ opposite v) {a : Bool} (a-is : a ≡ assigned tr l o) where
+      held : {b : Bool} → a ≡ b → assigned tr l (opposite v) ≡ b
+      held h = rw (sym o-is) (told a-is h)
 
-      module _ {o : ℕ} (o-is : o ≡ opposite v) {a : Bool} (a-is : a ≡ assigned tr l o) where
-        held : {b : Bool} → a ≡ b → assigned tr l (opposite v) ≡ b
-        held h = rw (sym o-is) (told a-is h)
+      pub contradiction-16 : not a ≡ true → Said (contradiction true) (unplaced 16)
+      unfolding contradictionRefusal placeOf
+      contradiction-16 h = then-rest 16 _ refl (stops _ _ (told-not (sym (held refl)) h))
 
-        pub contradiction-16 : not a ≡ true → Said (contradiction true) (unplaced 16)
-        unfolding contradictionRefusal placeOf
-        contradiction-16 h = then-rest 16 _ refl (stops _ _ (told-not (sym (held refl)) h))
-
-        pub contradiction-0 : not a ≡ false → Said (contradiction true) (unplaced 0)
-        unfolding contradictionRefusal placeOf
-        contradiction-0 h = then-rest 0 _ refl (past _ _ (told-yes (sym (held refl)) h) (past _ _ refl refl))
+      pub contradiction-0 : not a ≡ false → Said (contradiction true) (unplaced 0)
+      unfolding contradictionRefusal placeOf
+      contradiction-0 h = then-rest 0 _ refl (past _ _ (told-yes (sym (held refl)) h) (past _ _ refl refl))
 
   -- ---- clash and fail: the level
 

@@ -2,10 +2,15 @@
 use mathlib.Core.Path.{_≡_}
 use mathlib.Core.Bool.{false}
 use mathlib.Core.List.{List}
+use mathlib.Core.Logic.{_⊎_}
 use Prim.Native.Nat.{ℕ, _<_, _≤_}
+use Rattle.calculus.specs.declared.Kind.{Kind}
+use Rattle.calculus.specs.declared.Kind.the-variants.{Deduce, Clash, Fail}
 use Rattle.calculus.specs.declared.Step.{Step}
 use Rattle.calculus.specs.declared.Refusal.{Refusal}
 use Rattle.calculus.specs.Sheets.{termRows}
+use Rattle.calculus.specs.Trail.{Trail}
+use Rattle.calculus.specs.Steps.{premises, inferenceRefusal}
 use Rattle.trail.specs.Words.{Laid}
 use Rattle.state.specs.declared.Status.{Status}
 use Rattle.state.specs.States.{Standing}
@@ -26,6 +31,14 @@ pub record Inferred (w n : ℕ) (ts ws : List ℕ) (count : ℕ) (x : Step) : Ty
   pub laid : Laid w n ws count
   pub rows : n ≡ termRows ts
   pub truth : x .value ≤ 1
+
+-- the kinds of such rows
+abbrev pub Inference : Kind → Type 0
+Inference k = (k ≡ Deduce) ⊎ ((k ≡ Clash) ⊎ (k ≡ Fail))
+
+-- the tests that these share are passed
+pub record Passed (ts : List ℕ) (tr : Trail) (x : Step) : Type 0 where
+  pub passed : inferenceRefusal ts tr (x .rule) (x .term) (x .value) (premises x) 0 ≡ 0
 
 -- r is the number c, at the place that `at` gives it
 pub record Refuses (at : ℕ → ℕ) (c : ℕ) (r : Refusal) : Type 0 where

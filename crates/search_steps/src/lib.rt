@@ -4,13 +4,14 @@ ghost use mathlib.Core.Bool.{true};
 ghost use Rattle.calculus.specs.Inputs.{valueSuits};
 ghost use Rattle.calculus.specs.Trail.{on, levelOf};
 ghost use Rattle.calculus.specs.Steps.{premises, clashSet, decideRefusal, inferenceRefusal, deduceRefusal};
-ghost use Rattle.calculus.specs.Steps.{contradictionRefusal, clashRefusal, failRefusal, decide, deduce, clash, fail};
+ghost use Rattle.calculus.specs.Steps.{contradictionRefusal, clashRefusal, failRefusal, decide, deduce, clash, fail, searching, stepBy};
 ghost use Rattle.trail.specs.Words.{trailIn, Laid};
 ghost use Rattle.calculus.specs.Place.{placeOf};
 ghost use Rattle.state.specs.States.{nowhere, Answers};
 ghost use Rattle.premises.specs.Columns.{Premised};
-ghost use Rattle.search_steps.specs.Searches.{Searching, Inferring, Inferred, Refuses};
+ghost use Rattle.search_steps.specs.Searches.{Searching, Inferring, Inferred, Inference, Passed, Refuses};
 use calculus::Fit;
+use calculus::Kind;
 use calculus::Level;
 use calculus::Refusal;
 use calculus::Row;
@@ -105,16 +106,12 @@ fn inference_refusal(
     }
 }
 
-// Numbers 22, 12, 13, 14, 15.
+// Numbers 14, 15 of deduce, whose first tests are passed.
 fn deduce_refusal(terms: &[u16], work: &[u64], w: usize, n: usize, count: usize, x: Step) -> Refusal
-    requires { ⌜ Inferred w n (now terms) (now work) count x ⌝ }
+    requires { ⌜ Laid w n (now work) count × Passed (now terms) (trailIn w n (now work) count) x ⌝ }
     ensures { λ r. ⌜ Refuses (placeOf (now (terms .entry)) (trailIn w n (now (work .entry)) count) x)
         (deduceRefusal (now (terms .entry)) (trailIn w n (now (work .entry)) count) (x .rule) (x .term) (x .value) (premises x)) r ⌝ }
 {
-    let c = inference_refusal(terms, work, w, n, count, x);
-    if c.number != 0 {
-        return c;
-    }
     if state::has_value(work, w, n, count, Row(x.term), x.value) {
         return Refusal {
             number: 14,
@@ -133,7 +130,7 @@ fn deduce_refusal(terms: &[u16], work: &[u64], w: usize, n: usize, count: usize,
     }
 }
 
-// Numbers 22, 12, 13, 16, which clash and fail share.
+// Number 16, which clash and fail share.
 fn contradiction_refusal(
     terms: &[u16],
     work: &[u64],
@@ -142,14 +139,10 @@ fn contradiction_refusal(
     count: usize,
     x: Step,
 ) -> Refusal
-    requires { ⌜ Inferred w n (now terms) (now work) count x ⌝ }
+    requires { ⌜ Laid w n (now work) count × Passed (now terms) (trailIn w n (now work) count) x ⌝ }
     ensures { λ r. ⌜ Refuses (placeOf (now (terms .entry)) (trailIn w n (now (work .entry)) count) x)
         (contradictionRefusal (now (terms .entry)) (trailIn w n (now (work .entry)) count) (x .rule) (x .term) (x .value) (premises x) true) r ⌝ }
 {
-    let c = inference_refusal(terms, work, w, n, count, x);
-    if c.number != 0 {
-        return c;
-    }
     if !state::has_value(work, w, n, count, Row(x.term), moves::other(x.value)) {
         return Refusal {
             number: 16,
@@ -162,9 +155,9 @@ fn contradiction_refusal(
     }
 }
 
-// Numbers 22, 12, 13, 16, and 26 at level 0.
+// Numbers 16, and 26 at level 0.
 fn clash_refusal(terms: &[u16], work: &[u64], w: usize, n: usize, count: usize, x: Step) -> Refusal
-    requires { ⌜ Inferred w n (now terms) (now work) count x ⌝ }
+    requires { ⌜ Laid w n (now work) count × Passed (now terms) (trailIn w n (now work) count) x ⌝ }
     ensures { λ r. ⌜ Refuses (placeOf (now (terms .entry)) (trailIn w n (now (work .entry)) count) x)
         (clashRefusal (now (terms .entry)) (trailIn w n (now (work .entry)) count) (x .rule) (x .term) (x .value) (premises x)) r ⌝ }
 {
@@ -185,9 +178,9 @@ fn clash_refusal(terms: &[u16], work: &[u64], w: usize, n: usize, count: usize, 
     }
 }
 
-// Numbers 22, 12, 13, 16, and 26 above level 0.
+// Numbers 16, and 26 above level 0.
 fn fail_refusal(terms: &[u16], work: &[u64], w: usize, n: usize, count: usize, x: Step) -> Refusal
-    requires { ⌜ Inferred w n (now terms) (now work) count x ⌝ }
+    requires { ⌜ Laid w n (now work) count × Passed (now terms) (trailIn w n (now work) count) x ⌝ }
     ensures { λ r. ⌜ Refuses (placeOf (now (terms .entry)) (trailIn w n (now (work .entry)) count) x)
         (failRefusal (now (terms .entry)) (trailIn w n (now (work .entry)) count) (x .rule) (x .term) (x .value) (premises x)) r ⌝ }
 {
@@ -241,8 +234,8 @@ pub fn decide(
 }
 
 // deduce: the premises justify the term's value.
-pub fn deduce(terms: &[u16], work: &mut [u64], w: usize, n: usize, st: Status, x: Step) -> Answer
-    requires { ⌜ Inferring w n (now terms) (now work) st x ⌝ }
+fn deduce(terms: &[u16], work: &mut [u64], w: usize, n: usize, st: Status, x: Step) -> Answer
+    requires { ⌜ Inferring w n (now terms) (now work) st x × Passed (now terms) (trailIn w n (now work) (st .count)) x ⌝ }
     ensures { λ r. ⌜ Answers w n (now (terms .entry)) (now (work .entry)) (now (work .exit))
         (placeOf (now (terms .entry)) (trailIn w n (now (work .entry)) (st .count)) x)
         (deduce (now (terms .entry)) (trailIn w n (now (work .entry)) (st .count)) (x .rule) (x .term) (x .value) (premises x)) r ⌝ }
@@ -273,8 +266,8 @@ pub fn deduce(terms: &[u16], work: &mut [u64], w: usize, n: usize, st: Status, x
 }
 
 // clash: premises and opposite, not all at level 0, are the conflict.
-pub fn clash(terms: &[u16], work: &mut [u64], w: usize, n: usize, st: Status, x: Step) -> Answer
-    requires { ⌜ Inferring w n (now terms) (now work) st x ⌝ }
+fn clash(terms: &[u16], work: &mut [u64], w: usize, n: usize, st: Status, x: Step) -> Answer
+    requires { ⌜ Inferring w n (now terms) (now work) st x × Passed (now terms) (trailIn w n (now work) (st .count)) x ⌝ }
     ensures { λ r. ⌜ Answers w n (now (terms .entry)) (now (work .entry)) (now (work .exit))
         (placeOf (now (terms .entry)) (trailIn w n (now (work .entry)) (st .count)) x)
         (clash (now (terms .entry)) (trailIn w n (now (work .entry)) (st .count)) (x .rule) (x .term) (x .value) (premises x)) r ⌝ }
@@ -294,8 +287,8 @@ pub fn clash(terms: &[u16], work: &mut [u64], w: usize, n: usize, st: Status, x:
 }
 
 // fail: premises and opposite, all at level 0, refute the input. Nothing is written.
-pub fn fail(terms: &[u16], work: &[u64], w: usize, n: usize, st: Status, x: Step) -> Answer
-    requires { ⌜ Inferring w n (now terms) (now work) st x ⌝ }
+fn fail(terms: &[u16], work: &[u64], w: usize, n: usize, st: Status, x: Step) -> Answer
+    requires { ⌜ Inferring w n (now terms) (now work) st x × Passed (now terms) (trailIn w n (now work) (st .count)) x ⌝ }
     ensures { λ r. ⌜ Answers w n (now (terms .entry)) (now (work .entry)) (now (work .entry))
         (placeOf (now (terms .entry)) (trailIn w n (now (work .entry)) (st .count)) x)
         (fail (now (terms .entry)) (trailIn w n (now (work .entry)) (st .count)) (x .rule) (x .term) (x .value) (premises x)) r ⌝ }
@@ -305,4 +298,30 @@ pub fn fail(terms: &[u16], work: &[u64], w: usize, n: usize, st: Status, x: Step
         return Answer::Refused(c);
     }
     Answer::Refuted
+}
+
+// deduce, clash or fail, by the kind k of the row: the tests that they share, then the step.
+pub fn infer(
+    terms: &[u16],
+    work: &mut [u64],
+    w: usize,
+    n: usize,
+    st: Status,
+    x: Step,
+    k: Kind,
+) -> Answer
+    requires { ⌜ Inferring w n (now terms) (now work) st x × Inference k ⌝ }
+    ensures { λ r. ⌜ Answers w n (now (terms .entry)) (now (work .entry)) (now (work .exit))
+        (placeOf (now (terms .entry)) (trailIn w n (now (work .entry)) (st .count)) x)
+        (stepBy (now (terms .entry)) k (searching (trailIn w n (now (work .entry)) (st .count))) x) r ⌝ }
+{
+    let c = inference_refusal(terms, work, w, n, st.count, x);
+    if c.number != 0 {
+        return Answer::Refused(c);
+    }
+    match k {
+        Kind::Deduce => deduce(terms, work, w, n, st, x),
+        Kind::Clash => clash(terms, work, w, n, st, x),
+        _ => fail(terms, work, w, n, st, x),
+    }
 }

@@ -6,9 +6,8 @@ ghost use mathlib.Core.Bool.{not};
 ghost use lib.Dec.{ltb};
 ghost use Rattle.calculus.specs.Lists.{all};
 ghost use Rattle.calculus.specs.Terms.{filled, leftFilled};
-ghost use Rattle.calculus.specs.Steps.{premises, premiseCells, isBlank, decisionShaped, inferenceShaped, termShaped, pairShaped, learnShaped, shaped, known};
+ghost use Rattle.calculus.specs.Steps.{premises, premiseCells, isBlank, decisionShaped, inferenceShaped, termShaped, pairShaped, learnShaped, known};
 ghost use Rattle.calculus.specs.Place.{firstFault, premiseFault, strangePlace};
-use calculus::Kind;
 use calculus::Step;
 use rows::BLANK;
 
@@ -41,7 +40,7 @@ fn from_left(x: Step) -> bool
 }
 
 // The columns of decide: term and value.
-fn decision_shaped(x: Step) -> bool
+pub fn decision_shaped(x: Step) -> bool
     ensures { λ r. ⌜ r ≡ decisionShaped x ⌝ }
 {
     let e = no_premise(x);
@@ -49,7 +48,7 @@ fn decision_shaped(x: Step) -> bool
 }
 
 // The columns of deduce, clash and fail: rule, term, a truth value, and premises from the left.
-fn inference_shaped(x: Step) -> bool
+pub fn inference_shaped(x: Step) -> bool
     ensures { λ r. ⌜ r ≡ inferenceShaped x ⌝ }
 {
     let l = from_left(x);
@@ -57,7 +56,7 @@ fn inference_shaped(x: Step) -> bool
 }
 
 // The columns of resolve, clear and jump: the term alone.
-fn term_shaped(x: Step) -> bool
+pub fn term_shaped(x: Step) -> bool
     ensures { λ r. ⌜ r ≡ termShaped x ⌝ }
 {
     let e = no_premise(x);
@@ -72,7 +71,7 @@ fn no_premise_but_p(x: Step) -> bool
 }
 
 // The columns of flip: the term and p.
-fn pair_shaped(x: Step) -> bool
+pub fn pair_shaped(x: Step) -> bool
     ensures { λ r. ⌜ r ≡ pairShaped x ⌝ }
 {
     let e = no_premise_but_p(x);
@@ -80,30 +79,12 @@ fn pair_shaped(x: Step) -> bool
 }
 
 // The columns of learn: the term, a level as its value, and from the left two to four members.
-fn learn_shaped(x: Step) -> bool
+pub fn learn_shaped(x: Step) -> bool
     ensures { λ r. ⌜ r ≡ learnShaped x ⌝ }
 {
     let l = from_left(x);
     let h = !(x.p == BLANK) & (!(x.q == BLANK) & ((x.t == BLANK) & l));
     (x.rule == BLANK) & (!(x.term == BLANK) & (!(x.value == BLANK) & h))
-}
-
-// The columns that a step of kind k needs are filled, and no others.
-pub fn shaped(x: Step, k: Kind) -> bool
-    ensures { λ r. ⌜ r ≡ shaped x k ⌝ }
-{
-    match k {
-        Kind::Decide => decision_shaped(x),
-        Kind::Deduce => inference_shaped(x),
-        Kind::Clash => inference_shaped(x),
-        Kind::Resolve => term_shaped(x),
-        Kind::Clear => term_shaped(x),
-        Kind::Jump => term_shaped(x),
-        Kind::Flip => pair_shaped(x),
-        Kind::Fail => inference_shaped(x),
-        Kind::Learn => learn_shaped(x),
-        Kind::Unlisted => false,
-    }
 }
 
 // ---- number 11

@@ -2,33 +2,80 @@
 use mathlib.Core.Path.{_≡_, refl, sym, ap, subst, _∙_}
 use mathlib.Core.Bool.{Bool, true, false, not, cond}
 use mathlib.Core.List.{List, [], _∷_}
-use Prim.Native.Nat.{ℕ, suc, _<_}
+use mathlib.Core.Logic.{inl, inr}
+use Prim.Native.Nat.{ℕ, _<_}
 use native.Mathlib.Omega.{arith}
+use types.Run.{OneOf, miss}
+use denote.Enum.Declared.{tagOf}
 use borrow.Author.Tests.{not-true, not-false}
 use lib.Dec.{T, eqb, leb, ltb, leb→le, ltb→lt}
 use Rattle.calculus.specs.declared.Step.{Step}
 use Rattle.calculus.specs.declared.Kind.{Kind}
 use Rattle.calculus.specs.declared.Kind.the-variants.{Decide, Deduce, Clash, Resolve, Clear, Jump, Flip, Fail, Learn, Unlisted}
+use Rattle.calculus.specs.declared.Refusal.{Refusal}
 use Rattle.calculus.specs.Lists.{all}
+use Rattle.calculus.specs.Numbers.{unless}
 use Rattle.calculus.specs.Sheets.{blank, termRows}
 use Rattle.calculus.specs.Trail.{Set, Trail}
 use Rattle.calculus.specs.Terms.{filled}
 use Rattle.calculus.specs.Steps as calculus
-use Rattle.calculus.specs.Steps.{needsConflict, isFilled, premises, inferenceShaped, pairShaped, learnShaped, shaped, ready, known, stepBy, answer, rowRefusal, kindOf, step}
+use Rattle.calculus.specs.Steps.{needsConflict, isFilled, premises, inferenceShaped, pairShaped, learnShaped, shaped, ready, known, stepBy, rowRefusal, kindOf, step}
 use Rattle.calculus.specs.Place.{strangePlace, placeOf}
+use Rattle.calculus.proofs.Kind.{the-type}
 use Rattle.calculus.proofs.Unplaced.{Unplaced, decide-nowhere, resolve-nowhere, clear-nowhere, jump-nowhere, flip-nowhere, learn-nowhere}
-use Rattle.calculus.proofs.Facts.{facts, true-T, both-true, unless-yes, unless-no}
+use Rattle.calculus.proofs.Facts.{facts, true-T, T-true, both-true, unless-ok}
 use Rattle.trail.specs.Words.{trailIn}
 use Rattle.moves.specs.Post.{conflictIn}
 use Rattle.state.specs.declared.Status.{Status}
 use Rattle.state.specs.declared.Answer.{Answer}
 use Rattle.state.specs.declared.Answer.the-variants.{Allowed, Refuted, Refused}
 use Rattle.state.specs.States.{stateIn, Standing, nowhere, unplaced, Answers}
-use Rattle.state.proofs.States.{in-conflict, trail-there, conflict-there, passed-by}
-use Rattle.search_steps.specs.Searches.{Searching, Inferring}
+use Rattle.state.proofs.States.{in-conflict, in-search, trail-there, conflict-there, refused-by, passed-by}
+use Rattle.state.proofs.Tests.{told-not, told-yes, past, stops}
+use Rattle.search_steps.specs.Searches.{Searching, Inferring, Inference}
 use Rattle.conflicts.specs.Conflicts.{Conflicted}
 use Rattle.learning.specs.Learns.{ToLearn}
-use Rattle.steps.specs.Asked.{Asked}
+use Rattle.steps.specs.Asked.{OfKind, RowRefused, Asked}
+
+-- ---- the kinds that infer
+
+-- they are told by their tags
+abbrev tags : List ℕ
+tags = 1 ∷ 2 ∷ 7 ∷ []
+
+pub infers-told : {k : Kind} → OneOf tags (tagOf the-type k) → Inference k
+infers-told {k} t = go k t
+  where
+    go : (j : Kind) → OneOf tags (tagOf the-type j) → Inference j
+    go Deduce t = inl refl
+    go Clash t = inr (inl refl)
+    go Fail t = inr (inr refl)
+    go Decide t = absurd (miss tags 0 tt t)
+    go Resolve t = absurd (miss tags 3 tt t)
+    go Clear t = absurd (miss tags 4 tt t)
+    go Jump t = absurd (miss tags 5 tt t)
+    go Flip t = absurd (miss tags 6 tt t)
+    go Learn t = absurd (miss tags 8 tt t)
+    go Unlisted t = absurd (miss tags 9 tt t)
+
+-- they have one shape of row
+infers-shape : (x : Step) {k : Kind} → Inference k → shaped x k ≡ inferenceShaped x
+unfolding shaped
+infers-shape x (inl e) = rw e
+infers-shape x (inr (inl e)) = rw e
+infers-shape x (inr (inr e)) = rw e
+
+pub infers-shaped : (x : Step) {k : Kind} {a : Bool} → Inference k → a ≡ inferenceShaped x → a ≡ shaped x k
+infers-shaped x i e = e ∙ sym (infers-shape x i)
+
+-- and need a search
+infers-in-search : {k : Kind} → Inference k → needsConflict k ≡ false
+infers-in-search (inl e) = rw e
+infers-in-search (inr (inl e)) = rw e
+infers-in-search (inr (inr e)) = rw e
+
+pub infers-ready : {k : Kind} (b : Bool) → Inference k → not b ≡ cond (needsConflict k) b (not b)
+infers-ready b i = rw (infers-in-search i)
 
 -- ---- what the tests say
 
@@ -67,32 +114,32 @@ module _ (w n : ℕ) (ts ws : List ℕ) (st : Status) (x : Step) (k : Kind) (g :
 
   -- ---- what the steps of a kind find
 
-  pub asked-search : (j : Kind) → needsConflict j ≡ false → k ≡ j → Searching w n ts ws st (x .term)
-  asked-search j e q = record { standing = g .standing; search = go (st .conflict) (rw (q, e) at suits-there); row = term-row }
+  asked-search : needsConflict k ≡ false → Searching w n ts ws st (x .term)
+  asked-search e = record { standing = g .standing; search = go (st .conflict) (rw e at suits-there); row = term-row }
     where
       go : (b : Bool) → not b ≡ true → b ≡ false
       go true h = sym h
       go false h = refl
 
-  pub asked-inference : (j : Kind) → shaped x j ≡ inferenceShaped x → needsConflict j ≡ false → k ≡ j → Inferring w n ts ws st x
-  asked-inference j a e q =
-      let s : T (inferenceShaped x) = true-T _ (sym a ∙ ap (shaped x) (sym q) ∙ g .shape) in
+  asked-inference : Inference k → Inferring w n ts ws st x
+  asked-inference i =
+      let s : T (inferenceShaped x) = true-T _ (sym (infers-shape x i) ∙ g .shape) in
       let v : T (leb (x .value) 1) = search facts depth 12 in
-      record { searching = asked-search j e q; truth = leb→le _ _ v }
+      record { searching = asked-search (infers-in-search i); truth = leb→le _ _ v }
 
-  pub asked-conflict : (j : Kind) → needsConflict j ≡ true → k ≡ j → Conflicted w n ts ws st (x .term)
-  asked-conflict j e q = record { standing = g .standing; conflict = rw (q, e) at suits-there; row = term-row }
+  asked-conflict : needsConflict k ≡ true → Conflicted w n ts ws st (x .term)
+  asked-conflict e = record { standing = g .standing; conflict = rw e at suits-there; row = term-row }
 
-  pub asked-p : k ≡ Flip → x .p < n
+  asked-p : k ≡ Flip → x .p < n
   asked-p q = let h = known-p ts x (ap (shaped x) (sym q) ∙ g .shape) (g .rows) in omega (arith, g .standing .held .rows)
 
-  pub asked-learn : k ≡ Learn → ToLearn w n ts ws st x
+  asked-learn : k ≡ Learn → ToLearn w n ts ws st x
   unfolding known shaped
   asked-learn q =
       let h : all (λ p. ltb p (termRows ts)) (premises x) ≡ true = both-true (ltb (x .term) (termRows ts)) _ (g .rows) .1 in
       let s : T (learnShaped x) = true-T _ (ap (shaped x) (sym q) ∙ g .shape) in
       let t : x .t ≡ blank = search facts depth 12 in
-      record { conflicted = asked-conflict Learn refl q; known = rw (g .standing .held .rows) h; four = t }
+      record { conflicted = asked-conflict (ap needsConflict q); known = rw (g .standing .held .rows) h; four = t }
 
   -- ---- the answer of each kind
 
@@ -133,110 +180,115 @@ module _ (w n : ℕ) (ts ws : List ℕ) (st : Status) (x : Step) (k : Kind) (g :
     unfolding stepBy
     decide-by e h = by (rw (e, trail-there w n ws st)) (told _ (decide-nowhere ts here x (x .term) _) h)
 
-    pub deduce-by : k ≡ Deduce → Answered (calculus.deduce ts here (x .rule) (x .term) (x .value) (premises x)) → Answered its-step
-    unfolding stepBy
-    deduce-by e h = by (rw (e, trail-there w n ws st)) h
-
-    pub clash-by : k ≡ Clash → Answered (calculus.clash ts here (x .rule) (x .term) (x .value) (premises x)) → Answered its-step
-    unfolding stepBy
-    clash-by e h = by (rw (e, trail-there w n ws st)) h
-
-    pub fail-by : k ≡ Fail → Answered (calculus.fail ts here (x .rule) (x .term) (x .value) (premises x)) → Answered its-step
-    unfolding stepBy
-    fail-by e h = by (rw (e, trail-there w n ws st)) h
+    pub infer-by : Inference k → Answered (stepBy ts k (calculus.searching here) x) → Answered its-step
+    infer-by i h = by (ap (λ s. stepBy ts k s x) (in-search w n ws st (asked-search (infers-in-search i) .search))) h
 
     -- a step that needs a conflict finds one
-    in-a-conflict : (j : Kind) → needsConflict j ≡ true → k ≡ j → stateIn w n ws st ≡ calculus.conflict here set
-    in-a-conflict j e q = in-conflict w n ws st (asked-conflict j e q .conflict)
+    in-a-conflict : needsConflict k ≡ true → stateIn w n ws st ≡ calculus.conflict here set
+    in-a-conflict e = in-conflict w n ws st (asked-conflict e .conflict)
 
     pub resolve-by : k ≡ Resolve → Said (calculus.resolve ts here set (x .term)) → Answered its-step
     unfolding stepBy
-    resolve-by e h = by (rw (in-a-conflict Resolve refl e, e)) (told _ (resolve-nowhere ts here x (x .term) set) h)
+    resolve-by e h = by (rw (in-a-conflict (ap needsConflict e), e)) (told _ (resolve-nowhere ts here x (x .term) set) h)
 
     pub clear-by : k ≡ Clear → Said (calculus.clear ts here set (x .term)) → Answered its-step
     unfolding stepBy
-    clear-by e h = by (rw (in-a-conflict Clear refl e, e)) (told _ (clear-nowhere ts here x (x .term) set) h)
+    clear-by e h = by (rw (in-a-conflict (ap needsConflict e), e)) (told _ (clear-nowhere ts here x (x .term) set) h)
 
     pub jump-by : k ≡ Jump → Said (calculus.jump ts here set (x .term)) → Answered its-step
     unfolding stepBy
-    jump-by e h = by (rw (in-a-conflict Jump refl e, e)) (told _ (jump-nowhere ts here x (x .term) set) h)
+    jump-by e h = by (rw (in-a-conflict (ap needsConflict e), e)) (told _ (jump-nowhere ts here x (x .term) set) h)
 
     pub flip-by : k ≡ Flip → Said (calculus.flip ts here set (x .term) (x .p)) → Answered its-step
     unfolding stepBy
-    flip-by e h = by (rw (in-a-conflict Flip refl e, e)) (told _ (flip-nowhere ts here x (x .term) set _) h)
+    flip-by e h = by (rw (in-a-conflict (ap needsConflict e), e)) (told _ (flip-nowhere ts here x (x .term) set _) h)
 
     pub learn-by : k ≡ Learn → Said (calculus.learn ts here set (x .term) (x .value) (premises x)) → Answered its-step
     unfolding stepBy
-    learn-by e h = by (rw (in-a-conflict Learn refl e, e)) (told _ (learn-nowhere ts here x (x .term) set _ _) h)
-
-  pub unlisted-by : k ≡ Unlisted → Answers w n ts ws ws at (stepBy ts k (stateIn w n ws st) x) (Refused (unplaced 9))
-  unfolding stepBy Answers placeOf
-  unlisted-by e = (rw e, refl, refl)
+    learn-by e h = by (rw (in-a-conflict (ap needsConflict e), e)) (told _ (learn-nowhere ts here x (x .term) set _ _) h)
 
 -- ---- a row: the first test that fails decides, and then its step
 
-module _ (ts : List ℕ) (s : calculus.State) (x : Step) {k : Kind} (e : k ≡ kindOf (x .step)) where
-  numbered : (c : ℕ) → rowRefusal ts s x ≡ suc c → step ts s x ≡ calculus.refused (suc c)
-  unfolding step answer
-  numbered c q = rw q
+-- the number of each test of a row
+module _ (ts : List ℕ) (x : Step) {a b : Bool} where
+  pub row-9 : not a ≡ true → RowRefused ts x a b (unplaced 9)
+  unfolding placeOf
+  row-9 h = record { number = stops _ _ (not-true _ h); place = λ tr. refl }
 
-  pub step-9 : shaped x k ≡ false → step ts s x ≡ calculus.refused 9
-  unfolding rowRefusal
-  step-9 a = numbered 8 (unless-no _ _ (ap (shaped x) (sym e) ∙ a))
+  module _ (a-in : not a ≡ false) where
+    pub row-10 : not b ≡ true → RowRefused ts x a b (unplaced 10)
+    unfolding placeOf
+    row-10 h = record { number = past _ _ (not-false _ a-in) (stops _ _ (not-true _ h)); place = λ tr. refl }
 
-  pub step-10 : shaped x k ≡ true → ready s k ≡ false → step ts s x ≡ calculus.refused 10
-  unfolding rowRefusal
-  step-10 a b = numbered 9 (unless-yes _ _ (ap (shaped x) (sym e) ∙ a) ∙ unless-no _ _ (ap (ready s) (sym e) ∙ b))
+    module _ (b-in : not b ≡ false) {c : Bool} (c-is : c ≡ known ts x) where
+      pub row-11 : {p : ℕ} → not c ≡ true → p ≡ strangePlace ts x → RowRefused ts x a b (record { number = 11; place = p })
+      unfolding placeOf
+      row-11 h q = record { number = past _ _ (not-false _ a-in) (past _ _ (not-false _ b-in) (stops _ _ (told-not c-is h))); place = λ tr. q }
 
-  pub step-11 : shaped x k ≡ true → ready s k ≡ true → known ts x ≡ false → step ts s x ≡ calculus.refused 11
-  unfolding rowRefusal
-  step-11 a b c = numbered 10 (unless-yes _ _ (ap (shaped x) (sym e) ∙ a) ∙ unless-yes _ _ (ap (ready s) (sym e) ∙ b) ∙ unless-no _ _ c)
+      pub row-0 : not c ≡ false → RowRefused ts x a b (unplaced 0)
+      unfolding placeOf
+      row-0 h = record { number = past _ _ (not-false _ a-in) (past _ _ (not-false _ b-in) (past _ _ (told-yes c-is h) refl)); place = λ tr. refl }
 
-  pub step-on : shaped x k ≡ true → ready s k ≡ true → known ts x ≡ true → step ts s x ≡ stepBy ts k s x
-  unfolding step rowRefusal
-  step-on a b c = go (unless-yes _ _ (ap (shaped x) (sym e) ∙ a) ∙ unless-yes _ _ (ap (ready s) (sym e) ∙ b) ∙ unless-yes _ _ c)
-    where
-      go : rowRefusal ts s x ≡ 0 → step ts s x ≡ stepBy ts k s x
-      go z = passed-by (stepBy ts (kindOf (x .step)) s x) (sym z) refl ∙ ap (λ j. stepBy ts j s x) (sym e)
+-- the kind of a row
+pub of-kind : (w n : ℕ) (ts ws : List ℕ) (st : Status) (x : Step) (j : Kind) {k : Kind}
+    → Standing w n ts ws st → k ≡ kindOf (x .step) → k ≡ j → OfKind w n ts ws st x j
+of-kind w n ts ws st x j s e q = record { standing = s; kind = sym q ∙ e }
 
--- ---- the answers, test by test as the code has them
-
-module _ (w n : ℕ) (ts ws : List ℕ) (st : Status) (x : Step) {k : Kind} (e : k ≡ kindOf (x .step)) where
+module _ (w n : ℕ) (ts ws : List ℕ) (st : Status) (x : Step) (k : Kind) (s : Standing w n ts ws st) (e : k ≡ kindOf (x .step)) where
   abbrev the-step : calculus.Answer
   the-step = step ts (stateIn w n ws st) x
 
   abbrev its-place : ℕ → ℕ
   its-place = placeOf ts (trailIn w n ws (st .count)) x
 
-  module _ {a : Bool} (a-is : a ≡ shaped x k) where
-    pub answer-9 : not a ≡ true → Answers w n ts ws ws its-place the-step (Refused (unplaced 9))
-    unfolding Answers placeOf
-    answer-9 h = (step-9 ts _ x e (sym a-is ∙ not-true _ h), refl, refl)
+  module _ {a b : Bool} {c : Refusal} (c-is : RowRefused ts x a b c) (a-is : a ≡ shaped x k)
+      (b-is : b ≡ cond (needsConflict k) (st .conflict) (not (st .conflict))) where
+    row-number : c .number ≡ rowRefusal ts (stateIn w n ws st) x
+    unfolding rowRefusal
+    row-number = c-is .number ∙ rw (sym e, a-is, b-is, ready-there w n ts ws st k)
 
-    module _ (a-in : not a ≡ false) {b : Bool} (b-is : b ≡ cond (needsConflict k) (st .conflict) (not (st .conflict))) where
-      is-shaped : shaped x k ≡ true
-      is-shaped = sym a-is ∙ not-false _ a-in
+    pub row-refused : (c .number ≡ 0 → ⊥) → Answers w n ts ws ws its-place the-step (Refused c)
+    unfolding Answers step
+    row-refused h = (refused-by _ row-number h, c-is .place _, refl)
 
-      pub answer-10 : not b ≡ true → Answers w n ts ws ws its-place the-step (Refused (unplaced 10))
-      unfolding Answers placeOf
-      answer-10 h = (step-10 ts _ x e is-shaped (ready-there w n ts ws st k ∙ sym b-is ∙ not-true _ h), refl, refl)
+    module _ (c-no : c .number ≡ 0) where
+      pub row-asked : Asked w n ts ws st x k
+      unfolding rowRefusal
+      row-asked =
+          let t = unless-ok _ 9 _ (omega arith) (sym row-number ∙ c-no) in
+          let u = unless-ok _ 10 _ (omega arith) (t .1) in
+          let v = unless-ok _ 11 _ (omega arith) (u .1) in
+          record {
+            standing = s;
+            shape = ap (shaped x) e ∙ T-true _ (t .0);
+            suits = ap (ready (stateIn w n ws st)) e ∙ T-true _ (u .0);
+            rows = T-true _ (v .0);
+          }
 
-      module _ (b-in : not b ≡ false) {c : Bool} (c-is : c ≡ known ts x) where
-        is-ready : ready (stateIn w n ws st) k ≡ true
-        is-ready = ready-there w n ts ws st k ∙ sym b-is ∙ not-false _ b-in
+      pub row-search : needsConflict k ≡ false → Searching w n ts ws st (x .term)
+      row-search q = asked-search w n ts ws st x k row-asked q
 
-        pub answer-11 : {p : ℕ} → not c ≡ true → p ≡ strangePlace ts x
-            → Answers w n ts ws ws its-place the-step (Refused (record { number = 11; place = p }))
-        unfolding Answers placeOf
-        answer-11 h q = (step-11 ts _ x e is-shaped is-ready (sym c-is ∙ not-true _ h), q, refl)
+      pub row-infers : Inference k → Inferring w n ts ws st x
+      row-infers i = asked-inference w n ts ws st x k row-asked i
 
-        module _ (c-in : not c ≡ false) where
-          is-known : known ts x ≡ true
-          is-known = sym c-is ∙ not-false _ c-in
+      pub row-conflict : needsConflict k ≡ true → Conflicted w n ts ws st (x .term)
+      row-conflict q = asked-conflict w n ts ws st x k row-asked q
 
-          pub asked-by : Standing w n ts ws st → Asked w n ts ws st x k
-          asked-by s = record { standing = s; shape = is-shaped; suits = is-ready; rows = is-known }
+      pub row-p : k ≡ Flip → x .p < n
+      row-p q = asked-p w n ts ws st x k row-asked q
 
-          pub answer-by : (vs : List ℕ) (r : Answer)
-              → Answers w n ts ws vs its-place (stepBy ts k (stateIn w n ws st) x) r → Answers w n ts ws vs its-place the-step r
-          answer-by vs r h = subst (λ a. Answers w n ts ws vs its-place a r) (sym (step-on ts _ x e is-shaped is-ready is-known)) h
+      pub row-learns : k ≡ Learn → ToLearn w n ts ws st x
+      row-learns q = asked-learn w n ts ws st x k row-asked q
+
+      pub row-by : (vs : List ℕ) (r : Answer)
+          → Answers w n ts ws vs its-place (stepBy ts k (stateIn w n ws st) x) r → Answers w n ts ws vs its-place the-step r
+      unfolding step
+      row-by vs r h =
+          let on : the-step ≡ stepBy ts k (stateIn w n ws st) x = passed-by _ row-number c-no ∙ ap (λ j. stepBy ts j (stateIn w n ws st) x) (sym e) in
+          subst (λ a. Answers w n ts ws vs its-place a r) (sym on) h
+
+-- a row that is not listed
+pub unlisted-row : (w n : ℕ) (ts ws : List ℕ) (st : Status) (x : Step) {k : Kind} → k ≡ kindOf (x .step) → k ≡ Unlisted
+    → Answers w n ts ws ws (placeOf ts (trailIn w n ws (st .count)) x) (step ts (stateIn w n ws st) x) (Refused (unplaced 9))
+unfolding Answers step rowRefusal calculus.answer shaped unless placeOf
+unlisted-row w n ts ws st x e q = (rw (sym e ∙ q), refl, refl)

@@ -1,11 +1,11 @@
-// One step of a log: the numbers 9, 10, 11, and then the step of its kind.
-ghost use mathlib.Core.Path.{_≡_};
-ghost use mathlib.Core.Bool.{not, cond};
-ghost use Rattle.calculus.specs.Steps.{needsConflict, stepBy, step};
+// One step of a log: the numbers 9, 10, 11, and then the step of its kind. A row is told by its kind first, so that every kind has its tests in one piece
+// of the code.
+ghost use Rattle.calculus.specs.declared.Kind.the-variants.{Decide, Resolve, Clear, Jump, Flip, Learn};
+ghost use Rattle.calculus.specs.Steps.{step};
 ghost use Rattle.calculus.specs.Place.{placeOf};
 ghost use Rattle.trail.specs.Words.{trailIn};
 ghost use Rattle.state.specs.States.{stateIn, Standing, Answers};
-ghost use Rattle.steps.specs.Asked.{Asked};
+ghost use Rattle.steps.specs.Asked.{OfKind, RowRefused};
 use calculus::Kind;
 use calculus::Refusal;
 use calculus::Row;
@@ -13,65 +13,118 @@ use calculus::Step;
 use state::Answer;
 use state::Status;
 
-// Whether a step of kind k needs a conflict.
-fn needs_conflict(k: Kind) -> bool
-    ensures { λ r. ⌜ r ≡ needsConflict k ⌝ }
+// Numbers 9, 10, 11 of a row: `shaped` tells whether its columns are those of its kind, `ready` whether the state suits the kind.
+fn row_refusal(terms: &[u16], x: Step, shaped: bool, ready: bool) -> Refusal
+    ensures { λ r. ⌜ RowRefused (now (terms .entry)) x shaped ready r ⌝ }
 {
-    match k {
-        Kind::Decide => false,
-        Kind::Deduce => false,
-        Kind::Clash => false,
-        Kind::Resolve => true,
-        Kind::Clear => true,
-        Kind::Jump => true,
-        Kind::Flip => true,
-        Kind::Fail => false,
-        Kind::Learn => true,
-        Kind::Unlisted => false,
-    }
-}
-
-// Decide, deduce, clash and fail need a search, the others a conflict.
-fn is_ready(k: Kind, conflict: bool) -> bool
-    ensures { λ r. ⌜ r ≡ cond (needsConflict k) conflict (not conflict) ⌝ }
-{
-    let needs = needs_conflict(k);
-    if needs {
-        return conflict;
-    }
-    !conflict
-}
-
-// A step of kind k, whose columns, state and rows are right.
-fn step_by(
-    terms: &[u16],
-    work: &mut [u64],
-    w: usize,
-    n: usize,
-    st: Status,
-    x: Step,
-    k: Kind,
-) -> Answer
-    requires { ⌜ Asked w n (now terms) (now work) st x k ⌝ }
-    ensures { λ r. ⌜ Answers w n (now (terms .entry)) (now (work .entry)) (now (work .exit))
-        (placeOf (now (terms .entry)) (trailIn w n (now (work .entry)) (st .count)) x)
-        (stepBy (now (terms .entry)) k (stateIn w n (now (work .entry)) st) x) r ⌝ }
-{
-    match k {
-        Kind::Decide => search_steps::decide(terms, work, w, n, st, Row(x.term), x.value),
-        Kind::Deduce => search_steps::deduce(terms, work, w, n, st, x),
-        Kind::Clash => search_steps::clash(terms, work, w, n, st, x),
-        Kind::Resolve => conflict_steps::resolve(terms, work, w, n, st, Row(x.term)),
-        Kind::Clear => conflict_steps::clear(terms, work, w, n, st, Row(x.term)),
-        Kind::Jump => conflict_steps::jump(terms, work, w, n, st, Row(x.term)),
-        Kind::Flip => conflict_steps::flip(terms, work, w, n, st, Row(x.term), Row(x.p)),
-        Kind::Fail => search_steps::fail(terms, work, w, n, st, x),
-        Kind::Learn => learning::learn(terms, work, w, n, st, x),
-        Kind::Unlisted => Answer::Refused(Refusal {
+    if !shaped {
+        return Refusal {
             number: 9,
             place: 0,
-        }),
+        };
     }
+    if !ready {
+        return Refusal {
+            number: 10,
+            place: 0,
+        };
+    }
+    if !step_rows::known(terms, x) {
+        return Refusal {
+            number: 11,
+            place: step_rows::strange_place(terms, x),
+        };
+    }
+    Refusal {
+        number: 0,
+        place: 0,
+    }
+}
+
+// ---- a row of each kind
+
+// A decide row.
+fn decide_row(terms: &[u16], work: &mut [u64], w: usize, n: usize, st: Status, x: Step) -> Answer
+    requires { ⌜ OfKind w n (now terms) (now work) st x Decide ⌝ }
+    ensures { λ r. ⌜ Answers w n (now (terms .entry)) (now (work .entry)) (now (work .exit))
+        (placeOf (now (terms .entry)) (trailIn w n (now (work .entry)) (st .count)) x)
+        (step (now (terms .entry)) (stateIn w n (now (work .entry)) st) x) r ⌝ }
+{
+    let c = row_refusal(terms, x, step_rows::decision_shaped(x), !st.conflict);
+    if c.number != 0 {
+        return Answer::Refused(c);
+    }
+    search_steps::decide(terms, work, w, n, st, Row(x.term), x.value)
+}
+
+// A resolve row.
+fn resolve_row(terms: &[u16], work: &mut [u64], w: usize, n: usize, st: Status, x: Step) -> Answer
+    requires { ⌜ OfKind w n (now terms) (now work) st x Resolve ⌝ }
+    ensures { λ r. ⌜ Answers w n (now (terms .entry)) (now (work .entry)) (now (work .exit))
+        (placeOf (now (terms .entry)) (trailIn w n (now (work .entry)) (st .count)) x)
+        (step (now (terms .entry)) (stateIn w n (now (work .entry)) st) x) r ⌝ }
+{
+    let c = row_refusal(terms, x, step_rows::term_shaped(x), st.conflict);
+    if c.number != 0 {
+        return Answer::Refused(c);
+    }
+    conflict_steps::resolve(terms, work, w, n, st, Row(x.term))
+}
+
+// A clear row.
+fn clear_row(terms: &[u16], work: &mut [u64], w: usize, n: usize, st: Status, x: Step) -> Answer
+    requires { ⌜ OfKind w n (now terms) (now work) st x Clear ⌝ }
+    ensures { λ r. ⌜ Answers w n (now (terms .entry)) (now (work .entry)) (now (work .exit))
+        (placeOf (now (terms .entry)) (trailIn w n (now (work .entry)) (st .count)) x)
+        (step (now (terms .entry)) (stateIn w n (now (work .entry)) st) x) r ⌝ }
+{
+    let c = row_refusal(terms, x, step_rows::term_shaped(x), st.conflict);
+    if c.number != 0 {
+        return Answer::Refused(c);
+    }
+    conflict_steps::clear(terms, work, w, n, st, Row(x.term))
+}
+
+// A jump row.
+fn jump_row(terms: &[u16], work: &mut [u64], w: usize, n: usize, st: Status, x: Step) -> Answer
+    requires { ⌜ OfKind w n (now terms) (now work) st x Jump ⌝ }
+    ensures { λ r. ⌜ Answers w n (now (terms .entry)) (now (work .entry)) (now (work .exit))
+        (placeOf (now (terms .entry)) (trailIn w n (now (work .entry)) (st .count)) x)
+        (step (now (terms .entry)) (stateIn w n (now (work .entry)) st) x) r ⌝ }
+{
+    let c = row_refusal(terms, x, step_rows::term_shaped(x), st.conflict);
+    if c.number != 0 {
+        return Answer::Refused(c);
+    }
+    conflict_steps::jump(terms, work, w, n, st, Row(x.term))
+}
+
+// A flip row.
+fn flip_row(terms: &[u16], work: &mut [u64], w: usize, n: usize, st: Status, x: Step) -> Answer
+    requires { ⌜ OfKind w n (now terms) (now work) st x Flip ⌝ }
+    ensures { λ r. ⌜ Answers w n (now (terms .entry)) (now (work .entry)) (now (work .exit))
+        (placeOf (now (terms .entry)) (trailIn w n (now (work .entry)) (st .count)) x)
+        (step (now (terms .entry)) (stateIn w n (now (work .entry)) st) x) r ⌝ }
+{
+    let c = row_refusal(terms, x, step_rows::pair_shaped(x), st.conflict);
+    if c.number != 0 {
+        return Answer::Refused(c);
+    }
+    conflict_steps::flip(terms, work, w, n, st, Row(x.term), Row(x.p))
+}
+
+// A learn row.
+fn learn_row(terms: &[u16], work: &mut [u64], w: usize, n: usize, st: Status, x: Step) -> Answer
+    requires { ⌜ OfKind w n (now terms) (now work) st x Learn ⌝ }
+    ensures { λ r. ⌜ Answers w n (now (terms .entry)) (now (work .entry)) (now (work .exit))
+        (placeOf (now (terms .entry)) (trailIn w n (now (work .entry)) (st .count)) x)
+        (step (now (terms .entry)) (stateIn w n (now (work .entry)) st) x) r ⌝ }
+{
+    let c = row_refusal(terms, x, step_rows::learn_shaped(x), st.conflict);
+    if c.number != 0 {
+        return Answer::Refused(c);
+    }
+    learning::learn(terms, work, w, n, st, x)
 }
 
 // One step row: what it answers is what the definition says, and an allowed one leaves its state in the words.
@@ -82,23 +135,24 @@ pub fn step(terms: &[u16], work: &mut [u64], w: usize, n: usize, st: Status, x: 
         (step (now (terms .entry)) (stateIn w n (now (work .entry)) st) x) r ⌝ }
 {
     let k = kinds::kind_of(x.step);
-    if !step_rows::shaped(x, k) {
-        return Answer::Refused(Refusal {
+    match k {
+        Kind::Decide => decide_row(terms, work, w, n, st, x),
+        // These three share their tests. They stand here, because the compiler makes faster code of that than of one more function.
+        Kind::Deduce | Kind::Clash | Kind::Fail => {
+            let c = row_refusal(terms, x, step_rows::inference_shaped(x), !st.conflict);
+            if c.number != 0 {
+                return Answer::Refused(c);
+            }
+            search_steps::infer(terms, work, w, n, st, x, k)
+        }
+        Kind::Resolve => resolve_row(terms, work, w, n, st, x),
+        Kind::Clear => clear_row(terms, work, w, n, st, x),
+        Kind::Jump => jump_row(terms, work, w, n, st, x),
+        Kind::Flip => flip_row(terms, work, w, n, st, x),
+        Kind::Learn => learn_row(terms, work, w, n, st, x),
+        Kind::Unlisted => Answer::Refused(Refusal {
             number: 9,
             place: 0,
-        });
+        }),
     }
-    if !is_ready(k, st.conflict) {
-        return Answer::Refused(Refusal {
-            number: 10,
-            place: 0,
-        });
-    }
-    if !step_rows::known(terms, x) {
-        return Answer::Refused(Refusal {
-            number: 11,
-            place: step_rows::strange_place(terms, x),
-        });
-    }
-    step_by(terms, work, w, n, st, x, k)
 }
