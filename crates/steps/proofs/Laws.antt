@@ -1,4 +1,4 @@
--- A step by its kind: what the tests before it say, and its answer in the calculus.
+-- A row by its kind: what its tests say, what its step finds, and its answer in the calculus.
 use mathlib.Core.Path.{_≡_, refl, sym, ap, subst, _∙_}
 use mathlib.Core.Bool.{Bool, true, false, not, cond}
 use mathlib.Core.List.{List, [], _∷_}
@@ -19,7 +19,8 @@ use Rattle.calculus.specs.Sheets.{blank, termRows}
 use Rattle.calculus.specs.Trail.{Set, Trail}
 use Rattle.calculus.specs.Terms.{filled}
 use Rattle.calculus.specs.Steps as calculus
-use Rattle.calculus.specs.Steps.{needsConflict, isFilled, premises, inferenceShaped, pairShaped, learnShaped, shaped, ready, known, stepBy, rowRefusal, kindOf, step}
+use Rattle.calculus.specs.Steps.{isFilled, premises, inferenceShaped, pairShaped, learnShaped, shaped}
+use Rattle.calculus.specs.Steps.{needsConflict, ready, known, stepBy, rowRefusal, kindOf, step}
 use Rattle.calculus.specs.Place.{strangePlace, placeOf}
 use Rattle.calculus.proofs.Kind.{the-type}
 use Rattle.calculus.proofs.Unplaced.{Unplaced, decide-nowhere, resolve-nowhere, clear-nowhere, jump-nowhere, flip-nowhere, learn-nowhere}
@@ -35,7 +36,7 @@ use Rattle.state.proofs.Tests.{told-not, told-yes, past, stops}
 use Rattle.search_steps.specs.Searches.{Searching, Inferring, Inference}
 use Rattle.conflicts.specs.Conflicts.{Conflicted}
 use Rattle.learning.specs.Learns.{ToLearn}
-use Rattle.steps.specs.Asked.{OfKind, RowRefused, Asked}
+use Rattle.steps.specs.Rows.{OfKind, RowRefused}
 
 -- ---- the kinds that infer
 
@@ -80,12 +81,12 @@ infers-ready b i = rw (infers-in-search i)
 -- ---- what the tests say
 
 -- the term is a row
-pub known-term : (ts : List ℕ) (x : Step) → known ts x ≡ true → x .term < termRows ts
+known-term : (ts : List ℕ) (x : Step) → known ts x ≡ true → x .term < termRows ts
 unfolding known
 known-term ts x e = ltb→lt _ _ (true-T _ (both-true (ltb (x .term) (termRows ts)) _ e .0))
 
 -- flip's p is filled, so it is a row
-pub known-p : (ts : List ℕ) (x : Step) → shaped x Flip ≡ true → known ts x ≡ true → x .p < termRows ts
+known-p : (ts : List ℕ) (x : Step) → shaped x Flip ≡ true → known ts x ≡ true → x .p < termRows ts
 unfolding shaped known premises
 known-p ts x s k =
     let h : T (pairShaped x) = true-T _ s in
@@ -105,111 +106,8 @@ module _ (w n : ℕ) (ts ws : List ℕ) (st : Status) (k : Kind) where
   unfolding ready
   ready-there = ap (λ b. cond (needsConflict k) b (not b)) (conflict-there w n ws st)
 
-module _ (w n : ℕ) (ts ws : List ℕ) (st : Status) (x : Step) (k : Kind) (g : Asked w n ts ws st x k) where
-  suits-there : cond (needsConflict k) (st .conflict) (not (st .conflict)) ≡ true
-  suits-there = sym (ready-there w n ts ws st k) ∙ g .suits
+-- ---- the number of each test of a row
 
-  term-row : x .term < n
-  term-row = let h = known-term ts x (g .rows) in omega (arith, g .standing .held .rows)
-
-  -- ---- what the steps of a kind find
-
-  asked-search : needsConflict k ≡ false → Searching w n ts ws st (x .term)
-  asked-search e = record { standing = g .standing; search = go (st .conflict) (rw e at suits-there); row = term-row }
-    where
-      go : (b : Bool) → not b ≡ true → b ≡ false
-      go true h = sym h
-      go false h = refl
-
-  asked-inference : Inference k → Inferring w n ts ws st x
-  asked-inference i =
-      let s : T (inferenceShaped x) = true-T _ (sym (infers-shape x i) ∙ g .shape) in
-      let v : T (leb (x .value) 1) = search facts depth 12 in
-      record { searching = asked-search (infers-in-search i); truth = leb→le _ _ v }
-
-  asked-conflict : needsConflict k ≡ true → Conflicted w n ts ws st (x .term)
-  asked-conflict e = record { standing = g .standing; conflict = rw e at suits-there; row = term-row }
-
-  asked-p : k ≡ Flip → x .p < n
-  asked-p q = let h = known-p ts x (ap (shaped x) (sym q) ∙ g .shape) (g .rows) in omega (arith, g .standing .held .rows)
-
-  asked-learn : k ≡ Learn → ToLearn w n ts ws st x
-  unfolding known shaped
-  asked-learn q =
-      let h : all (λ p. ltb p (termRows ts)) (premises x) ≡ true = both-true (ltb (x .term) (termRows ts)) _ (g .rows) .1 in
-      let s : T (learnShaped x) = true-T _ (ap (shaped x) (sym q) ∙ g .shape) in
-      let t : x .t ≡ blank = search facts depth 12 in
-      record { conflicted = asked-conflict (ap needsConflict q); known = rw (g .standing .held .rows) h; four = t }
-
-  -- ---- the answer of each kind
-
-  abbrev here : Trail
-  here = trailIn w n ws (st .count)
-
-  abbrev set : Set
-  set = conflictIn w n ws
-
-  abbrev at : ℕ → ℕ
-  at = placeOf ts here x
-
-  module _ (vs : List ℕ) (r : Answer) where
-    abbrev Answered : calculus.Answer → Type 0
-    Answered a = Answers w n ts ws vs at a r
-
-    -- of a step whose own numbers have no place
-    abbrev Said : calculus.Answer → Type 0
-    Said a = Answers w n ts ws vs nowhere a r
-
-    told : (a : calculus.Answer) → Unplaced ts here x a → Said a → Answered a
-    unfolding Answers
-    told a u h = go r h
-      where
-        go : (b : Answer) → Answers w n ts ws vs nowhere a b → Answers w n ts ws vs at a b
-        go (Allowed next) h = h
-        go Refuted h = h
-        go (Refused c) h = (h .0, h .1 ∙ sym (subst (Unplaced ts here x) (h .0) u .none), h .2)
-
-    -- the answer to one step is the answer to an equal one
-    by : {a b : calculus.Answer} → b ≡ a → Answered a → Answered b
-    by e h = subst Answered (sym e) h
-
-    abbrev its-step : calculus.Answer
-    its-step = stepBy ts k (stateIn w n ws st) x
-
-    pub decide-by : k ≡ Decide → Said (calculus.decide ts here (x .term) (x .value)) → Answered its-step
-    unfolding stepBy
-    decide-by e h = by (rw (e, trail-there w n ws st)) (told _ (decide-nowhere ts here x (x .term) _) h)
-
-    pub infer-by : Inference k → Answered (stepBy ts k (calculus.searching here) x) → Answered its-step
-    infer-by i h = by (ap (λ s. stepBy ts k s x) (in-search w n ws st (asked-search (infers-in-search i) .search))) h
-
-    -- a step that needs a conflict finds one
-    in-a-conflict : needsConflict k ≡ true → stateIn w n ws st ≡ calculus.conflict here set
-    in-a-conflict e = in-conflict w n ws st (asked-conflict e .conflict)
-
-    pub resolve-by : k ≡ Resolve → Said (calculus.resolve ts here set (x .term)) → Answered its-step
-    unfolding stepBy
-    resolve-by e h = by (rw (in-a-conflict (ap needsConflict e), e)) (told _ (resolve-nowhere ts here x (x .term) set) h)
-
-    pub clear-by : k ≡ Clear → Said (calculus.clear ts here set (x .term)) → Answered its-step
-    unfolding stepBy
-    clear-by e h = by (rw (in-a-conflict (ap needsConflict e), e)) (told _ (clear-nowhere ts here x (x .term) set) h)
-
-    pub jump-by : k ≡ Jump → Said (calculus.jump ts here set (x .term)) → Answered its-step
-    unfolding stepBy
-    jump-by e h = by (rw (in-a-conflict (ap needsConflict e), e)) (told _ (jump-nowhere ts here x (x .term) set) h)
-
-    pub flip-by : k ≡ Flip → Said (calculus.flip ts here set (x .term) (x .p)) → Answered its-step
-    unfolding stepBy
-    flip-by e h = by (rw (in-a-conflict (ap needsConflict e), e)) (told _ (flip-nowhere ts here x (x .term) set _) h)
-
-    pub learn-by : k ≡ Learn → Said (calculus.learn ts here set (x .term) (x .value) (premises x)) → Answered its-step
-    unfolding stepBy
-    learn-by e h = by (rw (in-a-conflict (ap needsConflict e), e)) (told _ (learn-nowhere ts here x (x .term) set _ _) h)
-
--- ---- a row: the first test that fails decides, and then its step
-
--- the number of each test of a row
 module _ (ts : List ℕ) (x : Step) {a b : Bool} where
   pub row-9 : not a ≡ true → RowRefused ts x a b (unplaced 9)
   unfolding placeOf
@@ -229,63 +127,137 @@ module _ (ts : List ℕ) (x : Step) {a b : Bool} where
       unfolding placeOf
       row-0 h = record { number = past _ _ (not-false _ a-in) (past _ _ (not-false _ b-in) (past _ _ (told-yes c-is h) refl)); place = λ tr. refl }
 
--- the kind of a row
+-- ---- a row of kind k
+
 pub of-kind : (w n : ℕ) (ts ws : List ℕ) (st : Status) (x : Step) (j : Kind) {k : Kind}
     → Standing w n ts ws st → k ≡ kindOf (x .step) → k ≡ j → OfKind w n ts ws st x j
 of-kind w n ts ws st x j s e q = record { standing = s; kind = sym q ∙ e }
 
 module _ (w n : ℕ) (ts ws : List ℕ) (st : Status) (x : Step) (k : Kind) (s : Standing w n ts ws st) (e : k ≡ kindOf (x .step)) where
+  abbrev here : Trail
+  here = trailIn w n ws (st .count)
+
+  abbrev set : Set
+  set = conflictIn w n ws
+
+  abbrev at : ℕ → ℕ
+  at = placeOf ts here x
+
   abbrev the-step : calculus.Answer
   the-step = step ts (stateIn w n ws st) x
 
-  abbrev its-place : ℕ → ℕ
-  its-place = placeOf ts (trailIn w n ws (st .count)) x
-
+  -- its refusal is c
   module _ {a b : Bool} {c : Refusal} (c-is : RowRefused ts x a b c) (a-is : a ≡ shaped x k)
       (b-is : b ≡ cond (needsConflict k) (st .conflict) (not (st .conflict))) where
     row-number : c .number ≡ rowRefusal ts (stateIn w n ws st) x
     unfolding rowRefusal
     row-number = c-is .number ∙ rw (sym e, a-is, b-is, ready-there w n ts ws st k)
 
-    pub row-refused : (c .number ≡ 0 → ⊥) → Answers w n ts ws ws its-place the-step (Refused c)
+    pub row-refused : (c .number ≡ 0 → ⊥) → Answers w n ts ws ws at the-step (Refused c)
     unfolding Answers step
     row-refused h = (refused-by _ row-number h, c-is .place _, refl)
 
+    -- or there is none
     module _ (c-no : c .number ≡ 0) where
-      pub row-asked : Asked w n ts ws st x k
+      passed : (shaped x k ≡ true) × (ready (stateIn w n ws st) k ≡ true) × (known ts x ≡ true)
       unfolding rowRefusal
-      row-asked =
+      passed =
           let t = unless-ok _ 9 _ (omega arith) (sym row-number ∙ c-no) in
           let u = unless-ok _ 10 _ (omega arith) (t .1) in
           let v = unless-ok _ 11 _ (omega arith) (u .1) in
-          record {
-            standing = s;
-            shape = ap (shaped x) e ∙ T-true _ (t .0);
-            suits = ap (ready (stateIn w n ws st)) e ∙ T-true _ (u .0);
-            rows = T-true _ (v .0);
-          }
+          (ap (shaped x) e ∙ T-true _ (t .0), ap (ready (stateIn w n ws st)) e ∙ T-true _ (u .0), T-true _ (v .0))
+
+      suits-there : cond (needsConflict k) (st .conflict) (not (st .conflict)) ≡ true
+      suits-there = sym (ready-there w n ts ws st k) ∙ passed .1
+
+      term-row : x .term < n
+      term-row = let h = known-term ts x (passed .2) in omega (arith, s .held .rows)
+
+      -- ---- what its step finds
 
       pub row-search : needsConflict k ≡ false → Searching w n ts ws st (x .term)
-      row-search q = asked-search w n ts ws st x k row-asked q
+      row-search q = record { standing = s; search = go (st .conflict) (rw q at suits-there); row = term-row }
+        where
+          go : (b : Bool) → not b ≡ true → b ≡ false
+          go true h = sym h
+          go false h = refl
 
       pub row-infers : Inference k → Inferring w n ts ws st x
-      row-infers i = asked-inference w n ts ws st x k row-asked i
+      row-infers i =
+          let h : T (inferenceShaped x) = true-T _ (sym (infers-shape x i) ∙ passed .0) in
+          let v : T (leb (x .value) 1) = search facts depth 12 in
+          record { searching = row-search (infers-in-search i); truth = leb→le _ _ v }
 
       pub row-conflict : needsConflict k ≡ true → Conflicted w n ts ws st (x .term)
-      row-conflict q = asked-conflict w n ts ws st x k row-asked q
+      row-conflict q = record { standing = s; conflict = rw q at suits-there; row = term-row }
 
       pub row-p : k ≡ Flip → x .p < n
-      row-p q = asked-p w n ts ws st x k row-asked q
+      row-p q = let h = known-p ts x (ap (shaped x) (sym q) ∙ passed .0) (passed .2) in omega (arith, s .held .rows)
 
       pub row-learns : k ≡ Learn → ToLearn w n ts ws st x
-      row-learns q = asked-learn w n ts ws st x k row-asked q
+      unfolding known shaped
+      row-learns q =
+          let h : all (λ p. ltb p (termRows ts)) (premises x) ≡ true = both-true (ltb (x .term) (termRows ts)) _ (passed .2) .1 in
+          let l : T (learnShaped x) = true-T _ (ap (shaped x) (sym q) ∙ passed .0) in
+          let t : x .t ≡ blank = search facts depth 12 in
+          record { conflicted = row-conflict (ap needsConflict q); known = rw (s .held .rows) h; four = t }
 
-      pub row-by : (vs : List ℕ) (r : Answer)
-          → Answers w n ts ws vs its-place (stepBy ts k (stateIn w n ws st) x) r → Answers w n ts ws vs its-place the-step r
-      unfolding step
-      row-by vs r h =
-          let on : the-step ≡ stepBy ts k (stateIn w n ws st) x = passed-by _ row-number c-no ∙ ap (λ j. stepBy ts j (stateIn w n ws st) x) (sym e) in
-          subst (λ a. Answers w n ts ws vs its-place a r) (sym on) h
+      -- ---- the answer of each kind
+
+      module _ (vs : List ℕ) (r : Answer) where
+        abbrev Answered : calculus.Answer → Type 0
+        Answered a = Answers w n ts ws vs at a r
+
+        -- of a step whose own numbers have no place
+        abbrev Said : calculus.Answer → Type 0
+        Said a = Answers w n ts ws vs nowhere a r
+
+        told : (a : calculus.Answer) → Unplaced ts here x a → Said a → Answered a
+        unfolding Answers
+        told a u h = go r h
+          where
+            go : (b : Answer) → Answers w n ts ws vs nowhere a b → Answers w n ts ws vs at a b
+            go (Allowed next) h = h
+            go Refuted h = h
+            go (Refused c) h = (h .0, h .1 ∙ sym (subst (Unplaced ts here x) (h .0) u .none), h .2)
+
+        -- the row's answer is that of its step
+        by : {a : calculus.Answer} → stepBy ts k (stateIn w n ws st) x ≡ a → Answered a → Answered the-step
+        unfolding step
+        by q h =
+            let on = passed-by _ row-number c-no ∙ ap (λ j. stepBy ts j (stateIn w n ws st) x) (sym e) in
+            subst Answered (sym (on ∙ q)) h
+
+        pub decide-by : k ≡ Decide → Said (calculus.decide ts here (x .term) (x .value)) → Answered the-step
+        unfolding stepBy
+        decide-by q h = by (rw (q, trail-there w n ws st)) (told _ (decide-nowhere ts here x (x .term) _) h)
+
+        pub infer-by : Inference k → Answered (stepBy ts k (calculus.searching here) x) → Answered the-step
+        infer-by i h = by (ap (λ y. stepBy ts k y x) (in-search w n ws st (row-search (infers-in-search i) .search))) h
+
+        -- a step that needs a conflict finds one
+        in-a-conflict : needsConflict k ≡ true → stateIn w n ws st ≡ calculus.conflict here set
+        in-a-conflict q = in-conflict w n ws st (row-conflict q .conflict)
+
+        pub resolve-by : k ≡ Resolve → Said (calculus.resolve ts here set (x .term)) → Answered the-step
+        unfolding stepBy
+        resolve-by q h = by (rw (in-a-conflict (ap needsConflict q), q)) (told _ (resolve-nowhere ts here x (x .term) set) h)
+
+        pub clear-by : k ≡ Clear → Said (calculus.clear ts here set (x .term)) → Answered the-step
+        unfolding stepBy
+        clear-by q h = by (rw (in-a-conflict (ap needsConflict q), q)) (told _ (clear-nowhere ts here x (x .term) set) h)
+
+        pub jump-by : k ≡ Jump → Said (calculus.jump ts here set (x .term)) → Answered the-step
+        unfolding stepBy
+        jump-by q h = by (rw (in-a-conflict (ap needsConflict q), q)) (told _ (jump-nowhere ts here x (x .term) set) h)
+
+        pub flip-by : k ≡ Flip → Said (calculus.flip ts here set (x .term) (x .p)) → Answered the-step
+        unfolding stepBy
+        flip-by q h = by (rw (in-a-conflict (ap needsConflict q), q)) (told _ (flip-nowhere ts here x (x .term) set _) h)
+
+        pub learn-by : k ≡ Learn → Said (calculus.learn ts here set (x .term) (x .value) (premises x)) → Answered the-step
+        unfolding stepBy
+        learn-by q h = by (rw (in-a-conflict (ap needsConflict q), q)) (told _ (learn-nowhere ts here x (x .term) set _ _) h)
 
 -- a row that is not listed
 pub unlisted-row : (w n : ℕ) (ts ws : List ℕ) (st : Status) (x : Step) {k : Kind} → k ≡ kindOf (x .step) → k ≡ Unlisted

@@ -1,11 +1,8 @@
 // One step of a log: the numbers 9, 10, 11, and then the step of its kind. A row is told by its kind first, so that every kind has its tests in one piece
 // of the code.
 ghost use Rattle.calculus.specs.declared.Kind.the-variants.{Decide, Resolve, Clear, Jump, Flip, Learn};
-ghost use Rattle.calculus.specs.Steps.{step};
-ghost use Rattle.calculus.specs.Place.{placeOf};
-ghost use Rattle.trail.specs.Words.{trailIn};
-ghost use Rattle.state.specs.States.{stateIn, Standing, Answers};
-ghost use Rattle.steps.specs.Asked.{OfKind, RowRefused};
+ghost use Rattle.state.specs.States.{Standing};
+ghost use Rattle.steps.specs.Rows.{OfKind, RowRefused, AnswersRow};
 use calculus::Kind;
 use calculus::Refusal;
 use calculus::Row;
@@ -46,9 +43,7 @@ fn row_refusal(terms: &[u16], x: Step, shaped: bool, ready: bool) -> Refusal
 // A decide row.
 fn decide_row(terms: &[u16], work: &mut [u64], w: usize, n: usize, st: Status, x: Step) -> Answer
     requires { ⌜ OfKind w n (now terms) (now work) st x Decide ⌝ }
-    ensures { λ r. ⌜ Answers w n (now (terms .entry)) (now (work .entry)) (now (work .exit))
-        (placeOf (now (terms .entry)) (trailIn w n (now (work .entry)) (st .count)) x)
-        (step (now (terms .entry)) (stateIn w n (now (work .entry)) st) x) r ⌝ }
+    ensures { λ r. ⌜ AnswersRow w n (now (terms .entry)) (now (work .entry)) (now (work .exit)) st x r ⌝ }
 {
     let c = row_refusal(terms, x, step_rows::decision_shaped(x), !st.conflict);
     if c.number != 0 {
@@ -60,9 +55,7 @@ fn decide_row(terms: &[u16], work: &mut [u64], w: usize, n: usize, st: Status, x
 // A resolve row.
 fn resolve_row(terms: &[u16], work: &mut [u64], w: usize, n: usize, st: Status, x: Step) -> Answer
     requires { ⌜ OfKind w n (now terms) (now work) st x Resolve ⌝ }
-    ensures { λ r. ⌜ Answers w n (now (terms .entry)) (now (work .entry)) (now (work .exit))
-        (placeOf (now (terms .entry)) (trailIn w n (now (work .entry)) (st .count)) x)
-        (step (now (terms .entry)) (stateIn w n (now (work .entry)) st) x) r ⌝ }
+    ensures { λ r. ⌜ AnswersRow w n (now (terms .entry)) (now (work .entry)) (now (work .exit)) st x r ⌝ }
 {
     let c = row_refusal(terms, x, step_rows::term_shaped(x), st.conflict);
     if c.number != 0 {
@@ -74,9 +67,7 @@ fn resolve_row(terms: &[u16], work: &mut [u64], w: usize, n: usize, st: Status, 
 // A clear row.
 fn clear_row(terms: &[u16], work: &mut [u64], w: usize, n: usize, st: Status, x: Step) -> Answer
     requires { ⌜ OfKind w n (now terms) (now work) st x Clear ⌝ }
-    ensures { λ r. ⌜ Answers w n (now (terms .entry)) (now (work .entry)) (now (work .exit))
-        (placeOf (now (terms .entry)) (trailIn w n (now (work .entry)) (st .count)) x)
-        (step (now (terms .entry)) (stateIn w n (now (work .entry)) st) x) r ⌝ }
+    ensures { λ r. ⌜ AnswersRow w n (now (terms .entry)) (now (work .entry)) (now (work .exit)) st x r ⌝ }
 {
     let c = row_refusal(terms, x, step_rows::term_shaped(x), st.conflict);
     if c.number != 0 {
@@ -88,9 +79,7 @@ fn clear_row(terms: &[u16], work: &mut [u64], w: usize, n: usize, st: Status, x:
 // A jump row.
 fn jump_row(terms: &[u16], work: &mut [u64], w: usize, n: usize, st: Status, x: Step) -> Answer
     requires { ⌜ OfKind w n (now terms) (now work) st x Jump ⌝ }
-    ensures { λ r. ⌜ Answers w n (now (terms .entry)) (now (work .entry)) (now (work .exit))
-        (placeOf (now (terms .entry)) (trailIn w n (now (work .entry)) (st .count)) x)
-        (step (now (terms .entry)) (stateIn w n (now (work .entry)) st) x) r ⌝ }
+    ensures { λ r. ⌜ AnswersRow w n (now (terms .entry)) (now (work .entry)) (now (work .exit)) st x r ⌝ }
 {
     let c = row_refusal(terms, x, step_rows::term_shaped(x), st.conflict);
     if c.number != 0 {
@@ -102,9 +91,7 @@ fn jump_row(terms: &[u16], work: &mut [u64], w: usize, n: usize, st: Status, x: 
 // A flip row.
 fn flip_row(terms: &[u16], work: &mut [u64], w: usize, n: usize, st: Status, x: Step) -> Answer
     requires { ⌜ OfKind w n (now terms) (now work) st x Flip ⌝ }
-    ensures { λ r. ⌜ Answers w n (now (terms .entry)) (now (work .entry)) (now (work .exit))
-        (placeOf (now (terms .entry)) (trailIn w n (now (work .entry)) (st .count)) x)
-        (step (now (terms .entry)) (stateIn w n (now (work .entry)) st) x) r ⌝ }
+    ensures { λ r. ⌜ AnswersRow w n (now (terms .entry)) (now (work .entry)) (now (work .exit)) st x r ⌝ }
 {
     let c = row_refusal(terms, x, step_rows::pair_shaped(x), st.conflict);
     if c.number != 0 {
@@ -116,9 +103,7 @@ fn flip_row(terms: &[u16], work: &mut [u64], w: usize, n: usize, st: Status, x: 
 // A learn row.
 fn learn_row(terms: &[u16], work: &mut [u64], w: usize, n: usize, st: Status, x: Step) -> Answer
     requires { ⌜ OfKind w n (now terms) (now work) st x Learn ⌝ }
-    ensures { λ r. ⌜ Answers w n (now (terms .entry)) (now (work .entry)) (now (work .exit))
-        (placeOf (now (terms .entry)) (trailIn w n (now (work .entry)) (st .count)) x)
-        (step (now (terms .entry)) (stateIn w n (now (work .entry)) st) x) r ⌝ }
+    ensures { λ r. ⌜ AnswersRow w n (now (terms .entry)) (now (work .entry)) (now (work .exit)) st x r ⌝ }
 {
     let c = row_refusal(terms, x, step_rows::learn_shaped(x), st.conflict);
     if c.number != 0 {
@@ -130,9 +115,7 @@ fn learn_row(terms: &[u16], work: &mut [u64], w: usize, n: usize, st: Status, x:
 // One step row: what it answers is what the definition says, and an allowed one leaves its state in the words.
 pub fn step(terms: &[u16], work: &mut [u64], w: usize, n: usize, st: Status, x: Step) -> Answer
     requires { ⌜ Standing w n (now terms) (now work) st ⌝ }
-    ensures { λ r. ⌜ Answers w n (now (terms .entry)) (now (work .entry)) (now (work .exit))
-        (placeOf (now (terms .entry)) (trailIn w n (now (work .entry)) (st .count)) x)
-        (step (now (terms .entry)) (stateIn w n (now (work .entry)) st) x) r ⌝ }
+    ensures { λ r. ⌜ AnswersRow w n (now (terms .entry)) (now (work .entry)) (now (work .exit)) st x r ⌝ }
 {
     let k = kinds::kind_of(x.step);
     match k {

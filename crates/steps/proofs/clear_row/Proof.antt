@@ -1,6 +1,6 @@
 -- `steps::clear_row` meets its contract.
 use Rattle.calculus.specs.Steps.{shaped}
-use Rattle.steps.proofs.Laws.{row-refused, row-asked, row-by, clear-by, row-conflict}
+use Rattle.steps.proofs.Laws.{row-refused, row-conflict, clear-by}
 use borrow.Author.Needs.{needs}
 use Rattle.steps.proofs.clear_row.Statement.{statement}
 use Rattle.steps.proofs.clear_row.Tie as tie
@@ -24,7 +24,7 @@ same-length c = search needs
 
 returns-2 : tie.Need-returns-2
 unfolding shaped
-returns-2 c = search (row-by, row-asked, clear-by)
+returns-2 c = search clear-by
 
 pub clear-row-spec : {M : Type 1} → statement M
 clear-row-spec =

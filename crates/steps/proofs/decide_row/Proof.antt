@@ -1,6 +1,6 @@
 -- `steps::decide_row` meets its contract.
 use Rattle.calculus.specs.Steps.{shaped}
-use Rattle.steps.proofs.Laws.{row-refused, row-asked, row-by, decide-by, row-search}
+use Rattle.steps.proofs.Laws.{row-refused, row-search, decide-by}
 use borrow.Author.Needs.{needs}
 use Rattle.steps.proofs.decide_row.Statement.{statement}
 use Rattle.steps.proofs.decide_row.Tie as tie
@@ -24,7 +24,7 @@ same-length c = search needs
 
 returns-2 : tie.Need-returns-2
 unfolding shaped
-returns-2 c = search (row-by, row-asked, decide-by)
+returns-2 c = search decide-by
 
 pub decide-row-spec : {M : Type 1} → statement M
 decide-row-spec =

@@ -1,6 +1,6 @@
 -- `steps::flip_row` meets its contract.
 use Rattle.calculus.specs.Steps.{shaped}
-use Rattle.steps.proofs.Laws.{row-refused, row-asked, row-by, flip-by, row-conflict, row-p}
+use Rattle.steps.proofs.Laws.{row-refused, row-conflict, row-p, flip-by}
 use borrow.Author.Needs.{needs}
 use Rattle.steps.proofs.flip_row.Statement.{statement}
 use Rattle.steps.proofs.flip_row.Tie as tie
@@ -24,7 +24,7 @@ same-length c = search needs
 
 returns-2 : tie.Need-returns-2
 unfolding shaped
-returns-2 c = search (row-by, row-asked, flip-by)
+returns-2 c = search flip-by
 
 pub flip-row-spec : {M : Type 1} → statement M
 flip-row-spec =

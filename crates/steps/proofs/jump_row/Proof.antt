@@ -1,6 +1,6 @@
 -- `steps::jump_row` meets its contract.
 use Rattle.calculus.specs.Steps.{shaped}
-use Rattle.steps.proofs.Laws.{row-refused, row-asked, row-by, jump-by, row-conflict}
+use Rattle.steps.proofs.Laws.{row-refused, row-conflict, jump-by}
 use borrow.Author.Needs.{needs}
 use Rattle.steps.proofs.jump_row.Statement.{statement}
 use Rattle.steps.proofs.jump_row.Tie as tie
@@ -24,7 +24,7 @@ same-length c = search needs
 
 returns-2 : tie.Need-returns-2
 unfolding shaped
-returns-2 c = search (row-by, row-asked, jump-by)
+returns-2 c = search jump-by
 
 pub jump-row-spec : {M : Type 1} → statement M
 jump-row-spec =

@@ -1,6 +1,6 @@
 -- `steps::learn_row` meets its contract.
 use Rattle.calculus.specs.Steps.{shaped}
-use Rattle.steps.proofs.Laws.{row-refused, row-asked, row-by, learn-by, row-learns}
+use Rattle.steps.proofs.Laws.{row-refused, row-learns, learn-by}
 use borrow.Author.Needs.{needs}
 use Rattle.steps.proofs.learn_row.Statement.{statement}
 use Rattle.steps.proofs.learn_row.Tie as tie
@@ -24,7 +24,7 @@ same-length c = search needs
 
 returns-2 : tie.Need-returns-2
 unfolding shaped
-returns-2 c = search (row-by, row-asked, learn-by)
+returns-2 c = search learn-by
 
 pub learn-row-spec : {M : Type 1} → statement M
 learn-row-spec =

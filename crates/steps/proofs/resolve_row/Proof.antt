@@ -1,6 +1,6 @@
 -- `steps::resolve_row` meets its contract.
 use Rattle.calculus.specs.Steps.{shaped}
-use Rattle.steps.proofs.Laws.{row-refused, row-asked, row-by, resolve-by, row-conflict}
+use Rattle.steps.proofs.Laws.{row-refused, row-conflict, resolve-by}
 use borrow.Author.Needs.{needs}
 use Rattle.steps.proofs.resolve_row.Statement.{statement}
 use Rattle.steps.proofs.resolve_row.Tie as tie
@@ -24,7 +24,7 @@ same-length c = search needs
 
 returns-2 : tie.Need-returns-2
 unfolding shaped
-returns-2 c = search (row-by, row-asked, resolve-by)
+returns-2 c = search resolve-by
 
 pub resolve-row-spec : {M : Type 1} → statement M
 resolve-row-spec =

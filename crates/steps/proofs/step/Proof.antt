@@ -1,5 +1,5 @@
 -- `steps::step` meets its contract.
-use Rattle.steps.proofs.Laws.{infers-told, infers-shaped, infers-ready, of-kind, row-refused, row-asked, row-infers, row-by, infer-by, unlisted-row}
+use Rattle.steps.proofs.Laws.{infers-told, infers-shaped, infers-ready, of-kind, row-refused, row-infers, infer-by, unlisted-row}
 use borrow.Author.Needs.{needs}
 use Rattle.steps.proofs.step.Statement.{statement}
 use Rattle.steps.proofs.step.Tie as tie
@@ -68,7 +68,7 @@ same-length-2 : tie.Need-same-length-2
 same-length-2 c = search needs
 
 returns-3 : tie.Need-returns-3
-returns-3 c = search (row-by, row-asked, infer-by, infers-told, infers-shaped, infers-ready)
+returns-3 c = search (infer-by, infers-told, infers-shaped, infers-ready)
 
 same-length-3 : tie.Need-same-length-3
 same-length-3 c = search needs
