@@ -5,13 +5,14 @@ use mathlib.Core.List.{List, [], _∷_, map}
 use Prim.Native.Nat.{ℕ, _+_, _≤_, _<_}
 use native.Mathlib.Omega.{arith}
 use lib.Dec.{eqb}
+use borrow.Author.Tests.{ne-eqb}
 use Rattle.calculus.specs.declared.Premise.{Premise}
 use Rattle.calculus.specs.declared.Rule.{Rule}
 use Rattle.calculus.specs.declared.Rule.the-variants.{Same, Differ, Reflexivity, Symmetry, Transitivity, Negated, Part, Unit, Evaluation, Congruence, Predicate, Read, Skip, Unlisted}
 use Rattle.calculus.specs.declared.Term.{Term}
 use Rattle.calculus.specs.Lists.{opposite, firstWhere}
 use Rattle.calculus.specs.Sheets.{termRows}
-use Rattle.calculus.specs.Terms.{eqHead, cells, arg, args, termAt, argsOf}
+use Rattle.calculus.specs.Terms.{head, eqHead, cells, arg, args, termAt, argsOf}
 use Rattle.calculus.specs.Rules.{isEq, allBut}
 use Rattle.calculus.specs.Place.{with}
 use Rattle.completions.specs.Needs.{equation, equations, needs}
@@ -30,20 +31,22 @@ module _ (ts : List ℕ) (a b : ℕ) where
   pub none-yet : NoneBefore 0
   none-yet = where-zero (λ k. isEq ts k a b)
 
-  module _ {e : ℕ} (h : NoneBefore e) {t : Term} (row : t ≡ termAt ts e) {r : Bool} (is : r ≡ (eqb (t .head) eqHead && (eqb (t .a) a && eqb (t .b) b))) where
-    tested : isEq ts e a b ≡ r
-    unfolding arg cells
-    tested = sym is′
-      where
-        is′ : r ≡ (eqb (termAt ts e .head) eqHead && (eqb (termAt ts e .a) a && eqb (termAt ts e .b) b))
-        is′ = rw row at is
+  -- a row of another head is not
+  pub not-equal : (e : ℕ) → (head ts e ≡ eqHead → ⊥) → false ≡ isEq ts e a b
+  not-equal e h = rw (ne-eqb _ _ h)
 
+  pub maybe-equal : (e : ℕ) {t : Term} {r : Bool} → t ≡ termAt ts e → r ≡ (eqb (t .head) eqHead && (eqb (t .a) a && eqb (t .b) b))
+      → r ≡ isEq ts e a b
+  unfolding arg cells
+  maybe-equal e row is = rw row at is
+
+  module _ {e : ℕ} (h : NoneBefore e) {r : Bool} (is : r ≡ isEq ts e a b) where
     pub none-more : r ≡ false → NoneBefore (e + 1)
-    none-more f = where-more (λ k. isEq ts k a b) e h (tested ∙ f)
+    none-more f = where-more (λ k. isEq ts k a b) e h (sym is ∙ f)
 
     pub equation-found : {n : ℕ} → n ≡ termRows ts → e < n → r ≡ true → e ≡ equation ts a b
     unfolding equation
-    equation-found n l f = sym (where-found (λ k. isEq ts k a b) (termRows ts) e (omega arith) h (tested ∙ f))
+    equation-found n l f = sym (where-found (λ k. isEq ts k a b) (termRows ts) e (omega arith) h (sym is ∙ f))
 
   pub equation-absent : {e n : ℕ} → NoneBefore e → n ≡ termRows ts → e ≤ n → n ≤ e → n ≡ equation ts a b
   unfolding equation

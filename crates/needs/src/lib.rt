@@ -3,14 +3,14 @@
 ghost use mathlib.Core.Path.{_≡_};
 ghost use mathlib.Core.Bool.{cond};
 ghost use mathlib.Core.List.{[], _∷_, map};
-ghost use Prim.Native.Nat.{_≤_, min};
+ghost use Prim.Native.Nat.{_<_, _≤_, min};
 ghost use lib.Dec.{eqb};
 ghost use lib.ListN.{length};
 ghost use Rattle.calculus.specs.declared.Rule.the-variants.{Same, Differ, Symmetry, Transitivity, Negated, Part, Unit, Evaluation, Congruence, Predicate, Skip};
 ghost use Rattle.calculus.specs.Lists.{opposite};
 ghost use Rattle.calculus.specs.Sheets.{blank, termRows};
 ghost use Rattle.calculus.specs.Terms.{argsOf};
-ghost use Rattle.calculus.specs.Rules.{allBut};
+ghost use Rattle.calculus.specs.Rules.{isEq, allBut};
 ghost use Rattle.calculus.specs.Place.{with};
 ghost use Rattle.completions.specs.Needs.{equation, equations};
 ghost use Rattle.needs.specs.Listed.{listed, Four, threeOf, needsOf};
@@ -20,6 +20,7 @@ use calculus::Rule;
 use calculus::Term;
 use rows::BLANK;
 use rows::term_at;
+use rule_claims::EQ;
 use rule_claims::is_eq;
 
 // The first `count` of five premises, from the left; what stands after them is not read.
@@ -191,6 +192,18 @@ fn but(i: u16, e: Term) -> Term
 
 // ---- equalities
 
+// Whether row e is a = b. Of a row that is no equality the head alone is read.
+fn is_equation(terms: &[u16], n: u16, e: Row, a: Row, b: Row) -> bool
+    requires { ⌜ (n ≡ termRows (now terms)) × (e .0 < n) ⌝ }
+    ensures { λ r. ⌜ r ≡ isEq (now (terms .entry)) (e .0) (a .0) (b .0) ⌝ }
+{
+    if terms[e.0 as usize * 6] != EQ {
+        return false;
+    }
+    let t = term_at(terms, e);
+    is_eq(t, a, b)
+}
+
 // The first row that is a = b; n where there is none.
 fn find_equation(terms: &[u16], n: u16, a: Row, b: Row) -> Row
     requires { ⌜ n ≡ termRows (now terms) ⌝ }
@@ -198,8 +211,7 @@ fn find_equation(terms: &[u16], n: u16, a: Row, b: Row) -> Row
 {
     let mut e: u16 = 0;
     while e < n {
-        let t = term_at(terms, Row(e));
-        if is_eq(t, a, b) {
+        if is_equation(terms, n, Row(e), a, b) {
             return Row(e);
         }
         e += 1;

@@ -120,6 +120,11 @@ pub fn step(terms: &[u16], work: &mut [u64], w: usize, n: usize, st: Status, x: 
     let k = kinds::kind_of(x.step);
     match k {
         Kind::Decide => decide_row(terms, work, w, n, st, x),
+        Kind::Resolve => resolve_row(terms, work, w, n, st, x),
+        Kind::Clear => clear_row(terms, work, w, n, st, x),
+        Kind::Jump => jump_row(terms, work, w, n, st, x),
+        Kind::Flip => flip_row(terms, work, w, n, st, x),
+        Kind::Learn => learn_row(terms, work, w, n, st, x),
         // These three share their tests. They stand here, because the compiler makes faster code of that than of one more function.
         Kind::Deduce | Kind::Clash | Kind::Fail => {
             let c = row_refusal(terms, x, step_rows::inference_shaped(x), !st.conflict);
@@ -128,11 +133,6 @@ pub fn step(terms: &[u16], work: &mut [u64], w: usize, n: usize, st: Status, x: 
             }
             search_steps::infer(terms, work, w, n, st, x, k)
         }
-        Kind::Resolve => resolve_row(terms, work, w, n, st, x),
-        Kind::Clear => clear_row(terms, work, w, n, st, x),
-        Kind::Jump => jump_row(terms, work, w, n, st, x),
-        Kind::Flip => flip_row(terms, work, w, n, st, x),
-        Kind::Learn => learn_row(terms, work, w, n, st, x),
         Kind::Unlisted => Answer::Refused(Refusal {
             number: 9,
             place: 0,

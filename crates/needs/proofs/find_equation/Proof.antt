@@ -15,11 +15,8 @@ abbrev μ-loop : tie.MeasureT-loop
 loop-holds : tie.Need-loop-holds Inv-loop μ-loop
 loop-holds c = (omega arith, search none-yet)
 
-term-at-requires : tie.Need-term-at-requires Inv-loop μ-loop
-term-at-requires c κs = search needs
-
-is-eq-requires : tie.Need-is-eq-requires Inv-loop μ-loop
-is-eq-requires c κs = search needs
+is-equation-requires : tie.Need-is-equation-requires Inv-loop μ-loop
+is-equation-requires c κs = search needs
 
 returns : tie.Need-returns Inv-loop μ-loop
 returns c = search equation-found
@@ -43,8 +40,7 @@ find-equation-spec =
     Inv-loop
     μ-loop
     loop-holds
-    term-at-requires
-    is-eq-requires
+    is-equation-requires
     returns
     add-e
     loop-less

@@ -13,18 +13,6 @@ enum-told c = search needs
 decide-row-requires : tie.Need-decide-row-requires
 decide-row-requires c κs = search of-kind
 
-inference-shaped-requires : tie.Need-inference-shaped-requires
-inference-shaped-requires c κs = search needs
-
-row-refusal-requires : tie.Need-row-refusal-requires
-row-refusal-requires c κs = search needs
-
-returns : tie.Need-returns
-returns c = search (row-refused, infers-told, infers-shaped, infers-ready)
-
-infer-requires : tie.Need-infer-requires
-infer-requires c κs = (search (row-infers, infers-told, infers-shaped, infers-ready), search infers-told)
-
 enum-told-2 : tie.Need-enum-told-2
 enum-told-2 c = search needs
 
@@ -55,6 +43,18 @@ enum-told-6 c = search needs
 learn-row-requires : tie.Need-learn-row-requires
 learn-row-requires c κs = search of-kind
 
+inference-shaped-requires : tie.Need-inference-shaped-requires
+inference-shaped-requires c κs = search needs
+
+row-refusal-requires : tie.Need-row-refusal-requires
+row-refusal-requires c κs = search needs
+
+returns : tie.Need-returns
+returns c = search (row-refused, infers-told, infers-shaped, infers-ready)
+
+infer-requires : tie.Need-infer-requires
+infer-requires c κs = (search (row-infers, infers-told, infers-shaped, infers-ready), search infers-told)
+
 enum-told-7 : tie.Need-enum-told-7
 enum-told-7 c = search needs
 
@@ -68,7 +68,7 @@ same-length-2 : tie.Need-same-length-2
 same-length-2 c = search needs
 
 returns-3 : tie.Need-returns-3
-returns-3 c = search (infer-by, infers-told, infers-shaped, infers-ready)
+returns-3 c = search needs
 
 same-length-3 : tie.Need-same-length-3
 same-length-3 c = search needs
@@ -98,7 +98,7 @@ same-length-7 : tie.Need-same-length-7
 same-length-7 c = search needs
 
 returns-8 : tie.Need-returns-8
-returns-8 c = search needs
+returns-8 c = search (infer-by, infers-told, infers-shaped, infers-ready)
 
 returns-9 : tie.Need-returns-9
 returns-9 c = search unlisted-row
@@ -110,10 +110,6 @@ step-spec =
     kind-of-requires
     enum-told
     decide-row-requires
-    inference-shaped-requires
-    row-refusal-requires
-    returns
-    infer-requires
     enum-told-2
     resolve-row-requires
     enum-told-3
@@ -124,6 +120,10 @@ step-spec =
     flip-row-requires
     enum-told-6
     learn-row-requires
+    inference-shaped-requires
+    row-refusal-requires
+    returns
+    infer-requires
     enum-told-7
     same-length
     returns-2
