@@ -4,6 +4,7 @@ ghost use Prim.Native.Nat.{_+_, _*_, _≤_};
 ghost use lib.ListN.{length, getD};
 ghost use Rattle.calculus.specs.Terms.{termAt};
 ghost use Rattle.calculus.specs.Steps.{stepAt};
+ghost use Rattle.rows.specs.Rows.{Whole};
 use calculus::Row;
 use calculus::Step;
 use calculus::Term;
@@ -18,21 +19,30 @@ pub fn cell(sheet: &[u16], i: usize) -> u16
     if i < sheet.len() { sheet[i] } else { 0 }
 }
 
-// Row t of the term sheet.
+// Row t of the term sheet, which holds it whole.
+pub fn whole_term_at(terms: &[u16], t: Row) -> Term
+    requires { ⌜ Whole (now terms) (t .0) ⌝ }
+    ensures { λ r. ⌜ r ≡ termAt (now (terms .entry)) (t .0) ⌝ }
+{
+    let i = t.0 as usize * 6;
+    Term {
+        head: terms[i],
+        sort: terms[i + 1],
+        a: terms[i + 2],
+        b: terms[i + 3],
+        c: terms[i + 4],
+        d: terms[i + 5],
+    }
+}
+
+// Row t of the term sheet; 0 in every column past its end.
 pub fn term_at(terms: &[u16], t: Row) -> Term
     ensures { λ r. ⌜ r ≡ termAt (now (terms .entry)) (t .0) ⌝ }
 {
     let i = t.0 as usize * 6;
     // A whole row, as in every sheet that passed, takes one test of the length.
     if i + 5 < terms.len() {
-        return Term {
-            head: terms[i],
-            sort: terms[i + 1],
-            a: terms[i + 2],
-            b: terms[i + 3],
-            c: terms[i + 4],
-            d: terms[i + 5],
-        };
+        return whole_term_at(terms, t);
     }
     Term {
         head: cell(terms, i),

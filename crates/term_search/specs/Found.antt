@@ -13,10 +13,6 @@ use Rattle.calculus.specs.Terms.{head, firstUse, fresh}
 abbrev pub mostRows : ℕ
 mostRows = 256
 
--- row t is whole
-abbrev pub Whole : List ℕ → ℕ → Type 0
-Whole ts t = t * 6 + 6 ≤ length ts
-
 -- ---- what is found
 
 -- row u is the first with the head of row t

@@ -4,7 +4,8 @@ ghost use mathlib.Core.Bool.{not};
 ghost use Prim.Native.Nat.{_+_, _*_, _<_, _≤_};
 ghost use lib.ListN.{length};
 ghost use Rattle.calculus.specs.Terms.{head};
-ghost use Rattle.term_search.specs.Found.{FirstUse, FirstRepeat, Whole, Noted, Linked, noted, smaller, least, mixed, mix, mostRows, column, agree};
+ghost use Rattle.rows.specs.Rows.{Whole};
+ghost use Rattle.term_search.specs.Found.{FirstUse, FirstRepeat, Noted, Linked, noted, smaller, least, mixed, mix, mostRows, column, agree};
 use calculus::Row;
 use rows::BLANK;
 

@@ -155,9 +155,11 @@ suited-row ss ts u e =
     both-true (leftFilled (cells ts u)) _ (T-true _ (q .0)) .1
 
 -- what is known of row t after rows without trouble
-pub row-known : (ss ts : List ℕ) (t : ℕ) {e : Term} {u : ℕ} → firstRefusal t (termRefusal ss ts) ≡ 0 → e ≡ termAt ts t → FirstUse ts t u → Known ss ts t e u
-row-known ss ts t {e} {u} b r f =
+pub row-known : (ss ts : List ℕ) (t : ℕ) {e : Term} {u : ℕ} → t < termRows ts → firstRefusal t (termRefusal ss ts) ≡ 0 → e ≡ termAt ts t → FirstUse ts t u
+    → Known ss ts t e u
+row-known ss ts t {e} {u} l b r f =
     record {
+      whole = omega arith;
       row = r;
       first = f .first;
       low = f .low;

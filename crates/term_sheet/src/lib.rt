@@ -70,7 +70,7 @@ pub fn check_terms(sorts: &[u16], terms: &[u16]) -> Check
     let mut slots = [BLANK; 1024];
     let mut t: u16 = 0;
     while t < n {
-        let e = rows::term_at(terms, Row(t));
+        let e = rows::whole_term_at(terms, Row(t));
         let u = term_search::first_use(&mut slots, terms, Row(t));
         let c = check_term(sorts, terms, Row(t), e, u, twin);
         match c {

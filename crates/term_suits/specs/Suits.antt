@@ -8,6 +8,7 @@ use lib.Dec.{eqb}
 use Rattle.calculus.specs.declared.Term.{Term}
 use Rattle.calculus.specs.Lists.{all, eqList}
 use Rattle.calculus.specs.Terms.{head, sort, prop, filled, argsOf, termAt, headOf, firstUse, suits}
+use Rattle.rows.specs.Rows.{Whole}
 
 -- the arguments in the columns xs are props
 abbrev pub allProps : List ℕ → List ℕ → Bool
@@ -29,8 +30,9 @@ equates ts e = eqb (e .sort) 0 && eqb (length (argsOf e)) 2 && not (prop ts (e .
 abbrev pub connects : List ℕ → Term → Bool → Bool
 connects ts e enough = eqb (e .sort) 0 && enough && all (prop ts) (argsOf e)
 
--- what is known of row t: it reads e, and row u is the first with its head, which row u suits where it is an earlier row
+-- what is known of row t: it is whole and reads e, and row u is the first with its head, which row u suits where it is an earlier row
 pub record Known (ss ts : List ℕ) (t : ℕ) (e : Term) (u : ℕ) : Type 0 where
+  pub whole : Whole ts t
   pub row : e ≡ termAt ts t
   pub first : u ≡ firstUse ts t
   pub low : u ≤ t

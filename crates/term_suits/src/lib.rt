@@ -4,6 +4,7 @@ ghost use mathlib.Core.List.{List, _∷_};
 ghost use Prim.Native.Nat.{ℕ, _+_, _<_, _≤_};
 ghost use lib.ListN.{length};
 ghost use Rattle.calculus.specs.Terms.{head, filled, cellsOf, argsOf, headOf, sameUse, suits, termAt};
+ghost use Rattle.rows.specs.Rows.{Whole};
 ghost use Rattle.term_suits.specs.Suits.{allProps, allPlain, sameSorts, equates, connects, Known};
 use calculus::Head;
 use calculus::Row;
@@ -94,12 +95,12 @@ fn more_sort(terms: &[u16], x: u16, y: u16, rest: bool) -> bool
 
 // ---- the use of a free head
 
-// Whether rows u and t, row t read as g, are of one sort, with as many arguments of the same sorts.
+// Whether rows u and t, row u whole and row t read as g, are of one sort, with as many arguments of the same sorts.
 fn same_use(terms: &[u16], u: Row, t: Row, g: Term) -> bool
-    requires { ⌜ g ≡ termAt (now terms) (t .0) ⌝ }
+    requires { ⌜ (g ≡ termAt (now terms) (t .0)) × Whole (now terms) (u .0) ⌝ }
     ensures { λ r. ⌜ r ≡ sameUse (now (terms .entry)) (u .0) (t .0) ⌝ }
 {
-    let e = rows::term_at(terms, u);
+    let e = rows::whole_term_at(terms, u);
     let d = more_sort(terms, e.d, g.d, true);
     let c = more_sort(terms, e.c, g.c, d);
     let b = more_sort(terms, e.b, g.b, c);

@@ -28,8 +28,8 @@ first-repeat-requires c κs = (omega arith, omega arith)
 loop-holds : tie.Need-loop-holds Inv-loop μ-loop
 loop-holds c = (omega arith, omega arith, first-none _, note-none _ _ refl)
 
-term-at-requires : tie.Need-term-at-requires Inv-loop μ-loop
-term-at-requires c κs = search needs
+whole-term-at-requires : tie.Need-whole-term-at-requires Inv-loop μ-loop
+whole-term-at-requires c κs = omega arith
 
 first-use-requires : tie.Need-first-use-requires Inv-loop μ-loop
 first-use-requires c κs = (omega arith, search needs)
@@ -67,7 +67,7 @@ check-terms-spec =
     cast-n
     first-repeat-requires
     loop-holds
-    term-at-requires
+    whole-term-at-requires
     first-use-requires
     check-term-requires
     enum-known-c
