@@ -3,7 +3,7 @@ use Prim.Native.Nat.{ℕ, zero, suc, _≤_, _<_, max}
 use native.Mathlib.Omega.{arith}
 use mathlib.Core.Path.{_≡_, refl, sym, ap, _∙_}
 use mathlib.Core.Logic.{⊎-elim}
-use mathlib.Core.Bool.{Bool, true, false, not, _&&_, _||_, cond, or-false, or-true}
+use mathlib.Core.Bool.{Bool, true, false, not, _&&_, _||_, cond, and-true, or-false, or-true}
 use mathlib.Core.List.{List, [], _∷_}
 use lib.Dec.{eqb, leb}
 use lib.ListN.{length}
@@ -18,11 +18,7 @@ use Rattle.calculus.proofs.Entries.{entry-here, entry-older, kept-off}
 
 -- removal of several rows is removal repeated
 pub without-none : (s : Set) → without s [] ≡ s
-without-none s = λ i u. last (s u) i
-  where
-    last : (b : Bool) → b && true ≡ b
-    last true = refl
-    last false = refl
+without-none s = λ i u. and-true (s u) i
 
 pub without-more : (s : Set) (x : ℕ) (xs : List ℕ) → without s (x ∷ xs) ≡ without (remove s x) xs
 without-more s x xs = λ i u. one (s u) (eqb u x) (has xs u) i
@@ -34,6 +30,16 @@ without-more s x xs = λ i u. one (s u) (eqb u x) (has xs u) i
 
 pub without-one : (s : Set) (x : ℕ) → without s (x ∷ []) ≡ remove s x
 without-one s x = without-more s x [] ∙ without-none (remove s x)
+
+-- a row that the second set does not hold can be removed from both or from the first
+pub remove-union : (s r : Set) (x : ℕ) → r x ≡ false → remove (union s r) x ≡ union (remove s x) r
+remove-union s r x out = λ i u. each (s u) (r u) (eqb u x) (λ e. ap r (eqb-true u x e) ∙ out) i
+  where
+    each : (a b c : Bool) → (c ≡ true → b ≡ false) → (a || b) && not c ≡ ((a && not c) || b)
+    each true b false h = refl
+    each true b true h = sym (h refl)
+    each false b false h = and-true b
+    each false b true h = rw (h refl)
 
 -- ---- on the trail or not
 

@@ -104,6 +104,20 @@ why-well-formed {n} (x ∷ older) a t r h = let q = newest x older r in go (q .0
     go p k true e w = let y = past-newest x older t p (p .why t w) in (y .0, same-level _ (y .1) (p .low t w))
     go p k false e w = let z = k w in let y = past-newest x older t p (z .0) in (y .0, same-level _ (y .1) (z .1))
 
+-- no entry is a member of its own justification
+pub why-not-own : {n : ℕ} (tr : Trail) (a : ℕ) → WellFormed n tr → whyAt tr a a ≡ false
+unfolding entry
+why-not-own [] a r = refl
+why-not-own {n} (x ∷ older) a r = let q = newest x older r in go (q .0) (why-not-own older a (q .1)) (eqb (x .term) a) refl
+  where
+    own : Placed n x older → eqb (x .term) a ≡ true → (x .why a ≡ true) ⊎ (x .why a ≡ false) → x .why a ≡ false
+    own p e (inl h) = absurd (true-or-false e (apart x older a (p .new) (p .why a h)))
+    own p e (inr h) = h
+
+    go : Placed n x older → whyAt older a a ≡ false → (b : Bool) → eqb (x .term) a ≡ b → (cond b x (entry older a)) .why a ≡ false
+    go p k true e = own p e (is-or-not (x .why a))
+    go p k false e = k
+
 -- a decision is above level 0
 pub decided-high : {n : ℕ} (tr : Trail) (e : Entry) → WellFormed n tr → List·Memᴰ e tr → T (e .decided) → 0 < e .level
 decided-high [] e r m d = absurd (elim m [ ])

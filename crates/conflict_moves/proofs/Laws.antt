@@ -1,8 +1,8 @@
 -- How the changes of a step in a conflict compose. Assumes nothing.
 use Prim.Native.Nat.{ℕ, _+_, _-_, _*_, _≤_, _<_, max}
 use native.Mathlib.Omega.{arith}
-use mathlib.Core.Path.{_≡_, sym, ap, ap₂, subst, _∙_}
-use mathlib.Core.Logic.{inl, inr}
+use mathlib.Core.Path.{_≡_, sym, ap, subst, _∙_}
+use mathlib.Core.Logic.{inr}
 use mathlib.Core.Bool.{true, false}
 use mathlib.Core.List.{List, [], _∷_}
 use lib.Dec.{leb}
@@ -10,18 +10,18 @@ use borrow.Author.Tests.{ne-eqb}
 use Rattle.calculus.specs.Sheets.{blank}
 use Rattle.calculus.specs.Terms.{filled}
 use Rattle.calculus.specs.Lists.{opposite}
-use Rattle.calculus.specs.Trail.{Set, Trail, remove, without, union, on, valueAt, levelAt, decidedAt, whyAt, levelOf, topLevel, keptTo, decision}
+use Rattle.calculus.specs.Trail.{Set, Trail, remove, without, union, on, valueAt, levelAt, whyAt, levelOf, topLevel, keptTo, decision}
 use Rattle.calculus.specs.Steps.{backjumped}
 use Rattle.calculus.proofs.Facts.{cond-case}
 use Rattle.calculus.proofs.Entries.{level-kept}
 use Rattle.bitset.specs.Windows.{setAt, Holds}
 use Rattle.bitset.proofs.Windows.{same-set}
 use Rattle.trail.specs.Words.{conflict, entryOf, trailIn, Laid, Still, Pushed, Cut}
-use Rattle.calculus.proofs.Trails.{without-one, kept-gone}
-use Rattle.trail.proofs.Laws.{why-in}
+use Rattle.calculus.proofs.Trails.{without-one, remove-union, kept-gone}
+use Rattle.calculus.proofs.WellFormed.{why-not-own}
 use Rattle.trail.proofs.Frames.{built, why-words}
 use Rattle.moves.specs.Post.{conflictIn, jumpedIn, Stands, Conflicts}
-use Rattle.conflict_moves.specs.Back.{restIn, backjumpedIn, ToBackjump, ToJump}
+use Rattle.conflict_moves.specs.Back.{resolvedIn, restIn, backjumpedIn, ToResolve, ToBackjump, ToJump}
 use Rattle.moves.proofs.Laws.{conflict-made, justified-stands}
 
 pub cut-stands : (w N : ℕ) (ws vs : List ℕ) (n m k r top : ℕ) → m ≡ k → Cut w N ws vs n m r top → Stands w N vs r top (keptTo k (trailIn w N ws n))
@@ -31,20 +31,22 @@ cut-stands w N ws vs n m k r top e c =
 
 -- ---- the conflict
 
-pub resolved : (w N : ℕ) (ws us vs : List ℕ) (n t : ℕ) → Laid w N ws n → t < N → on (trailIn w N ws n) t ≡ true → decidedAt (trailIn w N ws n) t ≡ false
-    → Holds ws us (conflict w N) w (remove (conflictIn w N ws) t)
-    → Holds us vs (conflict w N) w (union (conflictIn w N us) (setAt us (t * w) w))
-    → Conflicts w N vs n (trailIn w N ws n) (union (remove (conflictIn w N ws) t) (whyAt (trailIn w N ws n) t))
-resolved w N ws us vs n t laid h o d one two =
-    let f : t * w + w ≤ N * w = why-in w t N h in
-    let c = conflict-made w N ws us vs n (remove (conflictIn w N ws) t) (union (conflictIn w N us) (setAt us (t * w) w)) laid one two in
+-- the justification of t, then without t
+pub resolved : (w N : ℕ) (ws us vs : List ℕ) (n t : ℕ) → ToResolve w N ws n t
+    → Holds ws us (conflict w N) w (union (conflictIn w N ws) (setAt ws (t * w) w))
+    → Holds us vs (conflict w N) w (remove (conflictIn w N us) t)
+    → Conflicts w N vs n (trailIn w N ws n) (resolvedIn w N ws n t)
+resolved w N ws us vs n t to one two =
+    let tr = trailIn w N ws n in
+    let c = conflict-made w N ws us vs n (union (conflictIn w N ws) (setAt ws (t * w) w)) (remove (conflictIn w N us) t) (to .laid) one two in
+    let why = why-words w N ws n t (to .laid) (to .row) (to .stands) (to .justified) in
     record {
       laid = c .laid;
       trail = c .trail;
       conflict =
           c .conflict
-          ∙ ap₂ union (one .set)
-          (same-set us ws (t * w) (t * w) w (λ k l. one .only .rest _ (inl (omega arith))) ∙ sym (why-words w N ws n t laid h o d));
+          ∙ ap (λ (s : Set). remove s t) (one .set ∙ ap (union (conflictIn w N ws)) (sym why))
+          ∙ remove-union (conflictIn w N ws) (whyAt tr t) t (why-not-own tr t (to .wellFormed));
     }
 
 -- ---- back to a level

@@ -11,8 +11,12 @@ use Rattle.trail.specs.Words.{trailIn, Laid}
 use Rattle.moves.specs.Post.{conflictIn, restLevel, lowerLevel, Above}
 
 -- resolve: a is on the trail and no decision
-abbrev pub ToResolve : ℕ → ℕ → List ℕ → ℕ → ℕ → Type 0
-ToResolve w N ws n a = Laid w N ws n × (a < N) × (on (trailIn w N ws n) a ≡ true) × (decidedAt (trailIn w N ws n) a ≡ false)
+pub record ToResolve (w N : ℕ) (ws : List ℕ) (n a : ℕ) : Type 0 where
+  pub laid : Laid w N ws n
+  pub wellFormed : WellFormed N (trailIn w N ws n)
+  pub row : a < N
+  pub stands : on (trailIn w N ws n) a ≡ true
+  pub justified : decidedAt (trailIn w N ws n) a ≡ false
 
 abbrev pub resolvedIn : ℕ → ℕ → List ℕ → ℕ → ℕ → Set
 resolvedIn w N ws n a = union (remove (conflictIn w N ws) a) (whyAt (trailIn w N ws n) a)

@@ -13,8 +13,9 @@ pub fn resolve(work: &mut [u64], w: usize, terms: usize, n: usize, a: Row)
     ensures { λ r. ⌜ Conflicts w terms (now (work .exit)) n (trailIn w terms (now (work .entry)) n) (resolvedIn w terms (now (work .entry)) n (a .0)) ⌝ }
 {
     let e = terms * w + 4 * terms;
-    bitset::remove(work, e, w, a);
+    // The justification, which does not hold a, comes first: a word just written is not read again as part of a longer one.
     bitset::union_into(work, e, a.0 as usize * w, w);
+    bitset::remove(work, e, w, a);
 }
 
 // clear: the trail kept below the level of a, which is on it.

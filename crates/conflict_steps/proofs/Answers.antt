@@ -12,6 +12,7 @@ use Rattle.calculus.specs.Steps.{resolveRefusal, clearRefusal, jumpRefusal, fli
 use Rattle.calculus.proofs.Facts.{and-l, and-r, T-true, T-false, unless-ok}
 use Rattle.trail.specs.Words.{trailIn}
 use Rattle.moves.specs.Post.{conflictIn, Stands, Conflicts, Above, restLevel, lowerLevel, jumpedIn, flippedIn}
+use Rattle.conflict_moves.specs.Back.{ToResolve}
 use Rattle.state.specs.declared.Status.{Status}
 use Rattle.state.specs.declared.Answer.{Answer}
 use Rattle.state.specs.declared.Answer.the-variants.{Allowed, Refused}
@@ -37,15 +38,18 @@ module _ (w n : ℕ) (ts ws : List ℕ) (st : Status) where
     resolve-refused h = (refused-by _ c-is h, refl, refl)
 
     module _ (c-no : c ≡ 0) (g : Conflicted w n ts ws st a) where
-      pub resolve-on : on here a ≡ true
+      pub to-resolve : ToResolve w n ws (st .count) a
       unfolding resolveRefusal
-      resolve-on = found w n ts ws st g .within a (T-true _ (unless-ok _ 17 _ (omega arith) (sym c-is ∙ c-no) .0))
-
-      pub resolve-justified : decidedAt here a ≡ false
-      unfolding resolveRefusal
-      resolve-justified =
+      to-resolve =
+          let f = found w n ts ws st g in
           let p = unless-ok _ 17 _ (omega arith) (sym c-is ∙ c-no) in
-          T-false _ (unless-ok _ 18 _ (omega arith) (p .1) .0)
+          record {
+            laid = f .laid;
+            wellFormed = f .wellFormed;
+            row = g .row;
+            stands = f .within a (T-true _ (p .0));
+            justified = T-false _ (unless-ok _ 18 _ (omega arith) (p .1) .0);
+          }
 
       pub resolve-done : (vs : List ℕ) → Conflicts w n vs (st .count) here (union (remove set a) (whyAt here a))
           → Answers w n ts ws vs nowhere (calculus.resolve ts here set a) (Allowed (record { count = st .count; top = st .top; conflict = true }))

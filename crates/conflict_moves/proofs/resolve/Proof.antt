@@ -15,34 +15,32 @@ mul-e-2 c = search needs
 add-e : tie.Need-add-e
 add-e c = search needs
 
-remove-requires : tie.Need-remove-requires
-remove-requires c κs = search needs
-
 cast-union-into : tie.Need-cast-union-into
 cast-union-into c = search needs
 
 mul-union-into : tie.Need-mul-union-into
 mul-union-into c =
-    let start = c .before .before .before .before .before .before .before in
-    omega (arith, why-in (start .args .w) _ _ (start .pre .1), start .pre .0 .enough)
+    let start = c .before .before .before in
+    omega (arith, why-in (start .args .w) _ _ (start .pre .row), start .pre .laid .enough)
 
 union-into-requires : tie.Need-union-into-requires
 union-into-requires c κs =
-    let removed = c .before .before .before .before in
-    let start = removed .before .before .before in (
-      omega (arith, why-in (start .args .w) _ _ (start .pre .1), start .pre .0 .enough),
-      omega (arith, start .pre .0 .enough, removed .remove .ensures .only .long),
+    let start = c .before .before .before in (
+      omega (arith, why-in (start .args .w) _ _ (start .pre .row)),
+      omega (arith, start .pre .laid .enough),
     )
+
+remove-requires : tie.Need-remove-requires
+remove-requires c κs = search needs
 
 same-length : tie.Need-same-length
 same-length c = search needs
 
 returns : tie.Need-returns
 returns c =
-    let united = c .before .before in
-    let removed = united .before .before .before .before .before in
-    let p = removed .before .before .before .pre in
-    resolved _ _ _ _ _ _ _ (p .0) (p .1) (p .2) (p .3) (removed .remove .ensures) (united .union-into .ensures)
+    let removed = c .before .before in
+    let united = removed .before .before .before .before in
+    resolved _ _ _ _ _ _ _ (united .before .before .before .before .pre) (united .union-into .ensures) (removed .remove .ensures)
 
 pub resolve-spec : {M : Type 1} → statement M
 resolve-spec =
@@ -51,9 +49,9 @@ resolve-spec =
     mul-e
     mul-e-2
     add-e
-    remove-requires
     cast-union-into
     mul-union-into
     union-into-requires
+    remove-requires
     same-length
     returns)

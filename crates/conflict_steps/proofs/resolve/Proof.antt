@@ -1,6 +1,6 @@
 -- `conflict_steps::resolve` meets its contract.
 use Rattle.conflicts.proofs.Laws.{found}
-use Rattle.conflict_steps.proofs.Answers.{resolve-refused, resolve-on, resolve-justified, resolve-done}
+use Rattle.conflict_steps.proofs.Answers.{resolve-refused, to-resolve, resolve-done}
 use borrow.Author.Needs.{needs}
 use Rattle.conflict_steps.proofs.resolve.Statement.{statement}
 use Rattle.conflict_steps.proofs.resolve.Tie as tie
@@ -15,7 +15,7 @@ returns : tie.Need-returns
 returns c = search resolve-refused
 
 resolve-requires : tie.Need-resolve-requires
-resolve-requires c κs = (search needs, search needs, search resolve-on, search resolve-justified)
+resolve-requires c κs = search to-resolve
 
 same-length-2 : tie.Need-same-length-2
 same-length-2 c = search needs
