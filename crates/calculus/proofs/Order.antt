@@ -227,7 +227,7 @@ abbrev columns : List Case
 columns =
     -- 9: a step or a rule that is not listed
     steps [] (9 ∷ 65535 ∷ a ∷ 7 ∷ nothing 5) (away 9)
-    ∷ steps [] (deduce 13 e 1 []) (away 9)
+    ∷ steps [] (deduce 14 e 1 []) (away 9)
     -- a needed column is blank
     ∷ steps [] (decide 65535 1) (away 9)
     ∷ steps [] (decide a 65535) (away 9)

@@ -1,11 +1,12 @@
 -- Where a refused row went wrong: its place, a column counted from 1 at "step", given with the numbers 11, 12 and 13.
-use mathlib.Core.Bool.{Bool, not, _&&_, _||_, cond}
+use mathlib.Core.Bool.{Bool, true, false, not, _&&_, _||_, cond}
 use mathlib.Core.List.{List, [], _∷_, _++_}
 use Prim.Native.Nat.{ℕ, zero, suc, _+_, _-_}
 use lib.ListN.{length, take}
 use lib.Dec.{eqb, ltb}
 use Rattle.calculus.specs.declared.Premise.{Premise}
 use Rattle.calculus.specs.declared.Rule.{Rule}
+use Rattle.calculus.specs.declared.Rule.the-variants.{Same, Differ, Reflexivity, Symmetry, Transitivity, Negated, Part, Unit, Evaluation, Congruence, Predicate, Read, Skip, Deep, Unlisted}
 use Rattle.calculus.specs.declared.Step.{Step}
 use Rattle.calculus.specs.Lists.{somewhere, firstWhere}
 use Rattle.calculus.specs.Sheets.{termRows}
@@ -45,6 +46,24 @@ absentPlace tr x = premiseFault (λ p. not (on tr p)) x
 
 -- ---- number 13: the first column, from the term on, after which no value, rows and blanks to its right fit the rule
 
+-- the rules that go wrong at the term, whatever stands to its right
+abbrev pub atTerm : Rule → Bool
+atTerm Same = false
+atTerm Differ = false
+atTerm Reflexivity = false
+atTerm Symmetry = false
+atTerm Transitivity = false
+atTerm Negated = false
+atTerm Part = false
+atTerm Unit = false
+atTerm Evaluation = false
+atTerm Congruence = false
+atTerm Predicate = false
+atTerm Read = false
+atTerm Skip = false
+atTerm Deep = true
+atTerm Unlisted = false
+
 -- row a with value w, as a premise
 abbrev pub with : ℕ → ℕ → Premise
 with w a = record { row = a; value = w }
@@ -72,8 +91,11 @@ module _ (ts : List ℕ) (k : Rule) (l : ℕ) where
       (completes 5 0 [] || completes 5 1 [])
       (completes (openAfter ps c) v (take (c - valueColumn) ps))
 
+  unfoldable pub firstUnfit : ℕ → List Premise → ℕ
+  firstUnfit v ps = termColumn + firstWhere 7 (λ j. not (completable v ps (termColumn + j)))
+
   unfoldable pub unfitPlace : ℕ → List Premise → ℕ
-  unfitPlace v ps = termColumn + firstWhere 7 (λ j. not (completable v ps (termColumn + j)))
+  unfitPlace v ps = cond (atTerm k) termColumn (firstUnfit v ps)
 
 -- ---- the place of number n in row x, at the trail tr; 0 with every other number
 

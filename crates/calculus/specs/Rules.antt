@@ -1,24 +1,25 @@
--- The thirteen rules: when a rule gives term l the value v from the premises ps, in their order.
-use mathlib.Core.Bool.{Bool, true, false, not, _&&_, _||_}
+-- The fourteen rules: when a rule gives term l the value v from the premises ps, in their order.
+use mathlib.Core.Bool.{Bool, true, false, not, _&&_, _||_, cond}
 use mathlib.Core.List.{List, [], _∷_, _++_, map}
-use Prim.Native.Nat.{ℕ, suc, _+_}
+use Prim.Native.Nat.{ℕ, zero, suc, _+_}
 use lib.ListN.{length, getD, take, drop}
 use lib.Dec.{eqb, ltb}
 use Rattle.calculus.specs.declared.Premise.{Premise}
 use Rattle.calculus.specs.declared.Fit.{Fit}
 use Rattle.calculus.specs.declared.Fit.the-variants.{Fits, Unfit}
 use Rattle.calculus.specs.declared.Rule.{Rule}
-use Rattle.calculus.specs.declared.Rule.the-variants.{Same, Differ, Reflexivity, Symmetry, Transitivity, Negated, Part, Unit, Evaluation, Congruence, Predicate, Read, Skip, Unlisted}
+use Rattle.calculus.specs.declared.Rule.the-variants.{Same, Differ, Reflexivity, Symmetry, Transitivity, Negated, Part, Unit, Evaluation, Congruence, Predicate, Read, Skip, Deep, Unlisted}
 use Rattle.calculus.specs.Lists.{all, any, has, eqList, somewhere, num, isTrue}
 use Rattle.calculus.specs.Sheets.{blank}
 use Rattle.calculus.specs.Terms.{head, args, arg, headOf, isFree, isFunction, eqHead, notHead, andHead, orHead, selectHead, storeHead}
 
 -- ---- the rules' numbers
 
--- same, differ, refl, sym, trans, neg, part, unit, eval, cong, pred, read, skip
+-- same, differ, refl, sym, trans, neg, part, unit, eval, cong, pred, read, skip, deep
 abbrev pub rules : List Rule
 rules =
-    Same ∷ Differ ∷ Reflexivity ∷ Symmetry ∷ Transitivity ∷ Negated ∷ Part ∷ Unit ∷ Evaluation ∷ Congruence ∷ Predicate ∷ Read ∷ Skip ∷ []
+    Same ∷ Differ ∷ Reflexivity ∷ Symmetry ∷ Transitivity ∷ Negated ∷ Part ∷ Unit ∷ Evaluation ∷ Congruence ∷ Predicate ∷ Read ∷ Skip ∷ Deep
+    ∷ []
 
 unfoldable pub ruleOf : ℕ → Rule
 ruleOf n = getD rules n Unlisted
@@ -96,6 +97,21 @@ allBut k xs = take k xs ++ drop (suc k) xs
 unfoldable pub unitAt : ℕ → ℕ → List ℕ → List Premise → Bool
 unitAt w l xs ps = somewhere (length xs) (λ k. eqb (getD xs k blank) l && others w (allBut k xs) ps)
 
+-- ---- the walk of deep: down from a formula through not, and, or, to premises
+
+-- so many connectives may lie on a path, that of the formula being the first
+abbrev pub layers : ℕ
+layers = 8
+
+-- some premise is on t
+abbrev pub isPremise : List Premise → ℕ → Bool
+isPremise ps t = any (λ p. eqb (p .row) t) ps
+
+-- the value that the first of these gives it; on a trail they all give the same
+abbrev pub premiseValue : List Premise → ℕ → ℕ
+premiseValue [] t = 0
+premiseValue (p ∷ ps) t = cond (eqb (p .row) t) (p .value) (premiseValue ps t)
+
 -- ---- the rules
 
 module _ (ts : List ℕ) where
@@ -118,6 +134,25 @@ module _ (ts : List ℕ) where
   pairs (a ∷ xs) [] ps = false
   pairs (a ∷ xs) (b ∷ ys) [] = false
   pairs (a ∷ xs) (b ∷ ys) (p ∷ ps) = equates a b 1 p && pairs xs ys ps
+
+  abbrev pub isConnective : ℕ → Bool
+  isConnective t = isHead t notHead || (isHead t andHead || isHead t orHead)
+
+  -- within n connectives, every path of the walk down from t ends at a premise
+  unfoldable pub grounded : List Premise → ℕ → ℕ → Bool
+  grounded ps zero t = isPremise ps t
+  grounded ps (suc n) t = isPremise ps t || (isConnective t && all (grounded ps n) (args ts t))
+
+  -- the value that the walk gives t: a premise's own, a connective's by those of its arguments
+  unfoldable pub walkValue : List Premise → ℕ → ℕ → ℕ
+  walkValue ps zero t = premiseValue ps t
+  walkValue ps (suc n) t =
+      cond (isPremise ps t) (premiseValue ps t) (num (evaluates (head ts t) (map (walkValue ps n) (args ts t)) 1))
+
+  -- the walk down from t comes to u; below a premise it does not go on
+  unfoldable pub comesTo : List Premise → ℕ → ℕ → ℕ → Bool
+  comesTo ps zero u t = eqb t u
+  comesTo ps (suc n) u t = eqb t u || (not (isPremise ps t) && any (comesTo ps n u) (args ts t))
 
   unfoldable pub fits : Rule → ℕ → ℕ → List Premise → Bool
   -- t, u with equal values give t = u true
@@ -184,6 +219,8 @@ module _ (ts : List ℕ) where
       && (eqb (arg ts r 0) (arg ts a 0)
       && (eqb (arg ts r 1) (arg ts s 1)
       && (equates (arg ts a 1) (arg ts s 1) 0 p && eqb v 1)))))))
+  -- the walk down from l meets every premise and gives l its value
+  fits Deep l v ps = grounded ps layers l && (all (λ p. comesTo ps layers (p .row) l) ps && eqb v (walkValue ps layers l))
   fits Unlisted l v ps = false
 
 -- the answer of a rule test, where c is the column at which a row that does not fit went wrong

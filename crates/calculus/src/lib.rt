@@ -60,6 +60,7 @@ pub enum Rule {
     Predicate,
     Read,
     Skip,
+    Deep,
     Unlisted,
 }
 
