@@ -18,6 +18,16 @@ use Rattle.calculus.specs.Terms.{head, cells, filled, args, arg, eqHead,
 use Rattle.calculus.specs.Place.{firstFault, premiseFault}
 use Rattle.calculus.specs.Rules.{leading, gives, others, allBut, unitAt, isHead, pairs, fits}
 
+-- ---- filled columns
+
+pub filled-short : (xs : List ℕ) → length (filled xs) ≤ length xs
+filled-short [] = omega arith
+filled-short (x ∷ xs) = go (filled-short xs) (eqb x blank)
+  where
+    go : length (filled xs) ≤ length xs → (b : Bool) → length (cond b [] (x ∷ filled xs)) ≤ suc (length xs)
+    go h true = omega arith
+    go h false = omega arith
+
 -- ---- heads
 
 -- the number of a free head

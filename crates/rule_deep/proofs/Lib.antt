@@ -1,0 +1,2 @@
+-- Laws of the walk.
+pub mod Laws
