@@ -14,7 +14,8 @@ use Rattle.calculus.specs.Trail.{Trail, valueAt, premisesAt}
 use Rattle.calculus.specs.Rules.{rowOf, valueOf, notOf, andOf, orOf, evaluates, layers, isPremise, premiseValue}
 use Rattle.calculus.specs.Rules.{isConnective, grounded, walkValue, comesTo, fits, ruleOf}
 use Rattle.calculus.specs.Steps.{inferenceRefusal}
-use Rattle.calculus.proofs.Facts.{and-l, and-r, and-both, or-l, or-r, eqb-of, neqb-of, T-true, T-false, true-T, all-of, any-at, any-of, unless-yes, unless-ok}
+use Rattle.calculus.proofs.Facts.{and-l, and-r, and-both, or-l, or-r, eqb-of, T-true, T-false, true-T, all-of, any-at, any-of, unless-yes, unless-ok}
+use Rattle.calculus.proofs.Forms.{connectiveNumber, connective-case}
 use Rattle.calculus.proofs.WellSorted.{eqList-eq, WellSorted, row-args}
 
 -- ---- premises by their row
@@ -82,16 +83,27 @@ taken-last : (v : ℕ) (b : Bool) → T (eqb v (num b)) → v ≡ num (eqb 1 (nu
 taken-last v true h = eqb→eq v 1 h
 taken-last v false h = eqb→eq v 0 h
 
-pub evaluates-once : (h : ℕ) (xs : List ℕ) (v : ℕ) → T (evaluates h xs v)
-    → T (eqb h notHead || (eqb h andHead || eqb h orHead)) × (v ≡ num (evaluates h xs 1))
-evaluates-once zero xs v t = absurd t
-evaluates-once (suc zero) xs v t = (tt, taken v (notOf xs) t)
-evaluates-once (suc (suc zero)) xs v t = (tt, taken v (andOf xs) t)
-evaluates-once (suc (suc (suc zero))) xs v t = (tt, taken-last v (orOf xs) t)
-evaluates-once (suc (suc (suc (suc h)))) xs v t = absurd (rw (off notHead (omega arith), off andHead (omega arith), off orHead (omega arith)) at t)
-  where
-    off : (k : ℕ) → k < 4 → eqb (suc (suc (suc (suc h)))) k ≡ false
-    off k l = T-false _ (neqb-of (λ (e : suc (suc (suc (suc h))) ≡ k). omega arith))
+-- where it passes, the head is that of a connective
+heads : (a b c x y z : Bool) → T ((a && x) || ((b && y) || (c && z))) → T (a || (b || c))
+heads true b c x y z t = tt
+heads false true c x y z t = tt
+heads false false c x y z t = and-l c z t
+
+pub evaluates-once : (h : ℕ) (xs : List ℕ) (v : ℕ) → T (evaluates h xs v) → T (connectiveNumber h) × (v ≡ num (evaluates h xs 1))
+evaluates-once h xs v t =
+    let c = heads (eqb h notHead) (eqb h andHead) (eqb h orHead) _ _ _ t in (
+      c,
+      connective-case (λ k. T (evaluates k xs v) → v ≡ num (evaluates k xs 1)) (taken v (notOf xs)) (taken v (andOf xs)) (taken-last v (orOf xs)) h c t,
+    )
+
+-- the test of eval: the premises are the arguments, and their values give the connective its own
+pub evaluation-says : (ts : List ℕ) (l v : ℕ) (ps : List Premise) → T (fits ts Evaluation l v ps)
+    → (map rowOf ps ≡ args ts l) × T (isConnective ts l) × (v ≡ num (evaluates (head ts l) (map valueOf ps) 1))
+unfolding fits
+evaluation-says ts l v ps h =
+    let rows = eqList (map rowOf ps) (args ts l) in
+    let q = evaluates-once (head ts l) (map valueOf ps) v (and-r rows _ h) in
+    (eqList-eq (map rowOf ps) (args ts l) (and-l rows _ h), q .0, q .1)
 
 -- ---- all that eval allows, deep allows: over premises that give a row one value, as those on a trail do
 
@@ -99,12 +111,12 @@ module _ {ss ts : List ℕ} (W : WellSorted ss ts) where
   pub evaluation-deep : (l v : ℕ) (ps : List Premise) → l < termRows ts → SingleValued ps → T (fits ts Evaluation l v ps) → T (fits ts Deep l v ps)
   unfolding fits grounded walkValue comesTo
   evaluation-deep l v ps k S h =
-      let e = eqList-eq (map rowOf ps) (args ts l) (and-l (eqList (map rowOf ps) (args ts l)) _ h) in
-      let q = evaluates-once (head ts l) (map valueOf ps) v (and-r (eqList (map rowOf ps) (args ts l)) _ h) in
-      and-both (grounded ts ps layers l) _ (down e (q .0))
+      let q = evaluation-says ts l v ps h in
+      let e = q .0 in
+      and-both (grounded ts ps layers l) _ (down e (q .1))
       (and-both (all (λ (p : Premise). comesTo ts ps layers (p .row) l) ps) _
       (all-of (λ (p : Premise). comesTo ts ps layers (p .row) l) ps (meets e))
-      (eqb-of (q .1 ∙ sym (value e))))
+      (eqb-of (q .2 ∙ sym (value e))))
     where
       -- an argument is a premise, and l is none
       at : map rowOf ps ≡ args ts l → (a : ℕ) → List·Memᴰ a (args ts l) → T (isPremise ps a)

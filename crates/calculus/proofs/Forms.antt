@@ -1,12 +1,13 @@
 -- Definitions in other forms: as the code tests them, and as proofs take them apart.
-use mathlib.Core.Path.{_≡_, refl, sym, ap, _∙_}
+use mathlib.Core.Path.{_≡_, refl, sym, ap, subst, _∙_}
+use mathlib.Core.Logic.{_⊎_, inl, inr}
 use mathlib.Core.Bool.{Bool, true, false, not, _&&_, _||_, cond, and-false, or-false, true≢false}
 use mathlib.Core.List.{List, [], _∷_}
 use Prim.Native.Nat.{ℕ, zero, suc, _+_, _*_, _≤_}
 use native.Mathlib.Omega.{arith}
 use native.Mathlib.Nat.{add-zero}
 use lib.ListN.{length, getD, List·getD-eq-default}
-use lib.Dec.{eqb, leb, ltb}
+use lib.Dec.{T, eqb, leb, ltb, eqb→eq}
 use borrow.Author.Tests.{lt-leb}
 use Rattle.calculus.specs.declared.Premise.{Premise}
 use Rattle.calculus.specs.declared.Step.{Step}
@@ -14,9 +15,11 @@ use Rattle.calculus.specs.declared.Head.the-variants.{Free, Unlisted}
 use Rattle.calculus.specs.declared.Rule.the-variants.{Congruence, Predicate}
 use Rattle.calculus.specs.Lists.{all, below, somewhere}
 use Rattle.calculus.specs.Sheets.{blank}
-use Rattle.calculus.specs.Terms.{head, cells, filled, args, arg, eqHead, selectHead, storeHead, firstFree, heads, headOf, isFree, isFunction, twins}
+use Rattle.calculus.specs.Terms.{head, cells, filled, args, arg, heads, headOf, isFree, isFunction, twins}
+use Rattle.calculus.specs.Terms.{eqHead, notHead, andHead, orHead, selectHead, storeHead, firstFree}
 use Rattle.calculus.specs.Place.{firstFault, premiseFault}
 use Rattle.calculus.specs.Rules.{leading, gives, others, allBut, unitAt, isHead, pairs, fits}
+use Rattle.calculus.proofs.Facts.{or-cases}
 
 -- ---- filled columns
 
@@ -70,6 +73,25 @@ function-numbers (suc (suc (suc (suc (suc zero))))) = refl
 function-numbers (suc (suc (suc (suc (suc (suc n)))))) =
     let h = suc (suc (suc (suc (suc (suc n))))) in
     is-function-past (freeNumber h) ∙ sym (rw (lt-leb h storeHead (omega arith), and-false (leb selectHead h)))
+
+-- the number of a connective's head: not's, and's or or's
+abbrev pub connectiveNumber : ℕ → Bool
+connectiveNumber h = eqb h notHead || (eqb h andHead || eqb h orHead)
+
+-- a case for each
+pub connective-case {ℓ} : (P : ℕ → Type ℓ) → P notHead → P andHead → P orHead → (h : ℕ) → T (connectiveNumber h) → P h
+connective-case P n a o h c = go (or-cases (eqb h notHead) _ c)
+  where
+    here : {k : ℕ} → P k → T (eqb h k) → P h
+    here p t = subst P (sym (eqb→eq h _ t)) p
+
+    last : T (eqb h andHead) ⊎ T (eqb h orHead) → P h
+    last (inl t) = here a t
+    last (inr t) = here o t
+
+    go : T (eqb h notHead) ⊎ T (eqb h andHead || eqb h orHead) → P h
+    go (inl t) = here n t
+    go (inr t) = last (or-cases (eqb h andHead) _ t)
 
 -- ---- rows with the same head and arguments
 

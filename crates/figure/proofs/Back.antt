@@ -14,23 +14,31 @@ use Rattle.calculus.specs.declared.Kind.the-variants as kinds
 use Rattle.calculus.specs.Lists.{all, has, opposite}
 use Rattle.calculus.specs.Sheets.{blank, termRows}
 use Rattle.calculus.specs.Terms.{sort, prop, leftFilled}
-use Rattle.calculus.specs.Trail.{Set, Trail, Entry, everything, remove, without, union, intersection, on, entry, valueAt, levelAt, decidedAt, whyAt, premisesAt, holds, firstOrder, levelOf, keptTo}
+use Rattle.calculus.specs.Trail.{Set, Trail, Entry, everything, remove, without, union, intersection}
+use Rattle.calculus.specs.Trail.{on, entry, valueAt, levelAt, decidedAt, whyAt, premisesAt, holds, firstOrder, levelOf, keptTo}
 use Rattle.calculus.specs.Rules.{rowOf, ruleOf}
 use Rattle.calculus.specs.Clauses.{different, clauseValue}
 use Rattle.calculus.specs.WellFormed.{Within, WellFormed, WellFormedState, Truthful, Coherent}
 use Rattle.calculus.specs.Steps as steps
-use Rattle.calculus.specs.Steps.{State, searching, conflict, Answer, allowed, refuted, refused, answer, premiseCells, premises, kindOf, isBlank, isFilled, inferenceShaped, termShaped, pairShaped, learnShaped, shaped, ready, known, inferenceRefusal, contradictionRefusal, rowRefusal, stepBy, step}
+use Rattle.calculus.specs.Steps.{State, searching, conflict, Answer, allowed, refuted, refused, answer, premiseCells, premises, kindOf, isBlank, isFilled}
+use Rattle.calculus.specs.Steps.{inferenceShaped, termShaped, pairShaped, learnShaped, shaped, ready, known}
+use Rattle.calculus.specs.Steps.{inferenceRefusal, contradictionRefusal, rowRefusal, stepBy, step}
 use Rattle.calculus.proofs.Facts.{and-l, and-r, all-at, all-of, T-true, T-false, true-T, neq, facts, unless-ok}
 use Rattle.calculus.proofs.Entries.{entry-in, level-kept, holds-at}
 use Rattle.calculus.proofs.WellFormed.{decided-high}
 use Rattle.calculus.proofs.Truths.{value-suits}
-use Rattle.figure.specs.Inferences.{Opposite, oppositeOfTrue, oppositeOfFalse}
-use Rattle.figure.specs.Transitions.{_∈_, Boolean, Assigned, justifiedAt, Level, Inferred, Action, decide, deduce, clash, resolve, clear, jump, flip, fail, learn, Result, next, unsat, Transition, Decide, Deduce, Fail, Conflict, Resolve, Undo, Backjump, UndoDecide, Members, LearnBackjump}
+use Rattle.figure.specs.Inferences.{Opposite}
+use Rattle.figure.specs.Transitions.{_∈_, Boolean, Assigned, justifiedAt, Level, Inferred, Members}
+use Rattle.figure.specs.Transitions.{Action, decide, deduce, clash, resolve, clear, jump, flip, fail, learn, Result, next, unsat}
+use Rattle.figure.specs.Transitions.{Transition, Decide, Deduce, Fail, Conflict, Resolve, Undo, Backjump, UndoDecide, LearnBackjump}
 use Rattle.figure.specs.Spelling.{Filled, Blank, FromLeft, noColumn, blankColumn, filledColumn, Columns, Spells}
 use Rattle.figure.specs.Faithful.{answerOf}
 use Rattle.calculus.proofs.WellSorted.{WellSorted}
-use Rattle.figure.proofs.Rules.{Known, Truths, fits-infers}
-use Rattle.figure.proofs.Trails.{level-is, restricted-is, off-is, below-row, entry-of, assigned-is, one-value, premises-rows, premises-is, first-order-is, first-order-of, holds-of}
+use Rattle.figure.proofs.Connectives.{opposite-there}
+use Rattle.figure.proofs.Walks.{Truths}
+use Rattle.figure.proofs.Rules.{Known, fits-infers}
+use Rattle.figure.proofs.Trails.{level-is, restricted-is, off-is, below-row, entry-of, assigned-is, one-value}
+use Rattle.figure.proofs.Trails.{premises-rows, premises-is, first-order-is, first-order-of, holds-of}
 use Rattle.figure.proofs.Spelling.{from-left, no-premise}
 use Rattle.figure.proofs.Clauses.{different-is, clausal-is}
 
@@ -44,11 +52,6 @@ answer-ok : (c : ℕ) (a : Answer) (r : Result) → answer c a ≡ answerOf r �
 unfolding answer
 answer-ok zero a r e = (refl, e)
 answer-ok (suc c) a r e = absurd (not-refused (suc c) r e)
-
-opposite-there : (v : ℕ) → v ≤ 1 → Opposite v (opposite v)
-opposite-there zero l = oppositeOfFalse
-opposite-there (suc zero) l = oppositeOfTrue
-opposite-there (suc (suc v)) l = absurd (omega arith)
 
 filled-is : {c : ℕ} → T (isFilled c) → Filled c c
 filled-is {c} h = (refl, neq c blank h)

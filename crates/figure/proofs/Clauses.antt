@@ -17,7 +17,8 @@ use Rattle.calculus.proofs.Facts.{eqb-of, and-l, and-r, and-both, or-cases, or-
 use Rattle.calculus.proofs.WellSorted.{WellSorted, row-args}
 use Rattle.calculus.proofs.Clauses.{rest-in, in-middle, taken, taking}
 use Rattle.figure.specs.Inferences.{assign, Applied}
-use Rattle.figure.specs.Clauses.{Different, noNumber, oneMore, Denies, deniesTrue, deniesFalse, Affirms, affirmsTrue, affirmsFalse, Paired, noPair, onePair, ClausalForm, opposite, clause, conjunction}
+use Rattle.figure.specs.Clauses.{Different, noNumber, oneMore, Denies, deniesTrue, deniesFalse, Affirms, affirmsTrue, affirmsFalse}
+use Rattle.figure.specs.Clauses.{Paired, noPair, onePair, ClausalForm, opposite, clause, conjunction}
 use Rattle.figure.proofs.Rows.{not-row}
 use Rattle.figure.proofs.Rules.{head-of, column-0, retarget, as-is}
 

@@ -16,22 +16,28 @@ use Rattle.calculus.specs.Lists.{all, has, opposite}
 use Rattle.calculus.specs.Numbers.{unless}
 use Rattle.calculus.specs.Sheets.{termRows}
 use Rattle.calculus.specs.Terms.{prop, sort}
-use Rattle.calculus.specs.Trail.{Set, Trail, Entry, everything, remove, without, union, intersection, valueAt, levelAt, decidedAt, whyAt, assigned, holds, firstOrder, levelOf, topLevel, keptTo}
+use Rattle.calculus.specs.Trail.{Set, Trail, Entry, everything, remove, without, union, intersection}
+use Rattle.calculus.specs.Trail.{valueAt, levelAt, decidedAt, whyAt, assigned, holds, firstOrder, levelOf, topLevel, keptTo}
 use Rattle.calculus.specs.Inputs.{valueSuits}
 use Rattle.calculus.specs.Rules.{rowOf, ruleOf, ruleListed, fits}
 use Rattle.calculus.specs.Clauses.{different}
 use Rattle.calculus.specs.WellFormed.{WellFormed, WellFormedState, Truthful, Coherent}
 use Rattle.calculus.specs.Steps as steps
-use Rattle.calculus.specs.Steps.{State, searching, conflict, Answer, allowed, refuted, answer, premiseCells, premises, kindOf, isBlank, isFilled, inferenceShaped, termShaped, pairShaped, learnShaped, shaped, ready, known, inferenceRefusal, contradictionRefusal, rowRefusal, stepBy, step}
+use Rattle.calculus.specs.Steps.{State, searching, conflict, Answer, allowed, refuted, answer, premiseCells, premises, kindOf, isBlank, isFilled}
+use Rattle.calculus.specs.Steps.{inferenceShaped, termShaped, pairShaped, learnShaped, shaped, ready, known}
+use Rattle.calculus.specs.Steps.{inferenceRefusal, contradictionRefusal, rowRefusal, stepBy, step}
 use Rattle.calculus.proofs.Facts.{eqb-of, neqb-of, and-both, T-true, true-T, false-T, all-of}
 use Rattle.calculus.proofs.Entries.{level-kept, holds-at}
 use Rattle.figure.specs.Inferences.{Opposite, oppositeOfTrue, oppositeOfFalse}
-use Rattle.figure.specs.Transitions.{Boolean, Suits, Among, Assigned, Absent, FirstOrder, decisionAt, justifiedAt, Level, Restricted, Inferred, Action, Result, Transition, Decide, Deduce, Fail, Conflict, Resolve, Undo, Backjump, UndoDecide, Members, LearnBackjump}
+use Rattle.figure.specs.Transitions.{Boolean, Suits, Among, Assigned, Absent, FirstOrder, decisionAt, justifiedAt, Level, Restricted, Inferred, Members}
+use Rattle.figure.specs.Transitions.{Action, Result, Transition, Decide, Deduce, Fail, Conflict, Resolve, Undo, Backjump, UndoDecide, LearnBackjump}
 use Rattle.figure.specs.Clauses.{ClausalForm}
 use Rattle.figure.specs.Spelling.{Filled, Blank, FromLeft, noColumn, blankColumn, filledColumn, Columns, Spells}
 use Rattle.figure.specs.Faithful.{answerOf}
-use Rattle.figure.proofs.Rules.{opposite-sum, infers-fits, infers-listed}
-use Rattle.figure.proofs.Trails.{level-of, restricted-of, off-of, below-row, entry-of, assigned-of, assigned-is, premises-of, first-order-is, first-order-of, holds-of}
+use Rattle.figure.proofs.Connectives.{opposite-sum}
+use Rattle.figure.proofs.Rules.{infers-fits, infers-listed}
+use Rattle.figure.proofs.Trails.{level-of, restricted-of, off-of, below-row, entry-of, assigned-of}
+use Rattle.figure.proofs.Trails.{assigned-is, premises-of, first-order-is, first-order-of, holds-of}
 use Rattle.figure.proofs.Spelling.{blanks-of, filled-of, left-of, listed}
 use Rattle.figure.proofs.Clauses.{different-of, clausal-test}
 

@@ -1,5 +1,7 @@
 -- The step definition is the paper's relation.
 pub mod Rows
+pub mod Connectives
+pub mod Walks
 pub mod Rules
 pub mod Clauses
 pub mod Trails

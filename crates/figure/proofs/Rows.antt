@@ -1,21 +1,21 @@
--- What a term sheet that gets no number says of its rows: how many arguments a head has, that they are earlier rows, and which are props.
+-- What a term sheet that gets no number says of its rows: how many arguments a head has, and that they are earlier rows.
 use mathlib.Core.Path.{_≡_, sym, ap, subst, _∙_}
 use mathlib.Core.Bool.{Bool, true, false, _&&_, cond}
-use mathlib.Core.List.{List, [], _∷_, List·Memᴰ}
+use mathlib.Core.List.{List, [], _∷_}
 use Prim.Native.Nat.{ℕ, zero, suc, _≤_, _<_}
 use native.Mathlib.Omega.{arith}
 use lib.ListN.{length, getD}
 use lib.Dec.{T, eqb, leb, leb→le, le→leb, ltb→lt, lt→ltb, eqb-refl}
-use Rattle.calculus.specs.declared.Head.the-variants.{Negation, Conjunction, Disjunction, Free, Unlisted}
+use Rattle.calculus.specs.declared.Head.the-variants.{Free, Unlisted}
 use Rattle.calculus.specs.Lists.{eqList}
 use Rattle.calculus.specs.Sheets.{blank, termRows}
-use Rattle.calculus.specs.Terms.{head, sort, cells, filled, args, arg, headOf, eqHead, notHead, andHead, orHead, selectHead, storeHead, firstFree}
+use Rattle.calculus.specs.Terms.{head, cells, filled, args, arg, headOf, eqHead, notHead, selectHead, storeHead, firstFree}
 use Rattle.calculus.specs.Terms as terms
 use Rattle.calculus.proofs.Facts.{and-l, and-r, and-both, or-r}
 use Rattle.calculus.proofs.Forms.{freeNumber, free-numbers, function-numbers}
 use Rattle.figure.specs.Inferences.{Applied, FreeHead, FunctionHead, isSelect, isStore, isFree}
 use Rattle.calculus.proofs.WellSorted.{arg-is, arg-mem, WellSorted, row-args}
-use Rattle.calculus.proofs.Rows.{one-arg, two-args, three-args, is-equality, is-connective, not-count, is-select, is-store}
+use Rattle.calculus.proofs.Rows.{one-arg, two-args, three-args, is-equality, not-count, is-select, is-store}
 
 -- ---- lists
 
@@ -107,14 +107,3 @@ module _ {ss ts : List ℕ} (W : WellSorted ss ts) where
 
   pub not-row : (t : ℕ) → t < termRows ts → head ts t ≡ notHead → Applied ts t notHead (arg ts t 0 ∷ [])
   not-row t l e = record { headed = e; arguments = one-arg ts t (not-count W t l (ap headOf e)) }
-
-  -- the arguments of not, and, or are props
-
-  pub not-props : (t : ℕ) → t < termRows ts → head ts t ≡ notHead → (a : ℕ) → List·Memᴰ a (args ts t) → sort ts a ≡ 0
-  not-props t l e = is-connective W t Negation l (ap headOf e) tt .arguments
-
-  pub and-props : (t : ℕ) → t < termRows ts → head ts t ≡ andHead → (a : ℕ) → List·Memᴰ a (args ts t) → sort ts a ≡ 0
-  and-props t l e = is-connective W t Conjunction l (ap headOf e) tt .arguments
-
-  pub or-props : (t : ℕ) → t < termRows ts → head ts t ≡ orHead → (a : ℕ) → List·Memᴰ a (args ts t) → sort ts a ≡ 0
-  or-props t l e = is-connective W t Disjunction l (ap headOf e) tt .arguments

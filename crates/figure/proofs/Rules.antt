@@ -1,36 +1,34 @@
 -- A rule's test passes exactly where the relation has an inference by that rule.
 use mathlib.Core.Path.{_≡_, refl, sym, ap, subst, subst₂, _∙_}
 use mathlib.Core.Logic.{_≢_, _⊎_, inl, inr}
-use mathlib.Core.Bool.{Bool, not, _&&_, _||_}
-use mathlib.Core.List.{List, [], _∷_, _++_, map, List·Memᴰ, List·Memᴰ·head, List·Memᴰ·tail, List·Memᴰ·cases-cons, List·Memᴰ·not-nil, Memᴰ·map, Memᴰ·of-map}
-use Prim.Native.Nat.{ℕ, zero, suc, _+_, _≤_, _<_}
+use mathlib.Core.Bool.{Bool, not, _&&_}
+use mathlib.Core.List.{List, [], _∷_, _++_, map, List·Memᴰ, List·Memᴰ·head, List·Memᴰ·tail, Memᴰ·map, Memᴰ·of-map}
+use Prim.Native.Nat.{ℕ, suc, _+_, _≤_, _<_}
 use native.Mathlib.Omega.{arith}
 use lib.ListN.{length, length-append, length-map}
 use lib.Dec.{T, eqb, eqb→eq, eqb-refl}
 use Rattle.calculus.specs.declared.Premise.{Premise}
 use Rattle.calculus.specs.declared.Rule.{Rule}
-use Rattle.calculus.specs.declared.Rule.the-variants.{Same, Differ, Reflexivity, Symmetry, Transitivity, Negated, Part, Unit, Evaluation, Congruence, Predicate, Read, Skip, Unlisted}
-use Rattle.calculus.specs.Lists.{has, eqList, num, isTrue}
+use Rattle.calculus.specs.declared.Rule.the-variants.{Same, Differ, Reflexivity, Symmetry, Transitivity, Negated, Part, Unit, Evaluation}
+use Rattle.calculus.specs.declared.Rule.the-variants.{Congruence, Predicate, Read, Skip, Deep, Unlisted}
+use Rattle.calculus.specs.Lists.{all, has, eqList}
 use Rattle.calculus.specs.Sheets.{termRows}
-use Rattle.calculus.specs.Terms.{head, sort, args, arg, headOf, eqHead, notHead, andHead, orHead, selectHead, storeHead}
+use Rattle.calculus.specs.Terms.{head, args, arg, headOf, eqHead, notHead, andHead, orHead, selectHead, storeHead}
 use Rattle.calculus.specs.Terms as terms
-use Rattle.calculus.specs.Rules.{rowOf, valueOf, gives, bare, single, double, leading, notOf, andOf, orOf, evaluates, others, unitAt, isHead, isEq, equates, pairs, fits}
-use Rattle.calculus.proofs.Facts.{num-true, num-false, eqb-of, neqb-of, and-l, and-r, and-both, or-cases, or-l, or-r, facts, all-at, all-of, any-at, any-of, has-at, has-of}
+use Rattle.calculus.specs.Rules.{rowOf, valueOf, gives, bare, single, double, leading, evaluates, others, unitAt, layers}
+use Rattle.calculus.specs.Rules.{isHead, isEq, equates, pairs, grounded, walkValue, comesTo, fits}
+use Rattle.calculus.proofs.Facts.{eqb-of, neqb-of, and-l, and-r, and-both, or-cases, or-l, or-r, facts, all-at, all-of, has-at, has-of}
 use Rattle.calculus.proofs.Forms.{unitHere, unit-none, unit-last, unit-front, connected}
-use Rattle.figure.specs.Inferences.{assign, Opposite, oppositeOfTrue, oppositeOfFalse, Applied, Equation, orByTrue, andByFalse, Evaluates, negation, settled, unsettled, Pointwise, noPosition, position, Infers, same, differ, reflexivity, symmetry, transitivity, negated, part, unit, evaluation, congruence, predicate, read, skip}
-use Rattle.calculus.proofs.WellSorted.{eqList-eq, WellSorted}
-use Rattle.figure.proofs.Rows.{eqList-refl, args-short, column, function-head, free-head, function-test, free-test, equation-row, select-row, store-row, not-row, not-props, and-props, or-props}
-
--- ---- truth values
-
-opposite-of : (w v : ℕ) → w + v ≡ 1 → Opposite w v
-opposite-of zero v e = let q : v ≡ 1 = omega arith in subst (Opposite 0) (sym q) oppositeOfFalse
-opposite-of (suc zero) v e = let q : v ≡ 0 = omega arith in subst (Opposite 1) (sym q) oppositeOfTrue
-opposite-of (suc (suc w)) v e = absurd (omega arith)
-
-pub opposite-sum : {w v : ℕ} → Opposite w v → w + v ≡ 1
-opposite-sum oppositeOfTrue = refl
-opposite-sum oppositeOfFalse = refl
+use Rattle.figure.specs.Inferences.{assign, Applied, Equation, orByTrue, andByFalse, Pointwise, noPosition, position}
+use Rattle.figure.specs.Inferences.{Infers, same, differ, reflexivity, symmetry, transitivity, negated, part, unit, evaluation}
+use Rattle.figure.specs.Inferences.{congruence, predicate, read, skip, deep}
+use Rattle.calculus.proofs.WellSorted.{WellSorted}
+use Rattle.calculus.proofs.Rows.{connective-row}
+use Rattle.calculus.proofs.Deep.{evaluation-says}
+use Rattle.figure.proofs.Rows.{eqList-refl, args-short, column, function-head, free-head, function-test, free-test}
+use Rattle.figure.proofs.Rows.{equation-row, select-row, store-row, not-row}
+use Rattle.figure.proofs.Connectives.{opposite-of, opposite-sum, Small, evaluates-of, connective-has}
+use Rattle.figure.proofs.Walks.{Truths, walk-test, comes-test, walk-is, comes-is}
 
 -- ---- from a test on terms to the terms, and back
 
@@ -90,79 +88,6 @@ unit-of w l (x ∷ xs) ys =
     subst T (sym (unit-front w l x (xs ++ (l ∷ ys)) (assign w x) ps))
     (or-r (unitHere w l x (xs ++ (l ∷ ys)) (assign w x ∷ ps)) _
     (and-both (gives x w (assign w x)) _ (gives-of x w) (unit-of w l xs ys)))
-
--- ---- values of not, and, or
-
--- each of vs is a truth value
-abbrev Small : List ℕ → Type 0
-Small vs = (x : ℕ) → List·Memᴰ x vs → x ≤ 1
-
--- some member is w, or every one is the other value u
-found : (w u : ℕ) → Opposite w u → (vs : List ℕ) → Small vs → List·Memᴰ w vs ⊎ ((x : ℕ) → List·Memᴰ x vs → x ≡ u)
-found w u o [] s = inr (λ x m. absurd (List·Memᴰ·not-nil m))
-found w u o (y ∷ vs) s = go (found w u o vs (λ x m. s x (List·Memᴰ·tail m))) o y (s y (List·Memᴰ·head refl))
-  where
-    add : {w u : ℕ} (y : ℕ) → y ≡ u → List·Memᴰ w vs ⊎ ((x : ℕ) → List·Memᴰ x vs → x ≡ u) → List·Memᴰ w (y ∷ vs) ⊎ ((x : ℕ) → List·Memᴰ x (y ∷ vs) → x ≡ u)
-    add y e (inl m) = inl (List·Memᴰ·tail m)
-    add {u = u} y e (inr f) = inr (λ x m. pick x (List·Memᴰ·cases-cons m))
-      where
-        pick : (x : ℕ) → (x ≡ y) ⊎ List·Memᴰ x vs → x ≡ u
-        pick x (inl q) = q ∙ e
-        pick x (inr k) = f x k
-
-    go : {w u : ℕ} → List·Memᴰ w vs ⊎ ((x : ℕ) → List·Memᴰ x vs → x ≡ u) → Opposite w u → (y : ℕ) → y ≤ 1
-        → List·Memᴰ w (y ∷ vs) ⊎ ((x : ℕ) → List·Memᴰ x (y ∷ vs) → x ≡ u)
-    go r oppositeOfTrue zero l = add 0 refl r
-    go r oppositeOfTrue (suc zero) l = inl (List·Memᴰ·head refl)
-    go r oppositeOfTrue (suc (suc y)) l = absurd (omega arith)
-    go r oppositeOfFalse zero l = inl (List·Memᴰ·head refl)
-    go r oppositeOfFalse (suc zero) l = add 1 refl r
-    go r oppositeOfFalse (suc (suc y)) l = absurd (omega arith)
-
--- the value of or, and of and
-or-settled : (vs : List ℕ) → List·Memᴰ 1 vs → num (orOf vs) ≡ 1
-or-settled vs m = num-true (orOf vs) (any-of isTrue m tt)
-
-or-unsettled : (vs : List ℕ) → ((x : ℕ) → List·Memᴰ x vs → x ≡ 0) → num (orOf vs) ≡ 0
-or-unsettled vs f =
-    num-false (orOf vs) (λ t.
-    let r = any-at isTrue vs t in
-    let e = f (r .0) (r .1) in
-    let q = eqb→eq (r .0) 1 (r .2) in
-    omega arith)
-
-and-settled : (vs : List ℕ) → List·Memᴰ 0 vs → num (andOf vs) ≡ 0
-and-settled vs m = num-false (andOf vs) (λ t. all-at isTrue vs t m)
-
-and-unsettled : (vs : List ℕ) → ((x : ℕ) → List·Memᴰ x vs → x ≡ 1) → num (andOf vs) ≡ 1
-and-unsettled vs f = num-true (andOf vs) (all-of isTrue vs (λ x m. eqb-of (f x m)))
-
-eval-or : (vs : List ℕ) → Small vs → Evaluates orHead vs (num (orOf vs))
-eval-or vs s = go (found 1 0 oppositeOfTrue vs s)
-  where
-    go : List·Memᴰ 1 vs ⊎ ((x : ℕ) → List·Memᴰ x vs → x ≡ 0) → Evaluates orHead vs (num (orOf vs))
-    go (inl m) = subst (Evaluates orHead vs) (sym (or-settled vs m)) (settled orByTrue m)
-    go (inr f) = subst (Evaluates orHead vs) (sym (or-unsettled vs f)) (unsettled orByTrue f)
-
-eval-and : (vs : List ℕ) → Small vs → Evaluates andHead vs (num (andOf vs))
-eval-and vs s = go (found 0 1 oppositeOfFalse vs s)
-  where
-    go : List·Memᴰ 0 vs ⊎ ((x : ℕ) → List·Memᴰ x vs → x ≡ 1) → Evaluates andHead vs (num (andOf vs))
-    go (inl m) = subst (Evaluates andHead vs) (sym (and-settled vs m)) (settled andByFalse m)
-    go (inr f) = subst (Evaluates andHead vs) (sym (and-unsettled vs f)) (unsettled andByFalse f)
-
-eval-not : (x : ℕ) → x ≤ 1 → Evaluates notHead (x ∷ []) (num (notOf (x ∷ [])))
-eval-not zero l = negation oppositeOfFalse
-eval-not (suc zero) l = negation oppositeOfTrue
-eval-not (suc (suc x)) l = absurd (omega arith)
-
-evaluates-of : {h v : ℕ} {vs : List ℕ} → Evaluates h vs v → T (evaluates h vs v)
-evaluates-of (negation oppositeOfTrue) = tt
-evaluates-of (negation oppositeOfFalse) = tt
-evaluates-of {vs = vs} (settled orByTrue m) = eqb-of (sym (or-settled vs m))
-evaluates-of {vs = vs} (settled andByFalse m) = or-l (eqb 0 (num (andOf vs))) _ (eqb-of (sym (and-settled vs m)))
-evaluates-of {vs = vs} (unsettled orByTrue f) = eqb-of (sym (or-unsettled vs f))
-evaluates-of {vs = vs} (unsettled andByFalse f) = or-l (eqb 1 (num (andOf vs))) _ (eqb-of (sym (and-unsettled vs f)))
 
 -- ---- terms by their columns
 
@@ -267,6 +192,10 @@ module _ {ts : List ℕ} where
       (and-both (eqb (arg ts (arg ts l 1) 1) (arg ts (arg ts l 0) 1)) _ (eqb-of (ap (λ t. arg ts t 1) er ∙ column-1 o ∙ sym ej))
       (and-both (equates ts (arg ts (arg ts (arg ts l 0) 0) 1) (arg ts (arg ts l 0) 1) 0 (assign 0 e)) _
       (equates-ns 0 z (ap (λ t. arg ts t 1) d ∙ column-1 c) ej) tt))))))
+  infers-fits (deep {l} {v} {J = ps} w c) =
+      let g = walk-test w in
+      let met : Premise → Bool = λ p. comesTo ts ps layers (p .row) l in
+      and-both (grounded ts ps layers l) _ (g .0) (and-both (all met ps) _ (all-of met ps (λ p m. comes-test (c p m))) (eqb-of (sym (g .1))))
 
 -- ---- how many premises there are
 
@@ -300,10 +229,6 @@ with-first P (p ∷ ps) g h f = f p ps h
 -- the premises are rows of the sheet
 abbrev pub Known : List ℕ → List Premise → Type 0
 Known ts ps = (p : Premise) → List·Memᴰ p ps → p .row < termRows ts
-
--- a prop among them has a truth value
-abbrev pub Truths : List ℕ → List Premise → Type 0
-Truths ts ps = (p : Premise) → List·Memᴰ p ps → sort ts (p .row) ≡ 0 → p .value ≤ 1
 
 module _ {ts : List ℕ} where
   into : {r : Rule} {ps K : List Premise} {l v w : ℕ} → ps ≡ K → v ≡ w → Infers ts r K l w → Infers ts r ps l v
@@ -452,52 +377,15 @@ module _ {ss ts : List ℕ} (W : WellSorted ss ts) where
             let x = unit-is 1 l (args ts (p .row)) M (and-r (connected ts andHead p 0 v 0) _ t) in
             into (λ i. assign (w i) (p .row) ∷ x .rest i) f (unit (x .xs) (x .ys) andByFalse (record { headed = e; arguments = x .here }))
 
-    -- the values of props are truth values
-    small-values : (ps : List Premise) → map rowOf ps ≡ args ts l → Truths ts ps → ((a : ℕ) → List·Memᴰ a (args ts l) → sort ts a ≡ 0) → Small (map valueOf ps)
-    small-values ps e N f x m =
-        let r = Memᴰ·of-map valueOf ps m in
-        let s = f (r .0 .row) (subst (List·Memᴰ (r .0 .row)) e (Memᴰ·map rowOf (r .1))) in
-        let y = N (r .0) (r .1) s in
-        let z = r .2 in
-        subst (λ n. n ≤ 1) z y
-
-    one-value : (a : ℕ) (ps : List Premise) → map rowOf ps ≡ a ∷ [] → Small (map valueOf ps) → Evaluates notHead (map valueOf ps) (num (notOf (map valueOf ps)))
-    one-value a [] e s = absurd (let z = ap length e in omega arith)
-    one-value a (p ∷ []) e s = eval-not (p .value) (s (p .value) (List·Memᴰ·head refl))
-    one-value a (p ∷ q ∷ ps) e s = absurd (let z = ap length e in omega arith)
-
     evaluation-is : (ps : List Premise) → T (fits ts Evaluation l v ps) → Given Evaluation ps
-    unfolding fits
     evaluation-is ps h K N =
-        let vs = map valueOf ps in
-        let e = eqList-eq (map rowOf ps) (args ts l) (and-l (eqList (map rowOf ps) (args ts l)) _ h) in
-        go e (or-cases (eqb (head ts l) notHead && eqb v (num (notOf vs))) _ (and-r (eqList (map rowOf ps) (args ts l)) _ h))
-      where
-        done : (h : ℕ) → map rowOf ps ≡ args ts l → head ts l ≡ h → (w : ℕ) → v ≡ w → Evaluates h (map valueOf ps) w → Infers ts Evaluation ps l v
-        done h e q w f x = into refl f (evaluation (record { headed = q; arguments = sym e }) x)
-
-        last : map rowOf ps ≡ args ts l
-            → T (eqb (head ts l) andHead && eqb v (num (andOf (map valueOf ps)))) ⊎ T (eqb (head ts l) orHead && eqb v (num (orOf (map valueOf ps))))
-            → Infers ts Evaluation ps l v
-        last e (inl t) =
-            let q : head ts l ≡ andHead = search facts in
-            let f : v ≡ num (andOf (map valueOf ps)) = search facts in
-            done andHead e q _ f (eval-and (map valueOf ps) (small-values ps e N (and-props W l k q)))
-        last e (inr t) =
-            let q : head ts l ≡ orHead = search facts in
-            let f : v ≡ num (orOf (map valueOf ps)) = search facts in
-            done orHead e q _ f (eval-or (map valueOf ps) (small-values ps e N (or-props W l k q)))
-
-        go : map rowOf ps ≡ args ts l
-            → T (eqb (head ts l) notHead && eqb v (num (notOf (map valueOf ps))))
-            ⊎ T ((eqb (head ts l) andHead && eqb v (num (andOf (map valueOf ps)))) || (eqb (head ts l) orHead && eqb v (num (orOf (map valueOf ps)))))
-            → Infers ts Evaluation ps l v
-        go e (inl t) =
-            let q : head ts l ≡ notHead = search facts in
-            let f : v ≡ num (notOf (map valueOf ps)) = search facts in
-            let r = not-row W l k q in
-            done notHead e q _ f (one-value (arg ts l 0) ps (e ∙ r .arguments) (small-values ps e N (not-props W l k q)))
-        go e (inr t) = last e (or-cases (eqb (head ts l) andHead && eqb v (num (andOf (map valueOf ps)))) _ t)
+        let q = evaluation-says ts l v ps h in
+        let props = connective-row W l k (q .1) .arguments in
+        let small : Small (map valueOf ps) = λ x m.
+        let r = Memᴰ·of-map valueOf ps m in
+        subst (λ y. y ≤ 1) (r .2) (N (r .0) (r .1) (props (r .0 .row) (subst (List·Memᴰ (r .0 .row)) (q .0) (Memᴰ·map rowOf (r .1))))) in
+        let n : length (map valueOf ps) ≡ length (args ts l) = length-map ps valueOf ∙ sym (length-map ps rowOf) ∙ ap length (q .0) in
+        into refl (q .2) (evaluation (record { headed = refl; arguments = sym (q .0) }) (connective-has W l k (q .1) (map valueOf ps) n small))
 
     congruence-is : (ps : List Premise) → T (fits ts Congruence l v ps) → Given Congruence ps
     unfolding fits
@@ -561,6 +449,15 @@ module _ {ss ts : List ℕ} (W : WellSorted ss ts) where
         (skip (r .shape) (s .shape) (store-row W _ (s .first) c) (retarget (select-row W rhs (r .second) o .shape) (λ i. a i ∷ j i ∷ []))
         (equation-from (p .row) _ _ (K p (List·Memᴰ·head refl)) ep ip jp)))
 
+    deep-is : (ps : List Premise) → T (fits ts Deep l v ps) → Given Deep ps
+    unfolding fits
+    deep-is ps h K N =
+        let met : Premise → Bool = λ p. comesTo ts ps layers (p .row) l in
+        let c : T (all met ps) = search facts in
+        let x : v ≡ walkValue ts ps layers l = search facts in
+        into refl x
+        (deep (walk-is W ps N layers l k (and-l (grounded ts ps layers l) _ h)) (λ p m. comes-is ts ps layers (p .row) l (all-at met ps c m)))
+
     pub fits-infers : (r : Rule) (ps : List Premise) → T (fits ts r l v ps) → Given r ps
     unfolding fits
     fits-infers Same ps h = same-is ps h
@@ -576,6 +473,7 @@ module _ {ss ts : List ℕ} (W : WellSorted ss ts) where
     fits-infers Predicate ps h = predicate-is ps h
     fits-infers Read ps h = read-is ps h
     fits-infers Skip ps h = skip-is ps h
+    fits-infers Deep ps h = deep-is ps h
     fits-infers Unlisted ps h = absurd h
 
 -- an inference is by a listed rule
@@ -583,7 +481,7 @@ pub infers-listed : {ts : List ℕ} {r : Rule} {J : List Premise} {l v : ℕ} �
 unfolding fits
 infers-listed {ts} {r} {J = ps} {l} {v} i e = subst (λ (k : Rule). T (fits ts k l v ps)) e (infers-fits i)
 
--- ---- no inference has more than five premises
+-- ---- no inference has more than five premises, but by deep
 
 pointwise-length : {ts xs ys : List ℕ} {J : List Premise} → Pointwise ts xs ys J → length J ≡ length xs
 pointwise-length noPosition = refl
@@ -592,22 +490,23 @@ pointwise-length (position q r) = ap suc (pointwise-length r)
 args-length : {ts : List ℕ} {t h : ℕ} {xs : List ℕ} → Applied ts t h xs → length xs ≤ 4
 args-length {ts} {t} q = subst (λ l. length l ≤ 4) (q .arguments) (args-short ts t)
 
-pub infers-short : {ts : List ℕ} {r : Rule} {J : List Premise} {l v : ℕ} → Infers ts r J l v → length J ≤ 5
-infers-short (same q) = omega arith
-infers-short (differ q n) = omega arith
-infers-short (reflexivity q) = omega arith
-infers-short (symmetry p q) = omega arith
-infers-short (transitivity p q r) = omega arith
-infers-short (negated q o) = omega arith
-infers-short (part s q m) = omega arith
-infers-short (unit {l} {u = u} xs ys s q) =
+pub infers-short : {ts : List ℕ} {r : Rule} {J : List Premise} {l v : ℕ} → Infers ts r J l v → (r ≡ Deep → length J ≤ 5) → length J ≤ 5
+infers-short (same q) f = omega arith
+infers-short (differ q n) f = omega arith
+infers-short (reflexivity q) f = omega arith
+infers-short (symmetry p q) f = omega arith
+infers-short (transitivity p q r) f = omega arith
+infers-short (negated q o) f = omega arith
+infers-short (part s q m) f = omega arith
+infers-short (unit {l} {u = u} xs ys s q) f =
     let a = args-length q in
     let b = length-append xs (l ∷ ys) in
     let c = length-append xs ys in
     let d = length-map (xs ++ ys) (assign u) in
     omega arith
-infers-short (evaluation {J = ps} q x) = let a = args-length q in let b = length-map ps rowOf in omega arith
-infers-short (congruence q a b k r) = let c = args-length a in let d = pointwise-length r in omega arith
-infers-short (predicate a b k r) = let c = args-length a in let d = pointwise-length r in omega arith
-infers-short (read q p r) = omega arith
-infers-short (skip q p c o z) = omega arith
+infers-short (evaluation {J = ps} q x) f = let a = args-length q in let b = length-map ps rowOf in omega arith
+infers-short (congruence q a b k r) f = let c = args-length a in let d = pointwise-length r in omega arith
+infers-short (predicate a b k r) f = let c = args-length a in let d = pointwise-length r in omega arith
+infers-short (read q p r) f = omega arith
+infers-short (skip q p c o z) f = omega arith
+infers-short (deep w c) f = f refl

@@ -10,7 +10,8 @@ use lib.ListN.{length, List·getD-eq-default}
 use lib.Dec.{T, eqb, eqb→eq, lt→ltb}
 use Rattle.calculus.specs.declared.Step.{Step}
 use Rattle.calculus.specs.declared.Rule.{Rule}
-use Rattle.calculus.specs.declared.Rule.the-variants.{Same, Differ, Reflexivity, Symmetry, Transitivity, Negated, Part, Unit, Evaluation, Congruence, Predicate, Read, Skip, Unlisted}
+use Rattle.calculus.specs.declared.Rule.the-variants.{Same, Differ, Reflexivity, Symmetry, Transitivity, Negated, Part, Unit, Evaluation}
+use Rattle.calculus.specs.declared.Rule.the-variants.{Congruence, Predicate, Read, Skip, Deep, Unlisted}
 use Rattle.calculus.specs.Lists.{all}
 use Rattle.calculus.specs.Sheets.{blank}
 use Rattle.calculus.specs.Terms.{filled, leftFilled}
@@ -79,4 +80,5 @@ rule-number Congruence = (9, refl, omega arith)
 rule-number Predicate = (10, refl, omega arith)
 rule-number Read = (11, refl, omega arith)
 rule-number Skip = (12, refl, omega arith)
-rule-number Unlisted = (13, refl, omega arith)
+rule-number Deep = (13, refl, omega arith)
+rule-number Unlisted = (14, refl, omega arith)

@@ -19,12 +19,14 @@ use Rattle.calculus.specs.Steps.{State, kindOf, step}
 use Rattle.calculus.specs.Run.{run, start, sheetsRefusal, callRefusal}
 use Rattle.calculus.proofs.Facts.{true-T, T-true, unless-ok, orElse-ok, facts}
 use Rattle.calculus.proofs.WellFormed.{level-small}
-use Rattle.figure.specs.Transitions.{Inferred, Action, Result, Transition, Decide, Deduce, Fail, Conflict, Resolve, Undo, Backjump, UndoDecide, LearnBackjump}
-use Rattle.figure.specs.Spelling.{Filled, FromLeft, noColumn, blankColumn, filledColumn, Columns, Spells, SixteenBits, Writable}
+use Rattle.figure.specs.Transitions.{Inferred, Action, Result, Transition}
+use Rattle.figure.specs.Transitions.{Decide, Deduce, Fail, Conflict, Resolve, Undo, Backjump, UndoDecide, LearnBackjump}
+use Rattle.figure.specs.Spelling.{Filled, FromLeft, noColumn, blankColumn, filledColumn, Columns, Spells, SixteenBits, FiveColumns, Writable}
 use Rattle.figure.specs.Faithful.{RulesFaithful, Faithful}
 use Rattle.calculus.proofs.WellSorted.{well-sorted}
 use Rattle.calculus.proofs.Truths.{run-coherent, start-coherent}
-use Rattle.figure.proofs.Rules.{fits-infers, infers-fits, infers-short, opposite-sum}
+use Rattle.figure.proofs.Connectives.{opposite-sum}
+use Rattle.figure.proofs.Rules.{fits-infers, infers-fits, infers-short}
 use Rattle.figure.proofs.Trails.{level-of, below-row}
 use Rattle.figure.proofs.Spelling.{rule-number}
 use Rattle.figure.proofs.Forth.{forth, assigned-row, premise-rows}
@@ -95,31 +97,27 @@ module _ (ts : List ℕ) (short : termRows ts ≤ 256) where
   alone : (k t : ℕ) → k ≤ 8 → t < termRows ts → Written (kindOf k) blank t blank []
   alone k t i l = write k blank t blank [] i (omega arith) (omega arith) (omega arith) (omega arith) no-premises
 
+  -- the rule, its premises, the term and its value
   inference-row : {tr : Trail} {r : Rule} {J : List Premise} {l v w : ℕ} (k : ℕ) → k ≤ 8 → WellFormed (termRows ts) tr → l < termRows ts
-      → Inferred ts tr r J l v w
-      → Written (kindOf k) (rule-number r .0) l v (map rowOf J)
-  inference-row {r = r} {J = ps} {l} {v} k i R b h =
-      let s = infers-short (h .inference) in
+      → Inferred ts tr r J l v w → FiveColumns r (map rowOf J)
+      → (x : Step) × SixteenBits x × (Columns x (kindOf k) l (map rowOf J) × (ruleOf (x .rule) ≡ r) × Filled (x .value) v)
+  inference-row {r = r} {J = ps} {l} {v} k i R b h five =
       let m = length-map ps rowOf in
+      let s = infers-short (h .inference) (λ e. let f = five e in omega arith) in
       let o = opposite-sum (h .other) in
-      let n = rule-number r .2 in
-      write k (rule-number r .0) l v (map rowOf ps) i (omega arith) (omega arith) (omega arith) (omega arith)
-      (λ p q. let z = premise-rows ts R h p q in omega arith)
+      let n = rule-number r in
+      let y = write k (n .0) l v (map rowOf ps) i (omega (arith, n .2)) (omega arith) (omega arith) (omega arith)
+      (λ p q. let z = premise-rows ts R h p q in omega arith) in
+      (y .row, y .sheet, (y .cols, ap ruleOf (y .rule) ∙ n .1, (y .value, λ q. omega arith)))
 
   row-of : {s : State} {a : Action} {r : Result} → Coherent ts s → Writable a → Transition ts s a r → Row a
   unfolding WellFormedState kindOf
   row-of h w (Decide {t = t} {v} b s a l) =
       let y = write 0 blank t v [] (omega arith) (omega arith) (omega arith) (omega arith) (omega arith) no-premises in
       (y .row, y .sheet, (y .cols, y .rule, (y .value, λ q. omega arith)))
-  row-of h w (Deduce {r = r} b i n z) =
-      let y = inference-row 1 (omega arith) (h .wellFormed) b i in
-      (y .row, y .sheet, (y .cols, ap ruleOf (y .rule) ∙ rule-number r .1, (y .value, λ q. let o = opposite-sum (i .other) in omega arith)))
-  row-of h w (Fail {r = r} i a z) =
-      let y = inference-row 7 (omega arith) (h .wellFormed) (assigned-row ts (h .wellFormed) a) i in
-      (y .row, y .sheet, (y .cols, ap ruleOf (y .rule) ∙ rule-number r .1, (y .value, λ q. let o = opposite-sum (i .other) in omega arith)))
-  row-of h w (Conflict {r = r} i a z m) =
-      let y = inference-row 2 (omega arith) (h .wellFormed) (assigned-row ts (h .wellFormed) a) i in
-      (y .row, y .sheet, (y .cols, ap ruleOf (y .rule) ∙ rule-number r .1, (y .value, λ q. let o = opposite-sum (i .other) in omega arith)))
+  row-of h w (Deduce b i n z) = inference-row 1 (omega arith) (h .wellFormed) b i w
+  row-of h w (Fail i a z) = inference-row 7 (omega arith) (h .wellFormed) (assigned-row ts (h .wellFormed) a) i w
+  row-of h w (Conflict i a z m) = inference-row 2 (omega arith) (h .wellFormed) (assigned-row ts (h .wellFormed) a) i w
   row-of h w (Resolve {tr} a j z f) =
       let y = alone 3 _ (omega arith) (below-row tr _ (h .wellFormed .0) (a .0)) in
       (y .row, y .sheet, (y .cols, y .rule, y .value))

@@ -2,13 +2,14 @@
 use mathlib.Core.Path.{_≡_}
 use mathlib.Core.Logic.{_≢_}
 use mathlib.Core.List.{List, [], _∷_, _++_, map, List·Memᴰ}
-use Prim.Native.Nat.{ℕ, _≤_, _<_}
+use Prim.Native.Nat.{ℕ, suc, _≤_, _<_}
 use Rattle.calculus.specs.declared.Premise.{Premise}
 use Rattle.calculus.specs.declared.Rule.{Rule}
-use Rattle.calculus.specs.declared.Rule.the-variants.{Same, Differ, Reflexivity, Symmetry, Transitivity, Negated, Part, Unit, Evaluation, Congruence, Predicate, Read, Skip}
+use Rattle.calculus.specs.declared.Rule.the-variants.{Same, Differ, Reflexivity, Symmetry, Transitivity, Negated, Part, Unit, Evaluation}
+use Rattle.calculus.specs.declared.Rule.the-variants.{Congruence, Predicate, Read, Skip, Deep}
 use Rattle.calculus.specs.Sheets.{blank}
 use Rattle.calculus.specs.Terms.{head, args, eqHead, notHead, andHead, orHead, selectHead, storeHead, firstFree}
-use Rattle.calculus.specs.Rules.{rowOf, valueOf}
+use Rattle.calculus.specs.Rules.{rowOf, valueOf, layers}
 
 -- ---- assignments
 
@@ -56,6 +57,36 @@ pub data Evaluates : ℕ → List ℕ → ℕ → Type 0 where
   settled : {h w u : ℕ} {vs : List ℕ} → Settles h w u → List·Memᴰ w vs → Evaluates h vs w
   unsettled : {h w u : ℕ} {vs : List ℕ} → Settles h w u → ((x : ℕ) → List·Memᴰ x vs → x ≡ u) → Evaluates h vs u
 
+-- ---- the walk of deep: down from a term through not, and, or, to the assignments J
+
+-- the first of J on t gives it the value v; on a trail they all give t one value
+pub data FirstOn : List Premise → ℕ → ℕ → Type 0 where
+  itself : {t v : ℕ} {J : List Premise} → FirstOn (assign v t ∷ J) t v
+  further : {p : Premise} {t v : ℕ} {J : List Premise} → p .row ≢ t → FirstOn J t v → FirstOn (p ∷ J) t v
+
+-- none of J is on t
+abbrev pub NoneOn : List Premise → ℕ → Type 0
+NoneOn J t = (p : Premise) → List·Memᴰ p J → p .row ≢ t
+
+mutual
+  -- the walk down from t, with at most n connectives on each path, gives t the value v
+  pub data Walk (ts : List ℕ) (J : List Premise) : ℕ → ℕ → ℕ → Type 0 where
+    -- a path ends at a term on which J has an assignment
+    atPremise : {n t v : ℕ} → FirstOn J t v → Walk ts J n t v
+    -- any other term is a connective, which has its value from those of its arguments
+    atConnective : {n t h v : ℕ} {xs vs : List ℕ}
+        → NoneOn J t → Applied ts t h xs → Walks ts J n xs vs → Evaluates h vs v → Walk ts J (suc n) t v
+
+  -- the walks down from the arguments xs give them the values vs
+  pub data Walks (ts : List ℕ) (J : List Premise) : ℕ → List ℕ → List ℕ → Type 0 where
+    noArgument : {n : ℕ} → Walks ts J n [] []
+    oneArgument : {n t v : ℕ} {xs vs : List ℕ} → Walk ts J n t v → Walks ts J n xs vs → Walks ts J n (t ∷ xs) (v ∷ vs)
+
+-- the walk down from t comes to u; it does not go on below a term on which J has an assignment
+pub data ComesTo (ts : List ℕ) (J : List Premise) : ℕ → ℕ → ℕ → Type 0 where
+  arrived : {n t : ℕ} → ComesTo ts J n t t
+  onward : {n u t x : ℕ} → NoneOn J t → List·Memᴰ x (args ts t) → ComesTo ts J n u x → ComesTo ts J (suc n) u t
+
 -- ---- lists of equations
 
 -- true equations between xs and ys, one at every position
@@ -101,3 +132,6 @@ pub data Infers (ts : List ℕ) : Rule → List Premise → ℕ → ℕ → Type
   skip : {l e s r b a i j x : ℕ}
       → Equation ts l s r → Applied ts s selectHead (b ∷ j ∷ []) → Applied ts b storeHead (a ∷ i ∷ x ∷ []) → Applied ts r selectHead (a ∷ j ∷ [])
       → Equation ts e i j → Infers ts Skip (assign 0 e ∷ []) l 1
+  -- the walk down from l, with at most eight connectives on each path, gives l its value and comes to every premise
+  deep : {l v : ℕ} {J : List Premise}
+      → Walk ts J layers l v → ((p : Premise) → List·Memᴰ p J → ComesTo ts J layers (p .row) l) → Infers ts Deep J l v

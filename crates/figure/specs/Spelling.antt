@@ -3,7 +3,10 @@ use mathlib.Core.Path.{_≡_}
 use mathlib.Core.Logic.{_≢_}
 use mathlib.Core.List.{List, [], _∷_}
 use Prim.Native.Nat.{ℕ, _≤_, _<_}
+use lib.ListN.{length}
 use Rattle.calculus.specs.declared.Step.{Step}
+use Rattle.calculus.specs.declared.Rule.{Rule}
+use Rattle.calculus.specs.declared.Rule.the-variants.{Deep}
 use Rattle.calculus.specs.declared.Kind.{Kind}
 use Rattle.calculus.specs.declared.Kind.the-variants.{Decide, Deduce, Clash, Resolve, Clear, Jump, Flip, Fail, Learn}
 use Rattle.calculus.specs.Sheets.{blank}
@@ -53,14 +56,18 @@ pub record SixteenBits (x : Step) : Type 0 where
   pub s : x .s ≤ blank
   pub t : x .t ≤ blank
 
--- the value that a decision gives can be written; the other actions have nothing that cannot
+-- the premises of an inference by deep fit into the five columns; those by any other rule always do
+abbrev pub FiveColumns : Rule → List ℕ → Type 0
+FiveColumns r ps = r ≡ Deep → length ps ≤ 5
+
+-- the value that a decision gives can be written, and so can the premises of an inference; the other actions have nothing that cannot
 abbrev pub Writable : Action → Type 0
 Writable (decide t v) = v < blank
-Writable (deduce r l v ps) = Unit {0}
-Writable (clash r l v ps) = Unit {0}
+Writable (deduce r l v ps) = FiveColumns r ps
+Writable (clash r l v ps) = FiveColumns r ps
 Writable (resolve a) = Unit {0}
 Writable (clear a) = Unit {0}
 Writable (jump l) = Unit {0}
 Writable (flip l k) = Unit {0}
-Writable (fail r l v ps) = Unit {0}
+Writable (fail r l v ps) = FiveColumns r ps
 Writable (learn t m hs) = Unit {0}
