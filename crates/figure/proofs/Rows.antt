@@ -12,7 +12,7 @@ use Rattle.calculus.specs.Sheets.{blank, termRows}
 use Rattle.calculus.specs.Terms.{head, cells, filled, args, arg, headOf, eqHead, notHead, selectHead, storeHead, firstFree}
 use Rattle.calculus.specs.Terms as terms
 use Rattle.calculus.proofs.Facts.{and-l, and-r, and-both, or-r}
-use Rattle.calculus.proofs.Forms.{freeNumber, free-numbers, function-numbers}
+use Rattle.calculus.proofs.Forms.{filled-short, freeNumber, free-numbers, function-numbers}
 use Rattle.figure.specs.Inferences.{Applied, FreeHead, FunctionHead, isSelect, isStore, isFree}
 use Rattle.calculus.proofs.WellSorted.{arg-is, arg-mem, WellSorted, row-args}
 use Rattle.calculus.proofs.Rows.{one-arg, two-args, three-args, is-equality, not-count, is-select, is-store}
@@ -24,14 +24,6 @@ eqList-refl [] = tt
 eqList-refl (x ∷ xs) = and-both (eqb x x) _ (eqb-refl x) (eqList-refl xs)
 
 -- ---- the arguments of a row
-
-filled-short : (xs : List ℕ) → length (filled xs) ≤ length xs
-filled-short [] = omega arith
-filled-short (x ∷ xs) = go (filled-short xs) (eqb x blank)
-  where
-    go : length (filled xs) ≤ length xs → (b : Bool) → length (cond b [] (x ∷ filled xs)) ≤ suc (length xs)
-    go h true = omega arith
-    go h false = omega arith
 
 pub args-short : (ts : List ℕ) (t : ℕ) → length (args ts t) ≤ 4
 unfolding args cells

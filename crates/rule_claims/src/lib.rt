@@ -1,7 +1,8 @@
-// What a deduce, clash or fail row claims, and what the thirteen rules share: how many premises there are, and the shape of a term.
+// What a deduce, clash or fail row claims, and what the fourteen rules share: how many premises there are, and the shape of a term.
 ghost use mathlib.Core.Path.{_≡_};
 ghost use mathlib.Core.Bool.{_&&_, not};
 ghost use lib.Dec.{eqb};
+ghost use Rattle.calculus.specs.Lists.{num};
 ghost use Rattle.calculus.specs.Terms.{eqHead};
 ghost use Rattle.rule_claims.specs.Claims.{gap, afterFirst};
 use calculus::Premise;
@@ -94,4 +95,11 @@ pub fn connected(e: Term, h: u16, p: Premise, w: u16, v: u16, z: u16) -> bool
     ensures { λ r. ⌜ r ≡ (eqb (e .head) h && (eqb (p .value) w && eqb v z)) ⌝ }
 {
     (e.head == h) & ((p.value == w) & (v == z))
+}
+
+// A truth value as a number.
+pub fn number(b: bool) -> u16
+    ensures { λ r. ⌜ r ≡ num b ⌝ }
+{
+    if b { 1 } else { 0 }
 }

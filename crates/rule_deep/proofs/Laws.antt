@@ -6,11 +6,12 @@ use mathlib.Core.List.{List, [], _∷_, map, List·Memᴰ, List·Memᴰ·head, L
 use Prim.Native.Nat.{ℕ, zero, suc, _+_, _*_, _/_, _%_, _-_, _≤_, _<_, max}
 use native.Mathlib.Numerals.{add-one}
 use native.Mathlib.Omega.{arith}
+use native.Mathlib.Decide.{decLt}
 use lib.Bits.{bitOr, or-step}
 use lib.Dec.{T, eqb, leb, ltb, leb·suc-suc}
 use lib.ListN.{length, getD, set}
-use lib.Seq.{getD-set-same, getD-set-other}
-use borrow.Author.Tests.{eqb-true, eqb-false, eq-eqb, ne-eqb, le-leb, lt-leb, leb-true, leb-false, not-true}
+use lib.Seq.{set-out, getD-set-same, getD-set-other}
+use borrow.Author.Tests.{eqb-true, eqb-false, eq-eqb, ne-eqb, le-leb, lt-leb, leb-true, leb-false, not-true, not-false}
 use Rattle.calculus.specs.declared.Premise.{Premise}
 use Rattle.calculus.specs.declared.Term.{Term}
 use Rattle.calculus.specs.declared.Rule.the-variants.{Deep}
@@ -18,13 +19,13 @@ use Rattle.calculus.specs.Lists.{all, any, num, isTrue}
 use Rattle.calculus.specs.Sheets.{blank}
 use Rattle.calculus.specs.Terms.{head, args, cells, cellsOf, argsOf, termAt, notHead, andHead, orHead}
 use Rattle.calculus.specs.Rules.{layers, evaluates, isPremise, premiseValue, isConnective, grounded, walkValue, comesTo, fits}
-use Rattle.calculus.proofs.Facts.{T-true, true-T, num-le, is-or-not, true-or-false}
-use Rattle.calculus.proofs.Forms.{filled-short}
+use Rattle.calculus.proofs.Facts.{T-true, true-T, num-le, is-or-not, true-or-false, both-true, none-true}
+use Rattle.calculus.proofs.Forms.{filled-short, connective-case}
 use Rattle.calculus.proofs.Deep.{premise-here, grounded-here, value-here}
 use Rattle.rule_claims.specs.Claims.{gap, stated}
 use Rattle.rule_deep.specs.declared.Walked.{Walked}
 use Rattle.rule_deep.specs.Walks.{marked, everyOne, itself, connects, tailOf, nowhere, noArgument, connected, joined}
-use Rattle.rule_deep.specs.Walks.{Finds, FindsRow, FindsArgs, unpacked, Remembered, Remembers, Walks, WalksRow, WalksArgs}
+use Rattle.rule_deep.specs.Walks.{Finds, FindsRow, FindsArgs, unpacked, Recalled, Remembered, Remembers, Walks, WalksRow, WalksArgs}
 
 -- ---- premises as bits
 
@@ -147,6 +148,9 @@ args-none e q = rw (eq-eqb (e .a) blank q)
 pub args-more : (e : Term) → e .a ≢ blank → argsOf e ≡ e .a ∷ argsOf (tailOf e)
 args-more e q = rw (ne-eqb (e .a) blank q)
 
+pub args-fewer : (e f : Term) → e .a ≢ blank → f ≡ tailOf e → suc (length (argsOf f)) ≡ length (argsOf e)
+args-fewer e f q f-is = ap (λ (z : Term). suc (length (argsOf z))) f-is ∙ sym (ap length (args-more e q))
+
 pub args-short : (e : Term) → length (argsOf e) ≤ 4
 args-short e = filled-short (cellsOf e)
 
@@ -171,25 +175,12 @@ is-true-num : (b : Bool) → isTrue (num b) ≡ b
 is-true-num true = refl
 is-true-num false = refl
 
--- a connective is not, and, or
-connective-cases : (P : ℕ → Type 0) → P notHead → P andHead → P orHead → (h : ℕ) → connects h ≡ true → P h
-connective-cases P n a o h c = go (is-or-not (eqb h notHead)) (is-or-not (eqb h andHead)) (is-or-not (eqb h orHead))
-  where
-    at : (k : ℕ) → P k → eqb h k ≡ true → P h
-    at k x e = subst P (sym (eqb-true h k e)) x
-
-    go : (eqb h notHead ≡ true) ⊎ (eqb h notHead ≡ false) → (eqb h andHead ≡ true) ⊎ (eqb h andHead ≡ false)
-        → (eqb h orHead ≡ true) ⊎ (eqb h orHead ≡ false) → P h
-    go (inl e) y z = at notHead n e
-    go (inr d) (inl e) z = at andHead a e
-    go (inr d) (inr e) (inl f) = at orHead o f
-    go (inr d) (inr e) (inr f) = absurd (true≢false (sym (rw (d, e, f) at c)))
-
--- what it makes of one value more, and of none
+-- what a connective makes of one value more, and of none
 connects-more : (v : ℕ) (vs : List ℕ) (h : ℕ) → connects h ≡ true → evaluates h (v ∷ vs) 1 ≡ connected h (isTrue v) (evaluates h vs 1)
-connects-more v vs =
-    connective-cases (λ h. evaluates h (v ∷ vs) 1 ≡ connected h (isTrue v) (evaluates h vs 1))
+connects-more v vs h c =
+    connective-case (λ h. evaluates h (v ∷ vs) 1 ≡ connected h (isTrue v) (evaluates h vs 1))
     (by-not (isTrue v)) (by-and (isTrue v) (all isTrue vs)) (by-or (isTrue v) (any isTrue vs))
+    h (true-T _ c)
   where
     by-not : (a : Bool) → (eqb 1 (num (not a)) || false) ≡ not a
     by-not true = refl
@@ -204,7 +195,21 @@ connects-more v vs =
     by-or false b = refl
 
 connects-none : (h : ℕ) → connects h ≡ true → evaluates h [] 1 ≡ not (eqb h orHead)
-connects-none = connective-cases (λ h. evaluates h [] 1 ≡ not (eqb h orHead)) refl refl refl
+connects-none h c = connective-case (λ h. evaluates h [] 1 ≡ not (eqb h orHead)) refl refl refl h (true-T _ c)
+
+-- what is found of a row above its arguments, of which b is
+abbrev pub risen : Walked → Walked
+risen b = record { height = b .height + 1; met = b .met; truth = b .truth }
+
+-- the test is passed that a connective may lie below and that the row is one
+pub goes-on : (n : ℕ) (b : Bool) → (eqb n 0 || not b) ≡ false → (1 ≤ n) × (b ≡ true)
+goes-on n b h =
+    let e = none-true (eqb n 0) (not b) h in
+    (go n (eqb-false n 0 (e .0)), not-false b (e .1))
+  where
+    go : (n : ℕ) → n ≢ 0 → 1 ≤ n
+    go zero z = absurd (z refl)
+    go (suc n) z = omega arith
 
 module _ (ts : List ℕ) (ps : List Premise) where
   on-premise : (t : ℕ) → marked (itself t) ps ≢ 0 → isPremise ps t ≡ true
@@ -224,13 +229,14 @@ module _ (ts : List ℕ) (ps : List Premise) where
   at-premise t n =
       let h = on-premise t n in
       record {
-      reach = λ k. T-true _ (grounded-here ts ps k t (true-T _ h)) ∙ sym (le-leb 0 k (omega arith));
-      truths = λ k l. ap isTrue (value-here ts ps k t (true-T _ h));
-      meets = λ k l. marks-same _ _ ps (λ p m. comes-premise k (p .row) t h ∙ eqb-turn t (p .row)) }
+        reach = λ k. T-true _ (grounded-here ts ps k t (true-T _ h)) ∙ sym (le-leb 0 k (omega arith));
+        truths = λ k l. ap isTrue (value-here ts ps k t (true-T _ h));
+        meets = λ k l. marks-same _ _ ps (λ p m. comes-premise k (p .row) t h ∙ eqb-turn t (p .row));
+      }
 
   -- the row above its arguments
   above : (t : ℕ) (b : Walked) → marked (itself t) ps ≡ 0 → isConnective ts t ≡ true → FindsArgs ts ps (head ts t) (args ts t) b
-      → FindsRow ts ps t (record { height = b .height + 1; met = b .met; truth = b .truth })
+      → FindsRow ts ps t (risen b)
   unfolding grounded walkValue comesTo
   above t b z c f = record { reach = reach; truths = truths; meets = meets }
     where
@@ -263,9 +269,10 @@ module _ (ts : List ℕ) (ps : List Premise) where
       → FindsArgs ts ps h (a ∷ xs) (joined h r b)
   one-more h c a r f xs b g =
       record {
-      reach = λ n. ap₂ _&&_ (f .reach n) (g .reach n) ∙ sym (leb-max (r .height) (b .height) n);
-      truths = λ n l. connects-more (walkValue ts ps n a) (map (walkValue ts ps n) xs) h c ∙ ap₂ (connected h) (f .truths n (omega arith)) (g .truths n (omega arith));
-      meets = λ n l. sym (marks-either _ _ ps) ∙ ap₂ bitOr (f .meets n (omega arith)) (g .meets n (omega arith)) }
+        reach = λ n. ap₂ _&&_ (f .reach n) (g .reach n) ∙ sym (leb-max (r .height) (b .height) n);
+        truths = λ n l. connects-more (walkValue ts ps n a) (map (walkValue ts ps n) xs) h c ∙ ap₂ (connected h) (f .truths n (omega arith)) (g .truths n (omega arith));
+        meets = λ n l. sym (marks-either _ _ ps) ∙ ap₂ bitOr (f .meets n (omega arith)) (g .meets n (omega arith));
+      }
 
   -- ---- walks, by what is known of the row or of the arguments
 
@@ -280,56 +287,69 @@ module _ (ts : List ℕ) (ps : List Premise) where
       record { reached = e ∙ sym (lt-leb (layers + 1) n (omega arith)); found = λ (k : layers + 1 ≤ n). absurd (omega arith); remembers = m }
 
   -- what is found of t is remembered
-  kept : (memo memo′ : List ℕ) (t : ℕ) (r : Walked) → Remembers ts ps memo → FindsRow ts ps t r → Remembered memo memo′ t r → Remembers ts ps memo′
-  kept memo memo′ t r m f k u = go (k u)
+  kept : (memo later : List ℕ) (t : ℕ) (r : Walked) → Remembers ts ps memo → FindsRow ts ps t r → Remembered memo later t r → Remembers ts ps later
+  kept memo later t r m f k u = go (k u)
     where
-      go : (getD memo′ u 0 ≡ getD memo u 0) ⊎ ((u ≡ t) × (unpacked (getD memo′ u 0) ≡ r))
-          → (getD memo′ u 0 ≡ 0) ⊎ FindsRow ts ps u (unpacked (getD memo′ u 0))
+      go : (getD later u 0 ≡ getD memo u 0) ⊎ ((u ≡ t) × (unpacked (getD later u 0) ≡ r))
+          → (getD later u 0 ≡ 0) ⊎ FindsRow ts ps u (unpacked (getD later u 0))
       go (inl e) = subst (λ c. (c ≡ 0) ⊎ FindsRow ts ps u (unpacked c)) (sym e) (m u)
       go (inr e) = inr (subst₂ (FindsRow ts ps) (sym (e .0)) (sym (e .1)) f)
 
-  pub recalled : (memo : List ℕ) (t c : ℕ) → Remembers ts ps memo → c ≡ getD memo t 0 → c ≢ 0 → FindsRow ts ps t (unpacked c)
-  recalled memo t c m e n = subst (λ c. FindsRow ts ps t (unpacked c)) (sym e) (go (m t))
+  pub recalled : (memo : List ℕ) (t c : ℕ) → Remembers ts ps memo → Recalled memo t c → c ≢ 0 → FindsRow ts ps t (unpacked c)
+  recalled memo t c m k n = go (m t) k
     where
-      go : (getD memo t 0 ≡ 0) ⊎ FindsRow ts ps t (unpacked (getD memo t 0)) → FindsRow ts ps t (unpacked (getD memo t 0))
-      go (inl z) = absurd (n (e ∙ z))
-      go (inr f) = f
+      go : (getD memo t 0 ≡ 0) ⊎ FindsRow ts ps t (unpacked (getD memo t 0)) → Recalled memo t c → FindsRow ts ps t (unpacked c)
+      go f (inl z) = absurd (n z)
+      go (inl z) (inr e) = absurd (n (e ∙ z))
+      go (inr f) (inr e) = subst (λ c. FindsRow ts ps t (unpacked c)) (sym e) f
 
   -- ---- the walk of a row
 
-  -- what is found of a row above its arguments, of which b is
-  abbrev pub risen : Walked → Walked
-  risen b = record { height = b .height + 1; met = b .met; truth = b .truth }
+  pub row-premise : (memo : List ℕ) (n t : ℕ) {m v : ℕ} → m ≡ marked (itself t) ps → m ≢ 0 → v ≡ premiseValue ps t → Remembers ts ps memo
+      → WalksRow ts ps memo n t (record { height = 0; met = m; truth = eqb v 1 })
+  row-premise memo n t m-is on v-is h =
+      rw (m-is, v-is) (walks-found _ _ _ memo n _ (at-premise t (λ z. on (m-is ∙ z))) h)
 
-  module _ (memo : List ℕ) (n t : ℕ) (e : Term) (e-is : e ≡ termAt ts t) (off : marked (itself t) ps ≡ 0) (low : n ≤ layers) where
+  pub row-recalled : (memo : List ℕ) (n t : ℕ) {c : ℕ} {r : Walked} → Recalled memo t c → c ≢ 0 → r ≡ unpacked c → Remembers ts ps memo
+      → WalksRow ts ps memo n t r
+  row-recalled memo n t k some r-is h = subst (WalksRow ts ps memo n t) (sym r-is) (walks-found _ _ _ memo n _ (recalled memo t _ h k some) h)
+
+  module _ (memo : List ℕ) (n t : ℕ) (e : Term) (e-is : e ≡ termAt ts t) {m : ℕ} (m-is : m ≡ marked (itself t) ps) (none : m ≡ 0) (low : n ≤ layers) where
+    off : marked (itself t) ps ≡ 0
+    off = sym m-is ∙ none
+
     -- no connective may lie below, or the row is none
-    pub row-lost : (eqb n 0 || not (connects (e .head))) ≡ true → Remembers ts ps memo → WalksRow ts ps memo n t nowhere
+    pub row-lost : {b : Bool} → b ≡ connects (e .head) → (eqb n 0 || not b) ≡ true → {r : Walked} → r ≡ nowhere → Remembers ts ps memo
+        → WalksRow ts ps memo n t r
     unfolding grounded
-    row-lost h m = walks-lost _ _ memo n low (go n (subst (λ (z : Term). (eqb n 0 || not (connects (z .head))) ≡ true) e-is h)) m
+    row-lost b-is h r-is m = subst (WalksRow ts ps memo n t) (sym r-is) (walks-lost _ _ memo n low (go n (subst (λ (z : Term). (eqb n 0 || not (connects (z .head))) ≡ true) e-is (rw b-is at h))) m)
       where
         go : (n : ℕ) → (eqb n 0 || not (isConnective ts t)) ≡ true → grounded ts ps n t ≡ false
         go zero h = off-premise t off
         go (suc n) h = rw (off-premise t off, not-true (isConnective ts t) (rw (ne-eqb (suc n) 0 (λ (q : suc n ≡ 0). omega arith)) at h))
 
-    module _ (some : n ≢ 0) (c : connects (e .head) ≡ true) (b : Walked) (w : WalksArgs ts ps memo (n - 1) (e .head) (argsOf e) b) where
+    module _ (some : 1 ≤ n) (b : Walked) (w : WalksArgs ts ps memo (n - 1) (e .head) (argsOf e) b) where
       -- an argument leads nowhere
-      pub row-stopped : n ≤ b .height → WalksRow ts ps memo n t nowhere
+      pub row-stopped : n ≤ b .height → {r : Walked} → r ≡ nowhere → WalksRow ts ps memo n t r
       unfolding grounded cells args
-      row-stopped h = walks-lost _ _ memo n low (go n some (subst (λ (z : Term). all (grounded ts ps (n - 1)) (argsOf z) ≡ false) e-is lost)) (w .remembers)
+      row-stopped h r-is = subst (WalksRow ts ps memo n t) (sym r-is) (walks-lost _ _ memo n low (go n some there) (w .remembers))
         where
           lost : all (grounded ts ps (n - 1)) (argsOf e) ≡ false
           lost = w .reached ∙ lt-leb (b .height) (n - 1) (omega arith)
 
-          go : (n : ℕ) → n ≢ 0 → all (grounded ts ps (n - 1)) (argsOf (termAt ts t)) ≡ false → grounded ts ps n t ≡ false
-          go zero z f = absurd (z refl)
+          there : all (grounded ts ps (n - 1)) (argsOf (termAt ts t)) ≡ false
+          there = subst (λ (z : Term). all (grounded ts ps (n - 1)) (argsOf z) ≡ false) e-is lost
+
+          go : (n : ℕ) → 1 ≤ n → all (grounded ts ps (n - 1)) (argsOf (termAt ts t)) ≡ false → grounded ts ps n t ≡ false
+          go zero z f = absurd (omega arith)
           go (suc n) z f =
               let q : suc n - 1 ≡ n = omega arith in
               rw (off-premise t off, rw q at f, and-false (isConnective ts t))
 
       -- all are grounded, and what is found is remembered
-      pub row-found : b .height < n → (memo′ : List ℕ) → Remembered memo memo′ t (risen b) → WalksRow ts ps memo′ n t (risen b)
+      pub row-found : connects (e .head) ≡ true → b .height < n → (later : List ℕ) → Remembered memo later t (risen b) → WalksRow ts ps later n t (risen b)
       unfolding cells args
-      row-found h memo′ m = walks-found _ _ _ memo′ n (risen b) f (kept memo memo′ t (risen b) (w .remembers) f m)
+      row-found c h later m = walks-found _ _ _ later n (risen b) f (kept memo later t (risen b) (w .remembers) f m)
         where
           f : FindsRow ts ps t (risen b)
           f =
@@ -338,29 +358,30 @@ module _ (ts : List ℕ) (ps : List Premise) where
 
   -- ---- the walks of a row's arguments
 
-  module _ (memo : List ℕ) (n : ℕ) (e : Term) (c : connects (e .head) ≡ true) where
-    pub args-end : e .a ≡ blank → Remembers ts ps memo → WalksArgs ts ps memo n (e .head) (argsOf e) (noArgument (e .head))
-    args-end q m =
-        subst (λ xs. WalksArgs ts ps memo n (e .head) xs (noArgument (e .head))) (sym (args-none e q))
-        (walks-found _ _ _ memo n _ (no-argument (e .head) c) m)
+  module _ (n : ℕ) (e : Term) (c : connects (e .head) ≡ true) where
+    pub args-end : (memo : List ℕ) → e .a ≡ blank → {r : Walked} → r ≡ noArgument (e .head) → Remembers ts ps memo → WalksArgs ts ps memo n (e .head) (argsOf e) r
+    args-end memo q r-is m =
+        subst₂ (WalksArgs ts ps memo n (e .head)) (sym (args-none e q)) (sym r-is) (walks-found _ _ _ memo n _ (no-argument (e .head) c) m)
 
-    module _ (q : e .a ≢ blank) (memo′ : List ℕ) (r : Walked) (w : WalksRow ts ps memo′ n (e .a) r) where
+    module _ (q : e .a ≢ blank) (later : List ℕ) (r : Walked) (w : WalksRow ts ps later n (e .a) r) where
       -- the first argument leads nowhere
-      pub args-stopped : n ≤ layers → n < r .height → WalksArgs ts ps memo′ n (e .head) (argsOf e) nowhere
-      args-stopped low h =
-          walks-lost _ _ memo′ n low
-          (ap (all (grounded ts ps n)) (args-more e q) ∙ ap (λ g. g && all (grounded ts ps n) (argsOf (tailOf e))) (w .reached ∙ lt-leb (r .height) n h))
-          (w .remembers)
+      pub args-stopped : n ≤ layers → n < r .height → {y : Walked} → y ≡ nowhere → WalksArgs ts ps later n (e .head) (argsOf e) y
+      args-stopped low h y-is =
+          let lost = ap (λ g. g && all (grounded ts ps n) (argsOf (tailOf e))) (w .reached ∙ lt-leb (r .height) n h) in
+          subst (WalksArgs ts ps later n (e .head) (argsOf e)) (sym y-is)
+          (walks-lost _ _ later n low (ap (all (grounded ts ps n)) (args-more e q) ∙ lost) (w .remembers))
 
       -- it and the others
-      pub args-found : r .height ≤ n → (memo″ : List ℕ) (b : Walked) → WalksArgs ts ps memo″ n (e .head) (argsOf (tailOf e)) b
-          → WalksArgs ts ps memo″ n (e .head) (argsOf e) (joined (e .head) r b)
-      args-found h memo″ b v =
-          subst (λ xs. WalksArgs ts ps memo″ n (e .head) xs (joined (e .head) r b)) (sym (args-more e q))
+      pub args-found : r .height ≤ n → (last : List ℕ) (b : Walked) (f : Term) → f ≡ tailOf e → WalksArgs ts ps last n (f .head) (argsOf f) b
+          → {y : Walked} → y ≡ joined (e .head) r b → WalksArgs ts ps last n (e .head) (argsOf e) y
+      args-found h last b f f-is v′ y-is =
+          let v = subst (λ (z : Term). WalksArgs ts ps last n (z .head) (argsOf z) b) f-is v′ in
+          subst₂ (WalksArgs ts ps last n (e .head)) (sym (args-more e q)) (sym y-is)
           (record {
-          reached = ap₂ _&&_ (w .reached) (v .reached) ∙ sym (leb-max (r .height) (b .height) n);
-          found = λ (l : max (r .height) (b .height) ≤ n). one-more (e .head) c (e .a) r (w .found h) (argsOf (tailOf e)) b (v .found (omega arith));
-          remembers = v .remembers })
+            reached = ap₂ _&&_ (w .reached) (v .reached) ∙ sym (leb-max (r .height) (b .height) n);
+            found = λ (l : max (r .height) (b .height) ≤ n). one-more (e .head) c (e .a) r (w .found h) (argsOf (tailOf e)) b (v .found (omega arith));
+            remembers = v .remembers;
+          })
 
   -- ---- the rule
 
@@ -375,14 +396,59 @@ module _ (ts : List ℕ) (ps : List Premise) where
   fits-found l v r f h e =
       rw (f .reach layers ∙ le-leb (r .height) layers h, sym (marks-all (λ u. comesTo ts ps layers u l) ps), f .meets layers h, e)
 
-  -- the term is a premise
-  pub deep-own : (l v : ℕ) → marked (itself l) ps ≢ 0 → (eqb (marked (itself l) ps) (marked everyOne ps) && eqb v (premiseValue ps l)) ≡ fits ts Deep l v ps
-  deep-own l v n = fits-found l v _ (at-premise l n) (omega arith) (sym (value-here ts ps layers l (true-T _ (on-premise l n))))
+  module _ (l v : ℕ) {m all : ℕ} (m-is : m ≡ marked (itself l) ps) (all-is : all ≡ marked everyOne ps) where
+    -- the term is a premise
+    pub deep-own : {w : ℕ} → m ≢ 0 → w ≡ premiseValue ps l → (eqb m all && eqb v w) ≡ fits ts Deep l v ps
+    deep-own n w-is =
+        let on : marked (itself l) ps ≢ 0 = λ z. n (m-is ∙ z) in
+        rw (m-is, all-is) (fits-found l v _ (at-premise l on) (omega arith) (w-is ∙ sym (value-here ts ps layers l (true-T _ (on-premise l on)))))
 
-  module _ (l v : ℕ) (memo : List ℕ) (r : Walked) (w : WalksRow ts ps memo layers l r) where
-    pub deep-lost : layers < r .height → false ≡ fits ts Deep l v ps
-    unfolding fits
-    deep-lost h = rw (w .reached ∙ lt-leb (r .height) layers h)
+    module _ (memo : List ℕ) (r : Walked) (walks : WalksRow ts ps memo layers l r) where
+      pub deep-lost : layers < r .height → false ≡ fits ts Deep l v ps
+      unfolding fits
+      deep-lost h = rw (walks .reached ∙ lt-leb (r .height) layers h)
 
-    pub deep-found : marked (itself l) ps ≡ 0 → r .height ≤ layers → (eqb (r .met) (marked everyOne ps) && eqb v (num (r .truth))) ≡ fits ts Deep l v ps
-    deep-found z h = let f = w .found h in fits-found l v r f h (ap num (sym (f .truths layers h)) ∙ value-num 7 l (off-premise l z))
+      pub deep-found : {w : ℕ} → m ≡ 0 → r .height ≤ layers → w ≡ num (r .truth) → (eqb (r .met) all && eqb v w) ≡ fits ts Deep l v ps
+      deep-found z h w-is =
+          let f = walks .found h in
+          rw all-is (fits-found l v r f h (w-is ∙ ap num (sym (f .truths layers h)) ∙ value-num 7 l (off-premise l (sym m-is ∙ z))))
+
+-- nothing is remembered at first
+pub none-remembered : (ts : List ℕ) (ps : List Premise) (memo : List ℕ) → all (λ c. eqb c 0) memo ≡ true → Remembers ts ps memo
+none-remembered ts ps memo h t = inl (zeros memo h t)
+  where
+    zeros : (xs : List ℕ) → all (λ c. eqb c 0) xs ≡ true → (t : ℕ) → getD xs t 0 ≡ 0
+    zeros [] h t = refl
+    zeros (x ∷ xs) h zero = eqb-true x 0 (both-true (eqb x 0) (all (λ c. eqb c 0) xs) h .0)
+    zeros (x ∷ xs) h (suc t) = zeros xs (both-true (eqb x 0) (all (λ c. eqb c 0) xs) h .1) t
+
+-- the premises of a claim are met as five bits
+pub met-short : (ts : List ℕ) (p q r s t : Premise) (h : ℕ) (xs : List ℕ) (b : Walked)
+    → FindsArgs ts (stated (p ∷ q ∷ r ∷ s ∷ t ∷ [])) h xs b → b .met ≤ 31
+met-short ts p q r s t h xs b f = subst (λ k. k ≤ 31) (f .meets (b .height) (omega arith)) (marks-short _ p q r s t)
+
+-- ---- what is remembered, as one number
+
+-- what is packed is unpacked
+pub unpacks : (r : Walked) (b : Bool) → r .height < 16 → r .truth ≡ b → (c : ℕ) → c ≡ r .met * 32 + r .height * 2 + num b → unpacked c ≡ r
+unpacks r b l e c q = λ i. record { height = height i; met = met i; truth = truth i }
+  where
+    height : c / 2 % 16 ≡ r .height
+    height = omega (arith, num-le b)
+
+    met : c / 32 ≡ r .met
+    met = omega (arith, num-le b)
+
+    truth : eqb (c % 2) 1 ≡ r .truth
+    truth = let d : c % 2 ≡ num b = omega (arith, num-le b) in ap (λ k. eqb k 1) d ∙ is-true-num b ∙ sym e
+
+pub remembers : (memo : List ℕ) (t c : ℕ) (r : Walked) → unpacked c ≡ r → Remembered memo (set memo t c) t r
+remembers memo t c r e u = go (decLt t (length memo)) (is-or-not (eqb u t))
+  where
+    go : Dec (t < length memo) → (eqb u t ≡ true) ⊎ (eqb u t ≡ false)
+        → (getD (set memo t c) u 0 ≡ getD memo u 0) ⊎ ((u ≡ t) × (unpacked (getD (set memo t c) u 0) ≡ r))
+    go (yes l) (inl q) =
+        let z = eqb-true u t q in
+        inr (z, ap (λ k. unpacked (getD (set memo t c) k 0)) z ∙ ap unpacked (getD-set-same memo t c 0 l) ∙ e)
+    go (no l) (inl q) = inl (ap (λ xs. getD xs u 0) (set-out memo t c (omega arith)))
+    go l (inr q) = inl (getD-set-other memo t u c 0 (eqb-false u t q))

@@ -78,6 +78,10 @@ module _ (ts : List ℕ) (ps : List Premise) where
 abbrev pub unpacked : ℕ → Walked
 unpacked c = record { height = c / 2 % 16; met = c / 32; truth = eqb (c % 2) 1 }
 
+-- c is what is remembered of row t, or 0
+abbrev pub Recalled : List ℕ → ℕ → ℕ → Type 0
+Recalled memo t c = (c ≡ 0) ⊎ (c ≡ getD memo t 0)
+
 -- of row t, r is remembered, and of every other row what was; or all is as it was
 abbrev pub Remembered : List ℕ → List ℕ → ℕ → Walked → Type 0
 Remembered before after t r = (u : ℕ) → (getD after u 0 ≡ getD before u 0) ⊎ ((u ≡ t) × (unpacked (getD after u 0) ≡ r))

@@ -1,16 +1,15 @@
 // From premises through several layers of not, and, or to the value of the formula above them: deep.
 // A formula is walked once for each of its rows: what the walk has found of a row is remembered, so that rows with shared arguments cost no more.
 ghost use mathlib.Core.Path.{_≡_};
-ghost use mathlib.Core.Bool.{Bool, true};
+ghost use mathlib.Core.Bool.{true};
 ghost use mathlib.Core.List.{List, [], _∷_};
-ghost use Prim.Native.Nat.{ℕ, _≤_, _<_, _+_, _*_};
-ghost use lib.ListN.{getD};
+ghost use Prim.Native.Nat.{_+_, _*_, _≤_, _<_, max};
 ghost use Rattle.calculus.specs.declared.Premise.{Premise};
 ghost use Rattle.calculus.specs.declared.Rule.the-variants.{Deep};
-ghost use Rattle.calculus.specs.Terms.{filled, argsOf};
+ghost use Rattle.calculus.specs.Terms.{argsOf};
 ghost use Rattle.calculus.specs.Rules.{layers, premiseValue};
 ghost use Rattle.rule_claims.specs.Claims.{stated, premisesOf, allows};
-ghost use Rattle.rule_deep.specs.Walks.{marked, everyOne, itself, connects, tailOf, unpacked, nowhere, noArgument, joined, Remembered, Remembers, WalksRow, WalksArgs};
+ghost use Rattle.rule_deep.specs.Walks.{marked, everyOne, itself, connects, tailOf, unpacked, nowhere, noArgument, connected, joined, Recalled, Remembered, Remembers, WalksRow, WalksArgs};
 use calculus::Premise;
 use calculus::Row;
 use calculus::Term;
@@ -20,6 +19,7 @@ use rule_claims::AND;
 use rule_claims::Claim;
 use rule_claims::NOT;
 use rule_claims::OR;
+use rule_claims::number;
 
 // How many connectives may lie on a path.
 const LAYERS: u16 = 8;
@@ -100,9 +100,9 @@ fn value_on(x: Claim, t: Row) -> u16
 
 // ---- what is remembered of a row, as one number; 0 where nothing is
 
-// What is remembered of row t.
+// What is remembered of row t; of a row from 256 on, nothing is.
 fn recall(memo: &[u16; 256], t: Row) -> u16
-    ensures { λ r. ⌜ r ≡ getD (now (memo .entry)) (t .0) 0 ⌝ }
+    ensures { λ c. ⌜ Recalled (now (memo .entry)) (t .0) c ⌝ }
 {
     if t.0 < 256 { memo[t.0 as usize] } else { 0 }
 }
@@ -118,14 +118,22 @@ fn unpacked(c: u16) -> Walked
     }
 }
 
+// The number that says r.
+fn packed(r: Walked) -> u16
+    requires { ⌜ (r .met ≤ 31) × (r .height < 16) ⌝ }
+    ensures { λ c. ⌜ unpacked c ≡ r ⌝ }
+{
+    let c = r.met * 32 + r.height * 2;
+    if r.truth { c + 1 } else { c }
+}
+
 // It is remembered of row t that r was found.
 fn remember(memo: &mut [u16; 256], t: Row, r: Walked)
     requires { ⌜ (r .met ≤ 31) × (r .height < 16) ⌝ }
     ensures { λ _. ⌜ Remembered (now (memo .entry)) (now (memo .exit)) (t .0) r ⌝ }
 {
     if t.0 < 256 {
-        let c = r.met * 32 + r.height * 2;
-        memo[t.0 as usize] = if r.truth { c + 1 } else { c };
+        memo[t.0 as usize] = packed(r);
     }
 }
 
@@ -160,21 +168,31 @@ fn no_argument(h: u16) -> Walked
     }
 }
 
+// The larger of two heights.
+fn larger(a: u16, b: u16) -> u16
+    ensures { λ r. ⌜ r ≡ max a b ⌝ }
+{
+    if a < b { b } else { a }
+}
+
+// What the connective h makes of the truth of an argument and of what it makes of the rest.
+fn connected(h: u16, a: bool, rest: bool) -> bool
+    ensures { λ r. ⌜ r ≡ connected h a rest ⌝ }
+{
+    if h == NOT {
+        return !a;
+    }
+    if h == AND { a & rest } else { a | rest }
+}
+
 // An argument of a row with head h, of which r was found, in front of the rest.
 fn joined(h: u16, r: Walked, rest: Walked) -> Walked
     ensures { λ y. ⌜ y ≡ joined h r rest ⌝ }
 {
-    let truth = if h == NOT {
-        !r.truth
-    } else if h == AND {
-        r.truth & rest.truth
-    } else {
-        r.truth | rest.truth
-    };
     Walked {
-        height: if r.height < rest.height { rest.height } else { r.height },
+        height: larger(r.height, rest.height),
         met: r.met | rest.met,
-        truth,
+        truth: connected(h, r.truth, rest.truth),
     }
 }
 
@@ -249,12 +267,12 @@ pub fn deep(terms: &[u16], x: Claim) -> bool
     let all = all_marks(x);
     let on = marks(x, x.term);
     if on != 0 {
-        return (on == all) & (value_on(x, x.term) == x.value);
+        return (on == all) & (x.value == value_on(x, x.term));
     }
     let mut memo = [0u16; 256];
     let r = walk(terms, x, &mut memo, x.term, LAYERS);
     if LAYERS < r.height {
         return false;
     }
-    (r.met == all) & (x.value == if r.truth { 1 } else { 0 })
+    (r.met == all) & (x.value == number(r.truth))
 }

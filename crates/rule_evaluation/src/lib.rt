@@ -4,7 +4,7 @@ ghost use mathlib.Core.List.{List, [], _∷_, map};
 ghost use Prim.Native.Nat.{ℕ};
 ghost use Rattle.calculus.specs.declared.Premise.{Premise};
 ghost use Rattle.calculus.specs.declared.Rule.the-variants.{Evaluation};
-ghost use Rattle.calculus.specs.Lists.{num, eqList};
+ghost use Rattle.calculus.specs.Lists.{eqList};
 ghost use Rattle.calculus.specs.Terms.{filled, argsOf};
 ghost use Rattle.calculus.specs.Rules.{rowOf, valueOf, notOf, andOf, orOf, evaluates};
 ghost use Rattle.rule_claims.specs.Claims.{stated, premisesOf, allows};
@@ -16,6 +16,7 @@ use rule_claims::AND;
 use rule_claims::Claim;
 use rule_claims::NOT;
 use rule_claims::OR;
+use rule_claims::number;
 
 // The premises' rows are the arguments: premise p and argument a in front of the rest.
 fn more_same(p: Premise, a: u16, rest: bool) -> bool
@@ -106,13 +107,6 @@ fn any_true(x: Claim) -> bool
     let r = late_or(x);
     let q = more_or(x.q, r);
     more_or(x.p, q)
-}
-
-// A truth value as a number.
-fn number(b: bool) -> u16
-    ensures { λ r. ⌜ r ≡ num b ⌝ }
-{
-    if b { 1 } else { 0 }
 }
 
 // Whether head h over the premises' values has the claim's value.

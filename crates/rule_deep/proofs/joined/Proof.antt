@@ -1,11 +1,16 @@
+-- `rule_deep::joined` meets its contract.
+use borrow.Author.Needs.{needs}
 use Rattle.rule_deep.proofs.joined.Statement.{statement}
 use Rattle.rule_deep.proofs.joined.Tie as tie
-use Rattle.rule_deep.proofs.joined.Reads as reads
-use Rattle.rule_deep.proofs.joined.Lts as lts
 
--- src/lib.rt:164:1
+larger-requires : tie.Need-larger-requires
+larger-requires c κs = search needs
+
+connected-requires : tie.Need-connected-requires
+connected-requires c κs = search needs
+
 returns : tie.Need-returns
-returns c = ?
+returns c = rw (c .before .before .before .larger .ensures, c .connected .ensures)
 
 pub joined-spec : {M : Type 1} → statement M
-joined-spec = tie.close (tie.spec returns)
+joined-spec = tie.close (tie.spec larger-requires connected-requires returns)
