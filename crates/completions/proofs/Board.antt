@@ -1,12 +1,12 @@
--- Places by computation: for each rule a row for each place that it can have.
+-- Places by computation: for each rule a row for each place that it can have, and rows of deep, whose place is the term.
 use mathlib.Core.Path.{_≡_, refl, _∙_}
-use mathlib.Core.Bool.{Bool, _&&_}
+use mathlib.Core.Bool.{Bool, false, not, _&&_}
 use mathlib.Core.List.{List, [], _∷_, _++_, map}
 use Prim.Native.Nat.{ℕ}
 use lib.Dec.{T, eqb, leb}
 use Rattle.calculus.specs.declared.Premise.{Premise}
 use Rattle.calculus.specs.declared.Rule.{Rule}
-use Rattle.calculus.specs.declared.Rule.the-variants.{Same, Differ, Reflexivity, Symmetry, Transitivity, Negated, Part, Unit, Evaluation, Congruence, Predicate, Read, Skip}
+use Rattle.calculus.specs.declared.Rule.the-variants.{Same, Differ, Reflexivity, Symmetry, Transitivity, Negated, Part, Unit, Evaluation, Congruence, Predicate, Read, Skip, Deep}
 use Rattle.calculus.specs.Lists
 use Rattle.calculus.specs.Lists.{all}
 use Rattle.calculus.specs.Numbers
@@ -14,10 +14,11 @@ use Rattle.calculus.specs.Sorts
 use Rattle.calculus.specs.Terms
 use Rattle.calculus.specs.Terms.{termsRefusal}
 use Rattle.calculus.specs.Rules
+use Rattle.calculus.specs.Rules.{fits}
 use Rattle.calculus.specs.Place
-use Rattle.calculus.specs.Place.{with, unfitPlace}
+use Rattle.calculus.specs.Place.{atTerm, with, unfitPlace}
 use Rattle.calculus.proofs.Boards.{plain, row}
-use Rattle.calculus.proofs.Facts.{and-l, and-r, facts}
+use Rattle.calculus.proofs.Facts.{and-l, and-r, T-false, facts}
 use Rattle.completions.specs.Needs
 use Rattle.completions.specs.Search
 use Rattle.completions.specs.Search.{small, isRow, foundPlace, Legible}
@@ -204,13 +205,14 @@ sought x = foundPlace (x .terms) (x .rule) (x .term) (x .value) (x .given)
 abbrev found : Slip → Bool
 found x =
     let ps = x .given in
-    all (isRow (x .terms)) ps && (all small ps && (leb (x .value) 1 && eqb (sought x) (x .place)))
+    all (isRow (x .terms)) ps && (all small ps && (leb (x .value) 1 && (not (atTerm (x .rule)) && eqb (sought x) (x .place))))
 
 place-is : (x : Slip) → T (found x) → meant x ≡ x .place
 place-is x h =
     let G : Legible (x .terms) (x .value) (x .given) = record { rows = search facts; values = search facts; truth = search facts } in
     let e : sought x ≡ x .place = search facts in
-    search-finds-places (x .terms) (x .rule) (x .term) (x .value) (x .given) G ∙ e
+    let a : atTerm (x .rule) ≡ false = T-false _ (search facts) in
+    search-finds-places (x .terms) (x .rule) (x .term) (x .value) (x .given) a G ∙ e
 
 places-are : (xs : List Slip) → T (all found xs) → map meant xs ≡ map (λ x. x .place) xs
 places-are [] h = refl
@@ -225,3 +227,22 @@ all-found = tt
 
 pub places : map meant table ≡ map (λ x. x .place) table
 places = places-are table all-found
+
+-- ---- deep
+
+abbrev deeps : List Slip
+deeps =
+    -- the other value; arguments with no premise; a premise that the walk does not come to
+    true-by Deep 5 (yes-of 2 ∷ []) 3
+    ∷ true-by Deep 11 (yes-of 2 ∷ []) 3
+    ∷ true-by Deep 5 (no-of 2 ∷ no-of 3 ∷ []) 3
+    ∷ []
+
+deeps-unfit : map (λ x. fits (x .terms) (x .rule) (x .term) (x .value) (x .given)) deeps ≡ false ∷ false ∷ false ∷ []
+unfolding Terms.cells Terms.args Rules.grounded Rules.walkValue Rules.comesTo Rules.fits
+deeps-unfit = refl
+
+-- `deep-later` says that by the columns each would have another place
+pub deep-places : map meant deeps ≡ map (λ x. x .place) deeps
+unfolding Place.unfitPlace
+deep-places = refl

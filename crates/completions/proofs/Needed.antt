@@ -7,7 +7,7 @@ use lib.ListN.{length, take, drop, length-map, length-append, length-take, lengt
 use lib.Dec.{T, eqb, ltb, lt→ltb}
 use Rattle.calculus.specs.declared.Premise.{Premise}
 use Rattle.calculus.specs.declared.Rule.{Rule}
-use Rattle.calculus.specs.declared.Rule.the-variants.{Same, Differ, Reflexivity, Symmetry, Transitivity, Negated, Part, Unit, Evaluation, Congruence, Predicate, Read, Skip, Unlisted}
+use Rattle.calculus.specs.declared.Rule.the-variants.{Same, Differ, Reflexivity, Symmetry, Transitivity, Negated, Part, Unit, Evaluation, Congruence, Predicate, Read, Skip, Deep, Unlisted}
 use Rattle.calculus.specs.Lists.{all, opposite}
 use Rattle.calculus.specs.Sheets.{blank}
 use Rattle.calculus.specs.Terms.{cells, filled, args, arg}
@@ -58,6 +58,7 @@ module _ (ts : List ℕ) where
   needs-short Predicate l v f i = omega (arith, equations-short (args ts (f .row)) (args ts l), args-short ts (f .row))
   needs-short Read l v f i = omega arith
   needs-short Skip l v f i = omega arith
+  needs-short Deep l v f i = omega arith
   needs-short Unlisted l v f i = omega arith
 
 -- ---- their values: 0, 1, the one that is given, that of the way, the first premise's own and its opposite
@@ -105,4 +106,5 @@ module _ (ts : List ℕ) where
     needs-small Predicate b = search (and-both, given, equations-small)
     needs-small Read b = tt
     needs-small Skip b = search (and-both, none)
+    needs-small Deep b = tt
     needs-small Unlisted b = tt

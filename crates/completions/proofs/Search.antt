@@ -1,6 +1,6 @@
 -- The search finds completions, and misses none.
 use mathlib.Core.Path.{_≡_, refl, sym, ap, subst}
-use mathlib.Core.Bool.{Bool}
+use mathlib.Core.Bool.{Bool, true, false}
 use mathlib.Core.List.{List, [], _∷_, _++_}
 use Prim.Native.Nat.{ℕ, zero, suc, _-_, _≤_}
 use native.Mathlib.Omega.{arith}
@@ -8,11 +8,11 @@ use lib.ListN.{length, drop, length-drop}
 use lib.Dec.{T}
 use Rattle.calculus.specs.declared.Premise.{Premise}
 use Rattle.calculus.specs.declared.Rule.{Rule}
-use Rattle.calculus.specs.declared.Rule.the-variants.{Same, Differ, Reflexivity, Symmetry, Transitivity, Negated, Part, Unit, Evaluation, Congruence, Predicate, Read, Skip, Unlisted}
+use Rattle.calculus.specs.declared.Rule.the-variants.{Same, Differ, Reflexivity, Symmetry, Transitivity, Negated, Part, Unit, Evaluation, Congruence, Predicate, Read, Skip, Deep, Unlisted}
 use Rattle.calculus.specs.Lists.{all}
 use Rattle.calculus.specs.Rules.{fits}
-use Rattle.calculus.specs.Place.{with}
-use Rattle.calculus.proofs.Facts.{and-l, and-r, and-both}
+use Rattle.calculus.specs.Place.{atTerm, with}
+use Rattle.calculus.proofs.Facts.{and-l, and-r, and-both, true-or-false}
 use Rattle.completions.specs.Needs.{ways, needs}
 use Rattle.completions.specs.Search.{over, small, isRow, serves, followed, tried, extensible}
 use Rattle.completions.proofs.First.{somewhere-at}
@@ -25,22 +25,23 @@ use Rattle.completions.proofs.Evaluation.{open-evaluation}
 
 -- ---- it misses none
 
-pub complete : (ts : List ℕ) (l v : ℕ) (k : Rule) → Complete ts k l v
+pub complete : (ts : List ℕ) (l v : ℕ) (k : Rule) → atTerm k ≡ false → Complete ts k l v
 unfolding fits
-complete ts l v Same = open-same ts l v
-complete ts l v Differ = open-differ ts l v
-complete ts l v Reflexivity = open-reflexivity ts l v
-complete ts l v Symmetry = open-symmetry ts l v
-complete ts l v Transitivity = open-transitivity ts l v
-complete ts l v Negated = open-negated ts l v
-complete ts l v Part = open-part ts l v
-complete ts l v Unit = open-unit ts l v
-complete ts l v Evaluation = open-evaluation ts l v
-complete ts l v Congruence = open-congruence ts l v
-complete ts l v Predicate = open-predicate ts l v
-complete ts l v Read = open-read ts l v
-complete ts l v Skip = open-skip ts l v
-complete ts l v Unlisted = λ qs rs R h. absurd h
+complete ts l v Same e = open-same ts l v
+complete ts l v Differ e = open-differ ts l v
+complete ts l v Reflexivity e = open-reflexivity ts l v
+complete ts l v Symmetry e = open-symmetry ts l v
+complete ts l v Transitivity e = open-transitivity ts l v
+complete ts l v Negated e = open-negated ts l v
+complete ts l v Part e = open-part ts l v
+complete ts l v Unit e = open-unit ts l v
+complete ts l v Evaluation e = open-evaluation ts l v
+complete ts l v Congruence e = open-congruence ts l v
+complete ts l v Predicate e = open-predicate ts l v
+complete ts l v Read e = open-read ts l v
+complete ts l v Skip e = open-skip ts l v
+complete ts l v Deep e = absurd (true-or-false {b = true} refl e)
+complete ts l v Unlisted e = λ qs rs R h. absurd h
 
 -- ---- what it finds is a completion, of five premises at most
 

@@ -1,5 +1,5 @@
 -- The search decides whether a row can be completed, and so finds the place.
-use mathlib.Core.Path.{_≡_, refl, ap}
+use mathlib.Core.Path.{_≡_, refl, ap, _∙_}
 use mathlib.Core.Bool.{Bool, true, false, not, _||_, cond}
 use mathlib.Core.List.{List, [], _∷_}
 use Prim.Native.Nat.{ℕ, zero, suc, _+_, _-_, _≤_}
@@ -10,7 +10,7 @@ use Rattle.calculus.specs.declared.Premise.{Premise}
 use Rattle.calculus.specs.declared.Rule.{Rule}
 use Rattle.calculus.specs.Lists.{all, firstWhere}
 use Rattle.calculus.specs.Rules.{fits}
-use Rattle.calculus.specs.Place.{termColumn, valueColumn, lastColumn, completes, completable, unfitPlace}
+use Rattle.calculus.specs.Place.{termColumn, valueColumn, lastColumn, atTerm, completes, completable, firstUnfit, unfitPlace}
 use Rattle.calculus.proofs.Facts.{and-l, and-r, and-both, true-T, false-T}
 use Rattle.completions.specs.Search.{small, isRow, extensible, findable, foundPlace, Legible, SearchFindsPlaces}
 use Rattle.completions.proofs.Completion.{completes-at, completes-of}
@@ -40,14 +40,14 @@ all-take p zero ps h = tt
 all-take p (suc n) [] h = tt
 all-take p (suc n) (q ∷ ps) h = and-both (p q) _ (and-l (p q) _ h) (all-take p n ps (and-r (p q) _ h))
 
-module _ (ts : List ℕ) (k : Rule) (l : ℕ) where
+module _ (ts : List ℕ) (k : Rule) (l : ℕ) (sought : atTerm k ≡ false) where
   -- up to five premises, of which qs stand
   completes-is : (v n : ℕ) (qs : List Premise) → v ≤ 1 → n ≡ 5 - length qs → Rows ts qs → T (all small qs)
       → completes ts k l n v qs ≡ extensible ts k l v qs
   completes-is v n qs truth e R S = alike _ _ to from
     where
       to : T (completes ts k l n v qs) → T (extensible ts k l v qs)
-      to t = let x = completes-at ts k l v n qs t in complete ts l v k qs (x .rest) (all-both (isRow ts) qs (x .rest) R (x .rows)) (x .fit)
+      to t = let x = completes-at ts k l v n qs t in complete ts l v k sought qs (x .rest) (all-both (isRow ts) qs (x .rest) R (x .rows)) (x .fit)
 
       from : T (extensible ts k l v qs) → T (completes ts k l n v qs)
       from t = let x = found-at ts k l v truth qs S t in completes-of ts k l v n qs (x .rest) (omega (arith, x .short)) (x .rows) (x .values) (x .fit)
@@ -71,6 +71,13 @@ module _ (ts : List ℕ) (k : Rule) (l : ℕ) where
         (λ e i. completes-is 0 5 [] (omega arith) refl tt tt i || completes-is 1 5 [] (omega arith) refl tt tt i)
         (λ e. let h = nltb→le c valueColumn (false-T _ e) in premises-are (c - valueColumn) (lastColumn - c) (omega arith))
 
+    pub first-found : firstUnfit ts k l v ps ≡ foundPlace ts k l v ps
+    unfolding firstUnfit foundPlace
+    first-found = λ i. termColumn + firstWhere 7 (λ j. not (completable-is (termColumn + j) i))
+
+pub unfit-first : (ts : List ℕ) (k : Rule) (l v : ℕ) (ps : List Premise) → atTerm k ≡ false → unfitPlace ts k l v ps ≡ firstUnfit ts k l v ps
+unfolding unfitPlace
+unfit-first ts k l v ps e = rw e
+
 pub search-finds-places : SearchFindsPlaces
-unfolding unfitPlace foundPlace
-search-finds-places ts k l v ps G = λ i. termColumn + firstWhere 7 (λ j. not (completable-is ts k l v ps G (termColumn + j) i))
+search-finds-places ts k l v ps e G = unfit-first ts k l v ps e ∙ first-found ts k l e v ps G

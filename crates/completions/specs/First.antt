@@ -1,4 +1,5 @@
--- What the place of number 13 is: the first column, from the term on, after which the row cannot be completed.
+-- What the place of number 13 is, where the rule alone does not put it at the term: the first column, from the term on, after which the row
+-- cannot be completed.
 use mathlib.Core.Path.{_≡_}
 use mathlib.Core.Bool.{false, not}
 use mathlib.Core.List.{List}
@@ -8,7 +9,7 @@ use lib.Dec.{T}
 use Rattle.calculus.specs.declared.Premise.{Premise}
 use Rattle.calculus.specs.declared.Rule.{Rule}
 use Rattle.calculus.specs.Rules.{fits}
-use Rattle.calculus.specs.Place.{termColumn, lastColumn, completable, unfitPlace}
+use Rattle.calculus.specs.Place.{termColumn, lastColumn, atTerm, completable, unfitPlace}
 
 module _ (ts : List ℕ) (k : Rule) (l v : ℕ) (ps : List Premise) where
   pub record FirstUnfit (c : ℕ) : Type 0 where
@@ -20,5 +21,5 @@ module _ (ts : List ℕ) (k : Rule) (l v : ℕ) (ps : List Premise) where
 -- the claim: wherever the rule does not fit, the place is that column
 abbrev pub PlacesAreFirst : Type 0
 PlacesAreFirst =
-    (ts : List ℕ) (k : Rule) (l v : ℕ) (ps : List Premise) → length ps ≤ 5 → fits ts k l v ps ≡ false
+    (ts : List ℕ) (k : Rule) (l v : ℕ) (ps : List Premise) → atTerm k ≡ false → length ps ≤ 5 → fits ts k l v ps ≡ false
     → FirstUnfit ts k l v ps (unfitPlace ts k l v ps)

@@ -1,10 +1,11 @@
 -- The premises that a rule needs: what is still open follows from the term, its value and the first premise.
+-- Deep is not searched: it goes wrong at the term, whatever stands to its right. What is said of it here is never asked.
 use mathlib.Core.Bool.{Bool, true, false}
 use mathlib.Core.List.{List, [], _∷_, map}
 use Prim.Native.Nat.{ℕ}
 use Rattle.calculus.specs.declared.Premise.{Premise}
 use Rattle.calculus.specs.declared.Rule.{Rule}
-use Rattle.calculus.specs.declared.Rule.the-variants.{Same, Differ, Reflexivity, Symmetry, Transitivity, Negated, Part, Unit, Evaluation, Congruence, Predicate, Read, Skip, Unlisted}
+use Rattle.calculus.specs.declared.Rule.the-variants.{Same, Differ, Reflexivity, Symmetry, Transitivity, Negated, Part, Unit, Evaluation, Congruence, Predicate, Read, Skip, Deep, Unlisted}
 use Rattle.calculus.specs.Lists.{opposite, firstWhere}
 use Rattle.calculus.specs.Sheets.{termRows}
 use Rattle.calculus.specs.Terms.{args, arg}
@@ -26,6 +27,7 @@ searched Congruence = false
 searched Predicate = true
 searched Read = false
 searched Skip = false
+searched Deep = false
 searched Unlisted = false
 
 -- in how many ways the premises may follow: unit's by the position of the term, eval's with all arguments false or all true
@@ -43,6 +45,7 @@ ways Congruence = 1
 ways Predicate = 1
 ways Read = 1
 ways Skip = 1
+ways Deep = 1
 ways Unlisted = 1
 
 module _ (ts : List ℕ) where
@@ -71,4 +74,5 @@ module _ (ts : List ℕ) where
   needs Predicate l v f i = with v (f .row) ∷ equations (args ts (f .row)) (args ts l)
   needs Read l v f i = []
   needs Skip l v f i = with 0 (equation (arg ts (arg ts (arg ts l 0) 0) 1) (arg ts (arg ts l 0) 1)) ∷ []
+  needs Deep l v f i = []
   needs Unlisted l v f i = []

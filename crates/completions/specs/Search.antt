@@ -1,6 +1,6 @@
 -- Whether a row can be completed, by a search among the rows of the term sheet, and the place that the search finds.
 use mathlib.Core.Path.{_≡_}
-use mathlib.Core.Bool.{Bool, not, _&&_, _||_, cond}
+use mathlib.Core.Bool.{Bool, false, not, _&&_, _||_, cond}
 use mathlib.Core.List.{List, [], _∷_}
 use Prim.Native.Nat.{ℕ, _+_, _-_, _≤_}
 use lib.ListN.{length, take}
@@ -10,7 +10,7 @@ use Rattle.calculus.specs.declared.Rule.{Rule}
 use Rattle.calculus.specs.Lists.{all, somewhere, firstWhere}
 use Rattle.calculus.specs.Sheets.{termRows}
 use Rattle.calculus.specs.Rules.{fits}
-use Rattle.calculus.specs.Place.{termColumn, valueColumn, freeValues, with, unfitPlace}
+use Rattle.calculus.specs.Place.{termColumn, valueColumn, freeValues, atTerm, with, unfitPlace}
 use Rattle.completions.specs.Needs.{searched, ways, needs}
 
 -- qs, and in the columns after them what ps has there
@@ -62,6 +62,7 @@ module _ (ts : List ℕ) where
     pub values : T (all small ps)
     pub truth : v ≤ 1
 
--- the claim: the search finds the place that document 02 means
+-- the claim: the search finds the place that document 02 means, wherever it is not the term by the rule alone
 abbrev pub SearchFindsPlaces : Type 0
-SearchFindsPlaces = (ts : List ℕ) (k : Rule) (l v : ℕ) (ps : List Premise) → Legible ts v ps → unfitPlace ts k l v ps ≡ foundPlace ts k l v ps
+SearchFindsPlaces =
+    (ts : List ℕ) (k : Rule) (l v : ℕ) (ps : List Premise) → atTerm k ≡ false → Legible ts v ps → unfitPlace ts k l v ps ≡ foundPlace ts k l v ps
