@@ -47,6 +47,7 @@ pub fn rule_of(n: u16) -> Rule
         10 => Rule::Predicate,
         11 => Rule::Read,
         12 => Rule::Skip,
+        13 => Rule::Deep,
         _ => Rule::Unlisted,
     }
 }

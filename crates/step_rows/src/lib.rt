@@ -12,7 +12,7 @@ use calculus::Step;
 use rows::BLANK;
 
 // How many rules there are; they count from 0.
-const RULES: u16 = 13;
+const RULES: u16 = 14;
 
 // ---- number 9
 

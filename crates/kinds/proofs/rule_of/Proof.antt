@@ -63,22 +63,27 @@ returns-13 c = rw (c .match .keys13)
 
 returns-14 : tie.Need-returns-14
 unfolding ruleOf
-returns-14 c =
+returns-14 c = rw (c .match .keys14)
+
+returns-15 : tie.Need-returns-15
+unfolding ruleOf
+returns-15 c =
     let start = c .before in
-    let h1 : 1 ≤ start .args .n = past (omega arith) (c .match .rest .0 .0 .0 .0 .0 .0 .0 .0 .0 .0 .0 .0 .1) in
-    let h2 : 2 ≤ start .args .n = past h1 (c .match .rest .0 .0 .0 .0 .0 .0 .0 .0 .0 .0 .0 .1) in
-    let h3 : 3 ≤ start .args .n = past h2 (c .match .rest .0 .0 .0 .0 .0 .0 .0 .0 .0 .0 .1) in
-    let h4 : 4 ≤ start .args .n = past h3 (c .match .rest .0 .0 .0 .0 .0 .0 .0 .0 .0 .1) in
-    let h5 : 5 ≤ start .args .n = past h4 (c .match .rest .0 .0 .0 .0 .0 .0 .0 .0 .1) in
-    let h6 : 6 ≤ start .args .n = past h5 (c .match .rest .0 .0 .0 .0 .0 .0 .0 .1) in
-    let h7 : 7 ≤ start .args .n = past h6 (c .match .rest .0 .0 .0 .0 .0 .0 .1) in
-    let h8 : 8 ≤ start .args .n = past h7 (c .match .rest .0 .0 .0 .0 .0 .1) in
-    let h9 : 9 ≤ start .args .n = past h8 (c .match .rest .0 .0 .0 .0 .1) in
-    let h10 : 10 ≤ start .args .n = past h9 (c .match .rest .0 .0 .0 .1) in
-    let h11 : 11 ≤ start .args .n = past h10 (c .match .rest .0 .0 .1) in
-    let h12 : 12 ≤ start .args .n = past h11 (c .match .rest .0 .1) in
-    let h13 : 13 ≤ start .args .n = past h12 (c .match .rest .1) in
-    sym (List·getD-eq-default rules Unlisted {n = start .args .n} h13)
+    let h1 : 1 ≤ start .args .n = past (omega arith) (c .match .rest .0 .0 .0 .0 .0 .0 .0 .0 .0 .0 .0 .0 .0 .1) in
+    let h2 : 2 ≤ start .args .n = past h1 (c .match .rest .0 .0 .0 .0 .0 .0 .0 .0 .0 .0 .0 .0 .1) in
+    let h3 : 3 ≤ start .args .n = past h2 (c .match .rest .0 .0 .0 .0 .0 .0 .0 .0 .0 .0 .0 .1) in
+    let h4 : 4 ≤ start .args .n = past h3 (c .match .rest .0 .0 .0 .0 .0 .0 .0 .0 .0 .0 .1) in
+    let h5 : 5 ≤ start .args .n = past h4 (c .match .rest .0 .0 .0 .0 .0 .0 .0 .0 .0 .1) in
+    let h6 : 6 ≤ start .args .n = past h5 (c .match .rest .0 .0 .0 .0 .0 .0 .0 .0 .1) in
+    let h7 : 7 ≤ start .args .n = past h6 (c .match .rest .0 .0 .0 .0 .0 .0 .0 .1) in
+    let h8 : 8 ≤ start .args .n = past h7 (c .match .rest .0 .0 .0 .0 .0 .0 .1) in
+    let h9 : 9 ≤ start .args .n = past h8 (c .match .rest .0 .0 .0 .0 .0 .1) in
+    let h10 : 10 ≤ start .args .n = past h9 (c .match .rest .0 .0 .0 .0 .1) in
+    let h11 : 11 ≤ start .args .n = past h10 (c .match .rest .0 .0 .0 .1) in
+    let h12 : 12 ≤ start .args .n = past h11 (c .match .rest .0 .0 .1) in
+    let h13 : 13 ≤ start .args .n = past h12 (c .match .rest .0 .1) in
+    let h14 : 14 ≤ start .args .n = past h13 (c .match .rest .1) in
+    sym (List·getD-eq-default rules Unlisted {n = start .args .n} h14)
 
 pub rule-of-spec : {M : Type 1} → statement M
 rule-of-spec =
@@ -97,4 +102,5 @@ rule-of-spec =
     returns-11
     returns-12
     returns-13
-    returns-14)
+    returns-14
+    returns-15)
