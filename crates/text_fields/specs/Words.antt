@@ -11,7 +11,7 @@ stepWords = pieces 32 (bytes "decide deduce clash resolve clear jump flip fail l
 
 -- rules, from 0
 abbrev pub ruleWords : List (List ℕ)
-ruleWords = pieces 32 (bytes "same differ refl sym trans neg part unit eval cong pred read skip")
+ruleWords = pieces 32 (bytes "same differ refl sym trans neg part unit eval cong pred read skip deep")
 
 -- heads that are not free, from 0
 abbrev pub headWords : List (List ℕ)

@@ -3,6 +3,19 @@ ghost use mathlib.Core.Path.{_≡_};
 ghost use lib.ListN.{drop};
 ghost use Rattle.text_fields.specs.Words.{ruleWords, indexFrom, indexOr, refOf};
 
+// The number of a rule's word, of the words from `skip` on.
+fn last_rule(f: &[u8]) -> u16
+    ensures { λ r. ⌜ r ≡ indexOr (indexFrom 12 (drop 12 ruleWords) (now (f .entry))) ⌝ }
+{
+    if text_fields::same(b"skip", f) {
+        return 12;
+    }
+    if text_fields::same(b"deep", f) {
+        return 13;
+    }
+    65534
+}
+
 // The number of a rule's word, of the words from `eval` on.
 fn late_rule(f: &[u8]) -> u16
     ensures { λ r. ⌜ r ≡ indexOr (indexFrom 8 (drop 8 ruleWords) (now (f .entry))) ⌝ }
@@ -19,10 +32,7 @@ fn late_rule(f: &[u8]) -> u16
     if text_fields::same(b"read", f) {
         return 11;
     }
-    if text_fields::same(b"skip", f) {
-        return 12;
-    }
-    65534
+    last_rule(f)
 }
 
 // The number of a rule's word, of the words from `trans` on.

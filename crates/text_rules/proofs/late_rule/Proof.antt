@@ -1,5 +1,7 @@
--- The first of the last rule words that is the field's.
-use Rattle.text_fields.proofs.Words.{number-at, number-none, miss, hit}
+-- The first of the late rule words that is the field's.
+use lib.ListN.{drop}
+use Rattle.text_fields.specs.Words.{ruleWords}
+use Rattle.text_fields.proofs.Words.{number-at, number-rest, miss, hit}
 use borrow.Author.Needs.{needs}
 use Rattle.text_rules.proofs.late_rule.Statement.{statement}
 use Rattle.text_rules.proofs.late_rule.Tie as tie
@@ -40,17 +42,13 @@ same-requires-4 c κs = search needs
 returns-4 : tie.Need-returns-4
 returns-4 c = search (number-at, miss, hit) depth 12
 
-slice-aggregate-same-5 : tie.Need-slice-aggregate-same-5
-slice-aggregate-same-5 c = search needs
-
-same-requires-5 : tie.Need-same-requires-5
-same-requires-5 c κs = search needs
+last-rule-requires : tie.Need-last-rule-requires
+last-rule-requires c κs = search needs
 
 returns-5 : tie.Need-returns-5
-returns-5 c = search (number-at, miss, hit) depth 12
-
-returns-6 : tie.Need-returns-6
-returns-6 c = search (number-none, miss) depth 12
+returns-5 c =
+    let f = c .before .before .before .before .before .before .before .before .before .before .before .before .before .before .args .f .now in
+    number-rest 8 (drop 8 ruleWords) f 12 (drop 12 ruleWords) (c .last-rule .ensures) (λ v rest. search miss depth 12)
 
 pub late-rule-spec : {M : Type 1} → statement M
 late-rule-spec =
@@ -68,7 +66,5 @@ late-rule-spec =
     slice-aggregate-same-4
     same-requires-4
     returns-4
-    slice-aggregate-same-5
-    same-requires-5
-    returns-5
-    returns-6)
+    last-rule-requires
+    returns-5)
