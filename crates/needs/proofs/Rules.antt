@@ -8,7 +8,7 @@ use lib.Dec.{eqb}
 use borrow.Author.Tests.{ne-eqb}
 use Rattle.calculus.specs.declared.Premise.{Premise}
 use Rattle.calculus.specs.declared.Rule.{Rule}
-use Rattle.calculus.specs.declared.Rule.the-variants.{Same, Differ, Reflexivity, Symmetry, Transitivity, Negated, Part, Unit, Evaluation, Congruence, Predicate, Read, Skip, Unlisted}
+use Rattle.calculus.specs.declared.Rule.the-variants.{Same, Differ, Reflexivity, Symmetry, Transitivity, Negated, Part, Unit, Evaluation, Congruence, Predicate, Read, Skip, Deep, Unlisted}
 use Rattle.calculus.specs.declared.Term.{Term}
 use Rattle.calculus.specs.Lists.{opposite, firstWhere}
 use Rattle.calculus.specs.Sheets.{termRows}
@@ -69,6 +69,10 @@ module _ (ts : List ℕ) (x : Known) (c : Columns) where
     pub read-needs : {k : Rule} → k ≡ Read → listed c ≡ needsOf ts k x
     unfolding needs
     read-needs e = rw e none
+
+    pub deep-needs : {k : Rule} → k ≡ Deep → listed c ≡ needsOf ts k x
+    unfolding needs
+    deep-needs e = rw e none
 
     pub unlisted-needs : {k : Rule} → k ≡ Unlisted → listed c ≡ needsOf ts k x
     unfolding needs

@@ -361,7 +361,7 @@ fn skip(terms: &[u16], n: u16, x: Known) -> Columns
     one(with(0, find_equation(terms, n, Row(a.b), Row(s.b))))
 }
 
-// The premises that the rule needs.
+// The premises that the rule needs; deep is not searched, and has none here.
 pub fn needed(terms: &[u16], n: u16, rule: Rule, x: Known) -> Columns
     requires { ⌜ n ≡ termRows (now terms) ⌝ }
     ensures { λ r. ⌜ listed r ≡ needsOf (now (terms .entry)) rule x ⌝ }
@@ -380,6 +380,7 @@ pub fn needed(terms: &[u16], n: u16, rule: Rule, x: Known) -> Columns
         Rule::Predicate => pred(terms, n, x),
         Rule::Read => none(),
         Rule::Skip => skip(terms, n, x),
+        Rule::Deep => none(),
         Rule::Unlisted => none(),
     }
 }

@@ -1,5 +1,5 @@
 -- `needs::needed` meets its contract.
-use Rattle.needs.proofs.Rules.{named, refl-needs, read-needs, unlisted-needs}
+use Rattle.needs.proofs.Rules.{named, refl-needs, read-needs, deep-needs, unlisted-needs}
 use borrow.Author.Needs.{needs}
 use Rattle.needs.proofs.needed.Statement.{statement}
 use Rattle.needs.proofs.needed.Tie as tie
@@ -88,6 +88,12 @@ enum-told-14 c = search needs
 none-requires-3 : tie.Need-none-requires-3
 none-requires-3 c κs = search needs
 
+enum-told-15 : tie.Need-enum-told-15
+enum-told-15 c = search needs
+
+none-requires-4 : tie.Need-none-requires-4
+none-requires-4 c κs = search needs
+
 returns : tie.Need-returns
 returns c = search named
 
@@ -128,7 +134,10 @@ returns-13 : tie.Need-returns-13
 returns-13 c = search named
 
 returns-14 : tie.Need-returns-14
-returns-14 c = search unlisted-needs
+returns-14 c = search deep-needs
+
+returns-15 : tie.Need-returns-15
+returns-15 c = search unlisted-needs
 
 pub needed-spec : {M : Type 1} → statement M
 needed-spec =
@@ -162,6 +171,8 @@ needed-spec =
     skip-requires
     enum-told-14
     none-requires-3
+    enum-told-15
+    none-requires-4
     returns
     returns-2
     returns-3
@@ -175,4 +186,5 @@ needed-spec =
     returns-11
     returns-12
     returns-13
-    returns-14)
+    returns-14
+    returns-15)
