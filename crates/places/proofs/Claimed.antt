@@ -15,10 +15,10 @@ use Rattle.calculus.specs.declared.Rule.{Rule}
 use Rattle.calculus.specs.Lists.{all}
 use Rattle.calculus.specs.Sheets.{blank}
 use Rattle.calculus.specs.Rules.{fitOf}
-use Rattle.calculus.specs.Place.{freeValues, unfitPlace}
+use Rattle.calculus.specs.Place.{atTerm, freeValues, firstUnfit, unfitPlace}
 use Rattle.calculus.proofs.Facts.{both-true, true-T}
 use Rattle.completions.specs.Search.{small, foundPlace}
-use Rattle.completions.proofs.Theorem.{search-finds-places}
+use Rattle.completions.proofs.Theorem.{first-found}
 use Rattle.rule_claims.specs.declared.Claim.{Claim}
 use Rattle.rule_claims.specs.Claims.{gap, stated, premisesOf, allows}
 use Rattle.needs.specs.Listed.{listed}
@@ -114,11 +114,10 @@ first-listed m x h = stated-take m (x .p ∷ x .q ∷ x .r ∷ x .s ∷ x .t ∷
 
 -- ---- the answer
 
--- what the search finds is the place
-pub place-is : (ts : List ℕ) (k : Rule) (x : Claim) {n m : ℕ} → Tested ts n x → Counted x m
-    → foundPlace ts k (x .term .0) (x .value) (premisesOf x) ≡ unfitPlace ts k (x .term .0) (x .value) (premisesOf x)
-place-is ts k x h s =
-    sym (search-finds-places ts k (x .term .0) (x .value) (premisesOf x) (record { rows = h .listed; values = s .values; truth = h .truth }))
+-- what the search finds is the first unfit column
+pub first-is : (ts : List ℕ) (k : Rule) (x : Claim) {n m : ℕ} → Tested ts n x → atTerm k ≡ false → Counted x m
+    → foundPlace ts k (x .term .0) (x .value) (premisesOf x) ≡ firstUnfit ts k (x .term .0) (x .value) (premisesOf x)
+first-is ts k x h e s = sym (first-found ts k (x .term .0) e (x .value) (premisesOf x) (record { rows = h .listed; values = s .values; truth = h .truth }))
 
 module _ (ts : List ℕ) (k : Rule) (x : Claim) {b : Bool} (is : b ≡ allows ts k x) where
   pub test-fits : (c : ℕ) → b ≡ true → Fits ≡ fitOf (allows ts k x) c

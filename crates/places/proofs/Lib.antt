@@ -3,3 +3,4 @@ pub mod Laid
 pub mod Beginning
 pub mod Claimed
 pub mod Search
+pub mod Place

@@ -11,7 +11,7 @@ use Rattle.calculus.specs.declared.Premise.{Premise}
 use Rattle.calculus.specs.declared.Rule.{Rule}
 use Rattle.calculus.specs.Lists.{somewhere, firstWhere}
 use Rattle.calculus.specs.Sheets.{termRows}
-use Rattle.calculus.specs.Place.{with, unfitPlace}
+use Rattle.calculus.specs.Place.{atTerm, with, firstUnfit}
 use Rattle.calculus.proofs.Facts.{T-true, true-T}
 use Rattle.completions.specs.Needs.{searched, ways, needs}
 use Rattle.completions.specs.Search.{over, serves, followed, tried, extensible, findable, foundPlace}
@@ -21,7 +21,7 @@ use Rattle.rule_claims.specs.Claims.{premisesOf, allows}
 use Rattle.needs.specs.declared.Columns.{Columns}
 use Rattle.needs.specs.Listed.{columnsOf, listed}
 use Rattle.places.specs.Tested.{Tested, Counted}
-use Rattle.places.proofs.Claimed.{place-is}
+use Rattle.places.proofs.Claimed.{first-is}
 use Rattle.needs.proofs.First.{where-zero, where-more, where-found}
 
 -- ---- some number below a bound
@@ -135,12 +135,14 @@ module _ (ts : List ℕ) (k : Rule) (x : Claim) where
     pub all-found-more : not b ≡ false → AllFound (j + 1)
     all-found-more e = where-more lost j h (ap not (sym s) ∙ e)
 
-    pub place-found : {n m : ℕ} → Tested ts n x → Counted x m → j < 7 → not b ≡ true → 3 + j ≡ unfitPlace ts k (x .term .0) (x .value) (premisesOf x)
+    pub unfit-found : {n m : ℕ} → Tested ts n x → atTerm k ≡ false → Counted x m → j < 7 → not b ≡ true
+        → 3 + j ≡ firstUnfit ts k (x .term .0) (x .value) (premisesOf x)
     unfolding foundPlace
-    place-found t c l e = ap (λ n. 3 + n) (sym (where-found lost 7 j l h (ap not (sym s) ∙ e))) ∙ place-is ts k x t c
+    unfit-found t a c l e = ap (λ n. 3 + n) (sym (where-found lost 7 j l h (ap not (sym s) ∙ e))) ∙ first-is ts k x t a c
 
-  pub place-none : {j n m : ℕ} → Tested ts n x → Counted x m → j ≤ 7 → 7 ≤ j → AllFound j → 10 ≡ unfitPlace ts k (x .term .0) (x .value) (premisesOf x)
+  pub unfit-none : {j n m : ℕ} → Tested ts n x → atTerm k ≡ false → Counted x m → j ≤ 7 → 7 ≤ j → AllFound j
+      → 10 ≡ firstUnfit ts k (x .term .0) (x .value) (premisesOf x)
   unfolding foundPlace
-  place-none {j} t c a b h =
+  unfit-none {j} t a c l m h =
       let q : j ≡ 7 = omega arith in
-      ap (λ n. 3 + n) (sym (subst AllFound q h)) ∙ place-is ts k x t c
+      ap (λ n. 3 + n) (sym (subst AllFound q h)) ∙ first-is ts k x t a c

@@ -6,8 +6,9 @@
 // - neg, part, unit with no premise known: some rows for each of N first premises, for unit in four ways;
 // - trans with no premise known: N rows, and N more for each row that begins as the term does;
 // - pred with no premise known: N rows, and 4N more for each row that has the term's head: at most some N times 4N.
+// A row by deep is not searched: it went wrong at the term.
 ghost use mathlib.Core.Path.{_≡_};
-ghost use mathlib.Core.Bool.{cond};
+ghost use mathlib.Core.Bool.{false, cond};
 ghost use mathlib.Core.List.{[]};
 ghost use Prim.Native.Nat.{_≤_, max};
 ghost use lib.Dec.{ltb};
@@ -15,7 +16,7 @@ ghost use lib.ListN.{length, take};
 ghost use Rattle.calculus.specs.Lists.{all};
 ghost use Rattle.calculus.specs.Sheets.{termRows};
 ghost use Rattle.calculus.specs.Rules.{fitOf};
-ghost use Rattle.calculus.specs.Place.{with, unfitPlace};
+ghost use Rattle.calculus.specs.Place.{atTerm, with, firstUnfit, unfitPlace};
 ghost use Rattle.completions.specs.Needs.{searched, ways};
 ghost use Rattle.completions.specs.Search.{over, serves, followed, extensible, findable};
 ghost use Rattle.rule_claims.specs.Claims.{noPremise, premisesOf, allows};
@@ -136,6 +137,7 @@ fn ways(k: Rule) -> u16
         Rule::Predicate => 1,
         Rule::Read => 1,
         Rule::Skip => 1,
+        Rule::Deep => 1,
         Rule::Unlisted => 1,
     }
 }
@@ -158,6 +160,7 @@ fn tried(n: u16, k: Rule) -> u16
         Rule::Predicate => n,
         Rule::Read => 1,
         Rule::Skip => 1,
+        Rule::Deep => 1,
         Rule::Unlisted => 1,
     }
 }
@@ -294,10 +297,10 @@ fn findable(terms: &[u16], n: u16, k: Rule, x: Claim, count: u16, c: u16) -> boo
     extensible(terms, n, k, l, x.value, first(m, x))
 }
 
-// The first column, from the term on, where this fails.
-fn place_of(terms: &[u16], n: u16, k: Rule, x: Claim) -> u16
-    requires { ⌜ Tested (now terms) n x ⌝ }
-    ensures { λ r. ⌜ r ≡ unfitPlace (now (terms .entry)) k (x .term .0) (x .value) (premisesOf x) ⌝ }
+// The first column, from the term on, where this fails, for a rule that is not always at the term.
+fn first_unfit(terms: &[u16], n: u16, k: Rule, x: Claim) -> u16
+    requires { ⌜ Tested (now terms) n x × (atTerm k ≡ false) ⌝ }
+    ensures { λ r. ⌜ r ≡ firstUnfit (now (terms .entry)) k (x .term .0) (x .value) (premisesOf x) ⌝ }
 {
     let m = count(x);
     let mut j: u16 = 0;
@@ -308,6 +311,17 @@ fn place_of(terms: &[u16], n: u16, k: Rule, x: Claim) -> u16
         j += 1;
     }
     10
+}
+
+// The column at which a row that does not fit went wrong: by deep the term, by any other rule the first unfit one.
+fn place_of(terms: &[u16], n: u16, k: Rule, x: Claim) -> u16
+    requires { ⌜ Tested (now terms) n x ⌝ }
+    ensures { λ r. ⌜ r ≡ unfitPlace (now (terms .entry)) k (x .term .0) (x .value) (premisesOf x) ⌝ }
+{
+    match k {
+        Rule::Deep => 3,
+        _ => first_unfit(terms, n, k, x),
+    }
 }
 
 // ---- the rule test

@@ -1,60 +1,20 @@
 -- `places::place_of` meets its contract.
+use Rattle.places.proofs.Place.{not-at-term, place-deep, place-other}
 use borrow.Author.Needs.{needs}
-use Prim.Native.Nat.{_-_, _≤_}
-use native.Mathlib.Omega.{arith}
-use Rattle.places.proofs.Search.{AllFound, all-found-yet, all-found-more, place-found, place-none}
 use Rattle.places.proofs.place_of.Statement.{statement}
 use Rattle.places.proofs.place_of.Tie as tie
 
-abbrev Inv-loop : tie.InvT-loop
-Inv-loop terms n k x m j₀ j = (j ≤ 7) × AllFound terms k x j
+enum-told : tie.Need-enum-told
+enum-told c = search needs
 
-abbrev μ-loop : tie.MeasureT-loop
-μ-loop terms n k x m j₀ j = 7 - j
+first-unfit-requires : tie.Need-first-unfit-requires
+first-unfit-requires c κs = search (needs, not-at-term)
 
-count-requires : tie.Need-count-requires Inv-loop μ-loop
-count-requires c κs = search needs
+returns : tie.Need-returns
+returns c = search place-deep
 
-loop-holds : tie.Need-loop-holds Inv-loop μ-loop
-loop-holds c = (omega arith, search all-found-yet)
-
-add-findable : tie.Need-add-findable Inv-loop μ-loop
-add-findable c = omega arith
-
-findable-requires : tie.Need-findable-requires Inv-loop μ-loop
-findable-requires c κs = search needs
-
-add-result : tie.Need-add-result Inv-loop μ-loop
-add-result c = omega arith
-
-returns : tie.Need-returns Inv-loop μ-loop
-returns c = search place-found
-
-add-j : tie.Need-add-j Inv-loop μ-loop
-add-j c = omega arith
-
-loop-less : tie.Need-loop-less Inv-loop μ-loop
-loop-less c = omega arith
-
-loop-again : tie.Need-loop-again Inv-loop μ-loop
-loop-again c = (omega arith, search all-found-more)
-
-returns-2 : tie.Need-returns-2 Inv-loop μ-loop
-returns-2 c = search place-none
+returns-2 : tie.Need-returns-2
+returns-2 c = search place-other
 
 pub place-of-spec : {M : Type 1} → statement M
-place-of-spec =
-    tie.close
-    (tie.spec
-    Inv-loop
-    μ-loop
-    count-requires
-    loop-holds
-    add-findable
-    findable-requires
-    add-result
-    returns
-    add-j
-    loop-less
-    loop-again
-    returns-2)
+place-of-spec = tie.close (tie.spec enum-told first-unfit-requires returns returns-2)
