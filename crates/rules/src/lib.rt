@@ -1,4 +1,4 @@
-// The thirteen rules: whether a rule gives a term its value, from premises that come with their values on the trail.
+// The fourteen rules: whether a rule gives a term its value, from premises that come with their values on the trail.
 // Each rule is a function of its own, in the crate of its family; `fits` takes the one that a row names.
 ghost use mathlib.Core.Path.{_≡_};
 ghost use Rattle.rule_claims.specs.Claims.{allows};
@@ -8,6 +8,7 @@ use rule_arrays::skip;
 use rule_claims::Claim;
 use rule_connectives::neg;
 use rule_connectives::part;
+use rule_deep::deep;
 use rule_equality::differ;
 use rule_equality::refl;
 use rule_equality::same;
@@ -36,6 +37,7 @@ pub fn fits(terms: &[u16], rule: Rule, x: Claim) -> bool
         Rule::Predicate => pred(terms, x),
         Rule::Read => read(terms, x),
         Rule::Skip => skip(terms, x),
+        Rule::Deep => deep(terms, x),
         Rule::Unlisted => false,
     }
 }

@@ -86,6 +86,12 @@ skip-requires c κs = search needs
 enum-told-14 : tie.Need-enum-told-14
 enum-told-14 c = search needs
 
+deep-requires : tie.Need-deep-requires
+deep-requires c κs = search needs
+
+enum-told-15 : tie.Need-enum-told-15
+enum-told-15 c = search needs
+
 returns : tie.Need-returns
 returns c = search named
 
@@ -126,8 +132,11 @@ returns-13 : tie.Need-returns-13
 returns-13 c = search named
 
 returns-14 : tie.Need-returns-14
+returns-14 c = search named
+
+returns-15 : tie.Need-returns-15
 unfolding calculus.fits
-returns-14 c = rw (c .enum-told14 .given .1)
+returns-15 c = rw (c .enum-told15 .given .1)
 
 pub fits-spec : {M : Type 1} → statement M
 fits-spec =
@@ -160,6 +169,8 @@ fits-spec =
     enum-told-13
     skip-requires
     enum-told-14
+    deep-requires
+    enum-told-15
     returns
     returns-2
     returns-3
@@ -173,4 +184,5 @@ fits-spec =
     returns-11
     returns-12
     returns-13
-    returns-14)
+    returns-14
+    returns-15)
