@@ -59,6 +59,9 @@ read = 11
 abbrev pub skip : ℕ
 skip = 12
 
+abbrev pub deep : ℕ
+deep = 13
+
 -- ---- step rows
 
 abbrev pub decide : ℕ → ℕ → List ℕ

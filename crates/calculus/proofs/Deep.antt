@@ -2,7 +2,7 @@
 use mathlib.Core.Path.{_≡_, refl, sym, ap, subst, _∙_}
 use mathlib.Core.Bool.{Bool, true, false, not, _&&_, _||_, cond}
 use mathlib.Core.List.{List, [], _∷_, map, List·Memᴰ, List·Memᴰ·head, List·Memᴰ·tail, Memᴰ·map, Memᴰ·of-map}
-use Prim.Native.Nat.{ℕ, zero, suc, _<_}
+use Prim.Native.Nat.{ℕ, zero, suc, _-_, _<_}
 use native.Mathlib.Omega.{arith}
 use lib.Dec.{T, eqb, eqb→eq, eqb-refl, not-T}
 use Rattle.calculus.specs.declared.Premise.{Premise}
@@ -113,10 +113,10 @@ module _ {ss ts : List ℕ} (W : WellSorted ss ts) where
   evaluation-deep l v ps k S h =
       let q = evaluation-says ts l v ps h in
       let e = q .0 in
-      and-both (grounded ts ps layers l) _ (down e (q .1))
+      and-both (grounded ts ps layers l) _ (down (layers - 1) e (q .1))
       (and-both (all (λ (p : Premise). comesTo ts ps layers (p .row) l) ps) _
-      (all-of (λ (p : Premise). comesTo ts ps layers (p .row) l) ps (meets e))
-      (eqb-of (q .2 ∙ sym (value e))))
+      (all-of (λ (p : Premise). comesTo ts ps layers (p .row) l) ps (meets (layers - 1) e))
+      (eqb-of (q .2 ∙ sym (value (layers - 1) e))))
     where
       -- an argument is a premise, and l is none
       at : map rowOf ps ≡ args ts l → (a : ℕ) → List·Memᴰ a (args ts l) → T (isPremise ps a)
@@ -132,27 +132,27 @@ module _ {ss ts : List ℕ} (W : WellSorted ss ts) where
           let w : y .0 .row ≡ l = eqb→eq _ _ (y .2) in
           omega arith)
 
-      down : map rowOf ps ≡ args ts l → T (isConnective ts l) → T (grounded ts ps layers l)
-      down e c =
+      down : (n : ℕ) → map rowOf ps ≡ args ts l → T (isConnective ts l) → T (grounded ts ps (suc n) l)
+      down n e c =
           or-r (isPremise ps l) _
-          (and-both (isConnective ts l) _ c (all-of (grounded ts ps 7) (args ts l) (λ a m. grounded-here ts ps 7 a (at e a m))))
+          (and-both (isConnective ts l) _ c (all-of (grounded ts ps n) (args ts l) (λ a m. grounded-here ts ps n a (at e a m))))
 
-      meets : map rowOf ps ≡ args ts l → (p : Premise) → List·Memᴰ p ps → T (comesTo ts ps layers (p .row) l)
-      meets e p m =
+      meets : (n : ℕ) → map rowOf ps ≡ args ts l → (p : Premise) → List·Memᴰ p ps → T (comesTo ts ps (suc n) (p .row) l)
+      meets n e p m =
           or-r (eqb l (p .row)) _
           (and-both (not (isPremise ps l)) _ (apart e)
-          (any-of (comesTo ts ps 7 (p .row)) (subst (List·Memᴰ (p .row)) e (Memᴰ·map rowOf m)) (comes-here ts ps 7 (p .row))))
+          (any-of (comesTo ts ps n (p .row)) (subst (List·Memᴰ (p .row)) e (Memᴰ·map rowOf m)) (comes-here ts ps n (p .row))))
 
-      values : (qs : List Premise) → ((q : Premise) → List·Memᴰ q qs → List·Memᴰ q ps) → map (walkValue ts ps 7) (map rowOf qs) ≡ map valueOf qs
-      values [] into = refl
-      values (q ∷ qs) into =
-          λ i. value-of ts ps S 7 q (into q (List·Memᴰ·head refl)) i ∷ values qs (λ p m. into p (List·Memᴰ·tail m)) i
+      values : (n : ℕ) (qs : List Premise) → ((q : Premise) → List·Memᴰ q qs → List·Memᴰ q ps) → map (walkValue ts ps n) (map rowOf qs) ≡ map valueOf qs
+      values n [] into = refl
+      values n (q ∷ qs) into =
+          λ i. value-of ts ps S n q (into q (List·Memᴰ·head refl)) i ∷ values n qs (λ p m. into p (List·Memᴰ·tail m)) i
 
-      value : map rowOf ps ≡ args ts l → walkValue ts ps layers l ≡ num (evaluates (head ts l) (map valueOf ps) 1)
-      value e =
-          let n : isPremise ps l ≡ false = T-false _ (apart e) in
-          let r : map (walkValue ts ps 7) (args ts l) ≡ map valueOf ps = ap (map (walkValue ts ps 7)) (sym e) ∙ values ps (λ p m. m) in
-          rw n (λ i. num (evaluates (head ts l) (r i) 1))
+      value : (n : ℕ) → map rowOf ps ≡ args ts l → walkValue ts ps (suc n) l ≡ num (evaluates (head ts l) (map valueOf ps) 1)
+      value n e =
+          let off : isPremise ps l ≡ false = T-false _ (apart e) in
+          let r : map (walkValue ts ps n) (args ts l) ≡ map valueOf ps = ap (map (walkValue ts ps n)) (sym e) ∙ values n ps (λ p m. m) in
+          rw off (λ i. num (evaluates (head ts l) (r i) 1))
 
   -- premises on a trail give a row one value
   single-valued : (tr : Trail) (ps : List ℕ) → SingleValued (premisesAt tr ps)

@@ -18,5 +18,6 @@ pub mod Runs
 pub mod Slips
 pub mod Order
 pub mod Learning
+pub mod Walking
 pub mod Places
 pub mod Blame

@@ -411,7 +411,7 @@ module _ (ts : List ℕ) (ps : List Premise) where
       pub deep-found : {w : ℕ} → m ≡ 0 → r .height ≤ layers → w ≡ num (r .truth) → (eqb (r .met) all && eqb v w) ≡ fits ts Deep l v ps
       deep-found z h w-is =
           let f = walks .found h in
-          rw all-is (fits-found l v r f h (w-is ∙ ap num (sym (f .truths layers h)) ∙ value-num 7 l (off-premise l (sym m-is ∙ z))))
+          rw all-is (fits-found l v r f h (w-is ∙ ap num (sym (f .truths layers h)) ∙ value-num (layers - 1) l (off-premise l (sym m-is ∙ z))))
 
 -- nothing is remembered at first
 pub none-remembered : (ts : List ℕ) (ps : List Premise) (memo : List ℕ) → all (λ c. eqb c 0) memo ≡ true → Remembers ts ps memo
