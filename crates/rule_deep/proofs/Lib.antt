@@ -1,2 +1,6 @@
 -- Laws of the walk.
-pub mod Laws
+pub mod Bits
+pub mod Numbers
+pub mod Finds
+pub mod Memory
+pub mod Walks

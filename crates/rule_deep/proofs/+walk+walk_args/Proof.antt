@@ -1,18 +1,20 @@
--- The cycle of calls {walk, walk_args}. `walk` calls `walk_args` with one connective less left, and `walk_args` calls both with as many left, itself with
--- one argument fewer: so the measures are six for each connective left, and for `walk_args` one and the number of arguments besides.
-use mathlib.Core.Path.{_≡_, refl, sym, ap, _∙_}
-use Prim.Native.Nat.{ℕ, _+_, _*_, _<_}
+-- The cycle of calls {walk, walk_args}. `walk` calls `walk_args` with one connective less left, and `walk_args` calls `walk` with as many left: so the
+-- measures are twice the connectives left, and one more for `walk_args`.
+use mathlib.Core.Path.{_≡_, refl, sym, ap, subst, subst₂, _∙_}
+use mathlib.Core.Logic.{_≢_, _⊎_, inl, inr}
+use mathlib.Core.List.{List, [], _∷_}
 use native.Mathlib.Omega.{arith}
-use lib.ListN.{length}
 use borrow.Author.Needs.{needs}
-use borrow.Author.Tests.{not-false}
+use Rattle.calculus.specs.Terms.{filled, argsOf}
+use Rattle.rule_claims.specs.Claims.{premisesOf}
+use Rattle.rule_deep.specs.declared.Walked.{Walked}
+use Rattle.rule_deep.specs.Walks.{Small, Says, WalksRow}
+use Rattle.rule_deep.proofs.Walks.{goes-on, follows, row-known, row-lost, row-stopped, row-found}
+use Rattle.rule_deep.proofs.Walks.{none-said, one-good, one-said, two-good, two-said, three-good, three-said, four-good, four-said, smalls, said-small}
+use Rattle.rule_deep.proofs.Memory.{told-none}
+use Prim.Native.Nat.{ℕ, _+_, _*_, _<_}
 use borrow.Fn.Kinds.{In}
 use borrow.Fn.PlainCycle.{Measures, is, falls, and}
-use Rattle.calculus.specs.declared.Term.{Term}
-use Rattle.calculus.specs.Terms.{argsOf}
-use Rattle.rule_deep.specs.Walks.{connects}
-use Rattle.rule_deep.proofs.Laws.{args-short, args-fewer, met-short, goes-on, row-premise, row-recalled, row-lost, row-stopped, row-found}
-use Rattle.rule_deep.proofs.Laws.{args-end, args-stopped, args-found}
 use Rattle.rule_deep.proofs.walk.Reads as walk
 use Rattle.rule_deep.proofs.walk.Kinds as walk-kinds
 use Rattle.rule_deep.proofs.+walk+walk_args.Lts-walk as walk-lts
@@ -20,26 +22,27 @@ use Rattle.rule_deep.proofs.walk_args.Reads as walk-args
 use Rattle.rule_deep.proofs.walk_args.Kinds as walk-args-kinds
 use Rattle.rule_deep.proofs.+walk+walk_args.Lts-walk_args as walk-args-lts
 use Rattle.rows.proofs.term_at.Reads as term-at-reads
+use Rattle.rule_deep.proofs.four.Reads as four-reads
 use Rattle.rule_deep.proofs.is_connective.Reads as is-connective-reads
-use Rattle.rule_deep.proofs.joined.Reads as joined-reads
-use Rattle.rule_deep.proofs.marks.Reads as marks-reads
-use Rattle.rule_deep.proofs.no_argument.Reads as no-argument-reads
-use Rattle.rule_deep.proofs.nowhere.Reads as nowhere-reads
+use Rattle.rule_deep.proofs.none.Reads as none-reads
+use Rattle.rule_deep.proofs.one.Reads as one-reads
+use Rattle.rule_deep.proofs.packed.Reads as packed-reads
 use Rattle.rule_deep.proofs.recall.Reads as recall-reads
 use Rattle.rule_deep.proofs.remember.Reads as remember-reads
-use Rattle.rule_deep.proofs.tail.Reads as tail-reads
-use Rattle.rule_deep.proofs.unpacked.Reads as unpacked-reads
-use Rattle.rule_deep.proofs.value_on.Reads as value-on-reads
+use Rattle.rule_deep.proofs.said.Reads as said-reads
+use Rattle.rule_deep.proofs.three.Reads as three-reads
+use Rattle.rule_deep.proofs.two.Reads as two-reads
+use Rattle.rule_deep.proofs.within.Reads as within-reads
 use Rattle.rule_deep.proofs.+walk+walk_args.{statement}
 use Rattle.rule_deep.proofs.+walk+walk_args.Tie.{close}
 
 -- ---- measures, and the contracts below them
 
 abbrev μ-walk : Measures 2 walk-kinds.ps ℕ
-μ-walk κs a = a .1 .1 .1 .1 .0 * 6
+μ-walk κs a = a .1 .1 .1 .1 .0 * 2
 
 abbrev μ-walk-args : Measures 2 walk-args-kinds.ps ℕ
-μ-walk-args κs a = a .1 .1 .1 .1 .0 * 6 + 1 + length (argsOf (a .1 .1 .1 .0))
+μ-walk-args κs a = a .1 .1 .1 .1 .0 * 2 + 1
 
 abbrev walk-at : ℕ → In 2 walk-kinds.ps
 walk-at t = and 2 walk-kinds.ps (is 2 walk-kinds.ps μ-walk t) walk.Pre
@@ -56,20 +59,10 @@ walk-args-below t = and 2 walk-args-kinds.ps (falls 2 walk-args-kinds.ps _<_ μ-
 -- what each of the two calls
 abbrev walk-calls : ℕ → walk-lts.Claims
 walk-calls t = (
-  marks-reads.Asked,
-  marks-reads.Learnt,
-  value-on-reads.Asked,
-  value-on-reads.Learnt,
-  recall-reads.Asked,
-  recall-reads.Learnt,
-  unpacked-reads.Asked,
-  unpacked-reads.Learnt,
   term-at-reads.Asked,
   term-at-reads.Learnt,
   is-connective-reads.Asked,
   is-connective-reads.Learnt,
-  nowhere-reads.Asked,
-  nowhere-reads.Learnt,
   walk-args-below t,
   walk-args.Post,
   remember-reads.Asked,
@@ -78,44 +71,29 @@ walk-calls t = (
 
 abbrev walk-args-calls : ℕ → walk-args-lts.Claims
 walk-args-calls t = (
-  no-argument-reads.Asked,
-  no-argument-reads.Learnt,
+  none-reads.Asked,
+  none-reads.Learnt,
+  packed-reads.Asked,
+  packed-reads.Learnt,
+  recall-reads.Asked,
+  recall-reads.Learnt,
   walk-below t,
   walk.Post,
-  nowhere-reads.Asked,
-  nowhere-reads.Learnt,
-  tail-reads.Asked,
-  tail-reads.Learnt,
-  walk-args-below t,
-  walk-args.Post,
-  joined-reads.Asked,
-  joined-reads.Learnt,
+  within-reads.Asked,
+  within-reads.Learnt,
+  one-reads.Asked,
+  one-reads.Learnt,
+  said-reads.Asked,
+  said-reads.Learnt,
+  two-reads.Asked,
+  two-reads.Learnt,
+  three-reads.Asked,
+  three-reads.Learnt,
+  four-reads.Asked,
+  four-reads.Learnt,
 )
 
 -- ---- walk
-
-walk-marks-requires : (t : ℕ) → walk-lts.Need-marks-requires (walk-calls t) (walk-at t) walk.Post
-walk-marks-requires t c κs = search needs
-
-walk-value-on-requires : (t : ℕ) → walk-lts.Need-value-on-requires (walk-calls t) (walk-at t) walk.Post
-walk-value-on-requires t c κs = search needs
-
-walk-returns : (t : ℕ) → walk-lts.Need-returns (walk-calls t) (walk-at t) walk.Post
-walk-returns t c =
-    let start = c .before .before .before .before in
-    row-premise _ _ _ _ _ (c .before .before .marks .ensures) (c .before .if1 .taken) (c .value-on .ensures) (start .pre .1 .1)
-
-walk-recall-requires : (t : ℕ) → walk-lts.Need-recall-requires (walk-calls t) (walk-at t) walk.Post
-walk-recall-requires t c κs = search needs
-
-walk-unpacked-requires : (t : ℕ) → walk-lts.Need-unpacked-requires (walk-calls t) (walk-at t) walk.Post
-walk-unpacked-requires t c κs = search needs
-
-walk-returns-2 : (t : ℕ) → walk-lts.Need-returns-2 (walk-calls t) (walk-at t) walk.Post
-walk-returns-2 t c =
-    let found = c .before .before in
-    let start = found .before .before .before .before .before in
-    row-recalled _ _ _ _ _ (found .recall .ensures) (c .before .if2 .taken) (c .unpacked .ensures) (start .pre .1 .1)
 
 walk-term-at-requires : (t : ℕ) → walk-lts.Need-term-at-requires (walk-calls t) (walk-at t) walk.Post
 walk-term-at-requires t c κs = search needs
@@ -123,156 +101,323 @@ walk-term-at-requires t c κs = search needs
 walk-is-connective-requires : (t : ℕ) → walk-lts.Need-is-connective-requires (walk-calls t) (walk-at t) walk.Post
 walk-is-connective-requires t c κs = search needs
 
-walk-nowhere-requires : (t : ℕ) → walk-lts.Need-nowhere-requires (walk-calls t) (walk-at t) walk.Post
-walk-nowhere-requires t c κs = search needs
-
-walk-returns-3 : (t : ℕ) → walk-lts.Need-returns-3 (walk-calls t) (walk-at t) walk.Post
-walk-returns-3 t c =
-    let looked = c .before .before .before in
-    let fresh = looked .before .before .before .before in
-    let start = fresh .before .before .before in
-    row-lost _ _ _ _ _ _ (looked .term-at .ensures) (fresh .before .marks .ensures) (fresh .if1 .left) (start .pre .1 .0)
-    (c .before .before .is-connective .ensures) (c .before .if3 .taken) (c .nowhere .ensures) (start .pre .1 .1)
+walk-returns : (t : ℕ) → walk-lts.Need-returns (walk-calls t) (walk-at t) walk.Post
+walk-returns t c =
+    let looked = c .before .before in
+    let start = looked .before .before in
+    row-lost _ _ _ _ _ _ (looked .term-at .ensures) (start .pre .1 .1) (c .before .is-connective .ensures) (c .if1 .taken) (start .pre .1 .2)
 
 walk-sub-walk-args : (t : ℕ) → walk-lts.Need-sub-walk-args (walk-calls t) (walk-at t) walk.Post
 walk-sub-walk-args t c =
-    let start = c .before .before .before .before .before .before .before .before .before .before in
-    goes-on (start .args .left) (c .before .before .is-connective .result) (c .before .if3 .left) .0
+    let start = c .before .before .before .before .before in
+    goes-on (start .args .left) (c .before .before .is-connective .result) (c .before .if1 .left) .0
 
 walk-walk-args-requires : (t : ℕ) → walk-lts.Need-walk-args-requires (walk-calls t) (walk-at t) walk.Post
 walk-walk-args-requires t c κs =
-    let looked = c .before .before .before in
-    let start = looked .before .before .before .before .before .before .before in
-    let on = goes-on (start .args .left) (c .before .before .is-connective .result) (c .before .if3 .left) in (
-      omega (arith, on .0, args-short (looked .term-at .result), start .pre .0),
-      (omega (arith, start .pre .1 .0), sym (c .before .before .is-connective .ensures) ∙ on .1, start .pre .1 .1),
+    let start = c .before .before .before .before .before in
+    let on = goes-on (start .args .left) (c .before .before .is-connective .result) (c .before .if1 .left) in (
+      omega (arith, on .0, start .pre .0),
+      (omega (arith, start .pre .1 .0), sym (c .before .before .is-connective .ensures) ∙ on .1, start .pre .1 .2),
     )
 
-walk-nowhere-requires-2 : (t : ℕ) → walk-lts.Need-nowhere-requires-2 (walk-calls t) (walk-at t) walk.Post
-walk-nowhere-requires-2 t c κs = search needs
-
-walk-returns-4 : (t : ℕ) → walk-lts.Need-returns-4 (walk-calls t) (walk-at t) walk.Post
-walk-returns-4 t c =
-    let walked = c .before .before .before in
+walk-returns-2 : (t : ℕ) → walk-lts.Need-returns-2 (walk-calls t) (walk-at t) walk.Post
+walk-returns-2 t c =
+    let walked = c .before in
     let passed = walked .before .before in
     let looked = passed .before .before in
-    let fresh = looked .before .before .before .before in
-    let start = fresh .before .before .before in
-    let on = goes-on (start .args .left) (passed .before .is-connective .result) (passed .if3 .left) in
-    row-stopped _ _ _ _ _ _ (looked .term-at .ensures) (fresh .before .marks .ensures) (fresh .if1 .left) (start .pre .1 .0)
-    (on .0) _ (walked .walk-args .ensures) (c .before .if4 .taken) (c .nowhere2 .ensures)
+    let start = looked .before .before in
+    let on = goes-on (start .args .left) (passed .before .is-connective .result) (passed .if1 .left) in
+    row-stopped _ _ _ _ _ _ (looked .term-at .ensures) (start .pre .1 .1) (on .0) (walked .walk-args .ensures) (c .if2 .taken)
 
-walk-add-t19 : (t : ℕ) → walk-lts.Need-add-t19 (walk-calls t) (walk-at t) walk.Post
-walk-add-t19 t c =
-    let start = c .before .before .before .before .before .before .before .before .before .before .before .before .before .before in
-    search (needs, c .before .if4 .left, start .pre .1 .0)
-
-walk-remember-requires : (t : ℕ) → walk-lts.Need-remember-requires (walk-calls t) (walk-at t) walk.Post
-walk-remember-requires t c κs =
-    let tested = c .before .before in
-    let walked = tested .before .before in
+walk-add-r : (t : ℕ) → walk-lts.Need-add-r (walk-calls t) (walk-at t) walk.Post
+walk-add-r t c =
+    let walked = c .before in
     let looked = walked .before .before .before .before in
-    let start = looked .before .before .before .before .before .before .before in
+    let start = looked .before .before in
     let args = start .args in
     let e = looked .term-at .result in
-    let b = walked .walk-args .result in (
-      met-short (args .terms .now) (args .x .p) (args .x .q) (args .x .r) (args .x .s) (args .x .t) (e .head) (argsOf e) b
-          (walked .walk-args .ensures .found (omega (arith, tested .if4 .left))),
-      omega (arith, tested .if4 .left, start .pre .1 .0),
-    )
+    let r = walked .walk-args .result in
+    let l = said-small (args .terms .now) (args .x .p) (args .x .q) (args .x .r) (args .x .s) (args .x .t) (e .head) (argsOf e) r
+    (walked .walk-args .ensures .found (c .if2 .left) .0) in
+    search needs
 
-walk-returns-5 : (t : ℕ) → walk-lts.Need-returns-5 (walk-calls t) (walk-at t) walk.Post
-walk-returns-5 t c =
-    let tested = c .before .before .before in
-    let walked = tested .before .before in
+walk-remember-requires : (t : ℕ) → walk-lts.Need-remember-requires (walk-calls t) (walk-at t) walk.Post
+walk-remember-requires t c κs = search needs
+
+walk-returns-3 : (t : ℕ) → walk-lts.Need-returns-3 (walk-calls t) (walk-at t) walk.Post
+walk-returns-3 t c =
+    let tested = c .before .before in
+    let walked = tested .before in
     let passed = walked .before .before in
     let looked = passed .before .before in
-    let fresh = looked .before .before .before .before in
-    let start = fresh .before .before .before in
-    let on = goes-on (start .args .left) (passed .before .is-connective .result) (passed .if3 .left) in
-    row-found _ _ _ _ _ _ (looked .term-at .ensures) (fresh .before .marks .ensures) (fresh .if1 .left) (start .pre .1 .0)
-    (on .0) _ (walked .walk-args .ensures) (sym (passed .before .is-connective .ensures) ∙ on .1) (tested .if4 .left) _ (c .remember .ensures)
+    let start = looked .before .before in
+    let on = goes-on (start .args .left) (passed .before .is-connective .result) (passed .if1 .left) in
+    row-found _ _ _ _ _ _ (looked .term-at .ensures) (start .pre .1 .1) (on .0) (walked .walk-args .ensures) (start .pre .1 .0)
+    (sym (passed .before .is-connective .ensures) ∙ on .1) (tested .if2 .left) _ (c .remember .ensures)
+
+-- ---- walk_args: one argument after the other, known or walked
+
+either : {A B C : Type 0} → A ⊎ B → (A → C) → (B → C) → C
+either (inl x) f g = f x
+either (inr y) f g = g y
+
+abbrev Begun : ℕ → Type 0
+Begun t = walk-args-lts.Start (walk-args-calls t) (walk-args-at t) walk-args.Post
+
+-- of argument u, a says what is found, and what is remembered then is memo
+abbrev Row : (t : ℕ) → Begun t → List ℕ → ℕ → ℕ → Type 0
+Row t start memo u a = WalksRow (start .args .terms .now) (premisesOf (start .args .x)) memo (start .args .left) u a
+
+row-a : (t : ℕ) (j : walk-args-lts.Joined2 (walk-args-calls t) (walk-args-at t) walk-args.Post) → let start = j .before .before .before .before .before .before in Row t start (j .if2 .memo) (start .args .e .a) (j .if2 .a)
+row-a t j =
+    let start = j .before .before .before .before .before .before in
+    either (j .if2 .came)
+    (λ y. subst₂ (λ memo a. Row t start memo (start .args .e .a) a) (sym (y .3)) (sym (y .4)) (y .2 .ensures))
+    (λ y.
+    subst (λ memo. Row t start memo (start .args .e .a) (j .if2 .a)) (sym (y .2))
+    (row-known _ _ _ _ _ (start .pre .1 .2) (j .before .recall .ensures) (y .0 .left) (y .3 ∙ y .1 .ensures)))
+
+row-b : (t : ℕ) (j : walk-args-lts.Joined4 (walk-args-calls t) (walk-args-at t) walk-args.Post) → let start = j .before .before .before .before .before .before .before .before .before .before .before in Row t start (j .if4 .memo) (start .args .e .b) (j .if4 .b)
+row-b t j =
+    let start = j .before .before .before .before .before .before .before .before .before .before .before in
+    either (j .if4 .came)
+    (λ y. subst₂ (λ memo b. Row t start memo (start .args .e .b) b) (sym (y .3)) (sym (y .4)) (y .2 .ensures))
+    (λ y.
+    subst (λ memo. Row t start memo (start .args .e .b) (j .if4 .b)) (sym (y .2))
+    (row-known _ _ _ _ _ (row-a t (j .before .before .before .before .before) .knows) (j .before .recall2 .ensures) (y .0 .left) (y .3 ∙ y .1 .ensures)))
+
+row-c : (t : ℕ) (j : walk-args-lts.Joined6 (walk-args-calls t) (walk-args-at t) walk-args.Post) → let start = j .before .before .before .before .before .before .before .before .before .before .before .before .before .before .before .before in Row t start (j .if6 .memo) (start .args .e .c) (j .if6 .c)
+row-c t j =
+    let start = j .before .before .before .before .before .before .before .before .before .before .before .before .before .before .before .before in
+    either (j .if6 .came)
+    (λ y. subst₂ (λ memo c. Row t start memo (start .args .e .c) c) (sym (y .3)) (sym (y .4)) (y .2 .ensures))
+    (λ y.
+    subst (λ memo. Row t start memo (start .args .e .c) (j .if6 .c)) (sym (y .2))
+    (row-known _ _ _ _ _ (row-b t (j .before .before .before .before .before) .knows) (j .before .recall3 .ensures) (y .0 .left) (y .3 ∙ y .1 .ensures)))
+
+row-d : (t : ℕ) (j : walk-args-lts.Joined8 (walk-args-calls t) (walk-args-at t) walk-args.Post) → let start = j .before .before .before .before .before .before .before .before .before .before .before .before .before .before .before .before .before .before .before .before .before in Row t start (j .if8 .memo) (start .args .e .d) (j .if8 .d)
+row-d t j =
+    let start = j .before .before .before .before .before .before .before .before .before .before .before .before .before .before .before .before .before .before .before .before .before in
+    either (j .if8 .came)
+    (λ y. subst₂ (λ memo d. Row t start memo (start .args .e .d) d) (sym (y .3)) (sym (y .4)) (y .2 .ensures))
+    (λ y.
+    subst (λ memo. Row t start memo (start .args .e .d) (j .if8 .d)) (sym (y .2))
+    (row-known _ _ _ _ _ (row-c t (j .before .before .before .before .before) .knows) (j .before .recall4 .ensures) (y .0 .left) (y .3 ∙ y .1 .ensures)))
 
 -- ---- walk_args
 
-walk-args-no-argument-requires : (t : ℕ) → walk-args-lts.Need-no-argument-requires (walk-args-calls t) (walk-args-at t) walk-args.Post
-walk-args-no-argument-requires t c κs = search needs
+walk-args-none-requires : (t : ℕ) → walk-args-lts.Need-none-requires (walk-args-calls t) (walk-args-at t) walk-args.Post
+walk-args-none-requires t c κs = search needs
+
+walk-args-packed-requires : (t : ℕ) → walk-args-lts.Need-packed-requires (walk-args-calls t) (walk-args-at t) walk-args.Post
+walk-args-packed-requires t c κs = subst Small (sym (c .none .ensures)) (record { met = omega arith; height = omega arith })
 
 walk-args-returns : (t : ℕ) → walk-args-lts.Need-returns (walk-args-calls t) (walk-args-at t) walk-args.Post
 walk-args-returns t c =
-    let start = c .before .before .before .before in
-    args-end _ _ _ (start .args .e) (start .pre .1 .1) _ (c .before .if1 .taken) (c .no-argument .ensures) (start .pre .1 .2)
+    let start = c .before .before .before .before .before in
+    none-said _ _ (start .args .left) (start .args .e .head) (start .pre .1 .1) _ (start .args .e) (c .before .before .if1 .taken)
+    (c .packed .ensures .0 ∙ c .before .none .ensures, c .packed .ensures .1) (start .pre .1 .2)
+
+walk-args-recall-requires : (t : ℕ) → walk-args-lts.Need-recall-requires (walk-args-calls t) (walk-args-at t) walk-args.Post
+walk-args-recall-requires t c κs = search needs
 
 walk-args-walk-requires : (t : ℕ) → walk-args-lts.Need-walk-requires (walk-args-calls t) (walk-args-at t) walk-args.Post
 walk-args-walk-requires t c κs =
-    let start = c .before .before .before .before in
-    (omega (arith, start .pre .0), (start .pre .1 .0, start .pre .1 .2))
+    let start = c .before .before .before .before .before .before .before in
+    let knows = start .pre .1 .2 in
+    (omega (arith, start .pre .0), (start .pre .1 .0, told-none _ _ _ knows _ _ (c .before .before .recall .ensures) (c .before .if2 .taken), knows))
 
-walk-args-nowhere-requires : (t : ℕ) → walk-args-lts.Need-nowhere-requires (walk-args-calls t) (walk-args-at t) walk-args.Post
-walk-args-nowhere-requires t c κs = search needs
+walk-args-within-requires : (t : ℕ) → walk-args-lts.Need-within-requires (walk-args-calls t) (walk-args-at t) walk-args.Post
+walk-args-within-requires t c κs = search needs
+
+walk-args-one-requires : (t : ℕ) → walk-args-lts.Need-one-requires (walk-args-calls t) (walk-args-at t) walk-args.Post
+walk-args-one-requires t c κs = search needs
+
+walk-args-said-requires : (t : ℕ) → walk-args-lts.Need-said-requires (walk-args-calls t) (walk-args-at t) walk-args.Post
+walk-args-said-requires t c κs =
+    let at-a = c .before .before .before in
+    let start = at-a .before .before .before .before .before .before in
+    let x = start .args .x in
+    let h = start .args .e .head in
+    λ u.
+    subst Small (sym (c .one .ensures))
+    (smalls (start .args .terms .now) (x .p) (x .q) (x .r) (x .s) (x .t) (start .args .left) h (filled (start .args .e .a ∷ []))
+    (at-a .if2 .a ∷ []) (start .pre .1 .0)
+    (one-good _ _ (start .args .left) h (start .pre .1 .1) (start .args .e) (at-a .before .before .before .if1 .left) (row-a t at-a) u))
 
 walk-args-returns-2 : (t : ℕ) → walk-args-lts.Need-returns-2 (walk-args-calls t) (walk-args-at t) walk-args.Post
 walk-args-returns-2 t c =
-    let walked = c .before .before .before in
-    let some = walked .before .before in
-    let start = some .before .before .before in
-    args-stopped _ _ _ (start .args .e) (start .pre .1 .1) (some .if1 .left) _ _ (walked .walk .ensures)
-    (start .pre .1 .0) (c .before .if2 .taken) (c .nowhere .ensures)
+    let at-a = c .before .before .before .before in
+    let start = at-a .before .before .before .before .before .before in
+    one-said _ _ (start .args .left) (start .args .e .head) (start .pre .1 .1) (start .args .e) (at-a .before .before .before .if1 .left) (row-a t at-a)
+    (c .before .before .if3 .taken) (subst (λ (w : Walked). Says w (at-a .if2 .a) (c .said .result)) (c .before .one .ensures) (c .said .ensures))
 
-walk-args-tail-requires : (t : ℕ) → walk-args-lts.Need-tail-requires (walk-args-calls t) (walk-args-at t) walk-args.Post
-walk-args-tail-requires t c κs = search needs
+walk-args-recall-requires-2 : (t : ℕ) → walk-args-lts.Need-recall-requires-2 (walk-args-calls t) (walk-args-at t) walk-args.Post
+walk-args-recall-requires-2 t c κs = search needs
 
-walk-args-walk-args-requires : (t : ℕ) → walk-args-lts.Need-walk-args-requires (walk-args-calls t) (walk-args-at t) walk-args.Post
-walk-args-walk-args-requires t c κs =
-    let walked = c .before .before .before .before in
-    let some = walked .before .before in
-    let start = some .before .before .before in (
-      omega (arith, args-fewer (start .args .e) (c .tail .result) (some .if1 .left) (c .tail .ensures), start .pre .0),
-      (start .pre .1 .0, ap (λ (z : Term). connects (z .head)) (c .tail .ensures) ∙ start .pre .1 .1, walked .walk .ensures .remembers),
-    )
+walk-args-walk-requires-2 : (t : ℕ) → walk-args-lts.Need-walk-requires-2 (walk-args-calls t) (walk-args-at t) walk-args.Post
+walk-args-walk-requires-2 t c κs =
+    let start = c .before .before .before .before .before .before .before .before .before .before .before .before in
+    let knows = row-a t (c .before .before .before .before .before .before) .knows in
+    (omega (arith, start .pre .0), (start .pre .1 .0, told-none _ _ _ knows _ _ (c .before .before .recall2 .ensures) (c .before .if4 .taken), knows))
 
-walk-args-joined-requires : (t : ℕ) → walk-args-lts.Need-joined-requires (walk-args-calls t) (walk-args-at t) walk-args.Post
-walk-args-joined-requires t c κs = search needs
+walk-args-within-requires-2 : (t : ℕ) → walk-args-lts.Need-within-requires-2 (walk-args-calls t) (walk-args-at t) walk-args.Post
+walk-args-within-requires-2 t c κs = search needs
+
+walk-args-two-requires : (t : ℕ) → walk-args-lts.Need-two-requires (walk-args-calls t) (walk-args-at t) walk-args.Post
+walk-args-two-requires t c κs = search needs
+
+walk-args-said-requires-2 : (t : ℕ) → walk-args-lts.Need-said-requires-2 (walk-args-calls t) (walk-args-at t) walk-args.Post
+walk-args-said-requires-2 t c κs =
+    let at-b = c .before .before .before in
+    let at-a = at-b .before .before .before .before .before in
+    let start = at-a .before .before .before .before .before .before in
+    let on-a = follows (at-a .if2 .a) (start .args .e .b) (at-b .before .before .before .if3 .left) in
+    let x = start .args .x in
+    let h = start .args .e .head in
+    λ u.
+    subst Small (sym (c .two .ensures))
+    (smalls (start .args .terms .now) (x .p) (x .q) (x .r) (x .s) (x .t) (start .args .left) h (filled (start .args .e .a ∷ start .args .e .b ∷ []))
+    (at-a .if2 .a ∷ at-b .if4 .b ∷ []) (start .pre .1 .0)
+    (two-good _ _ (start .args .left) h (start .pre .1 .1) (start .args .e) (at-a .before .before .before .if1 .left) (row-a t at-a) (on-a .0) (on-a .1) (row-b t at-b) u))
 
 walk-args-returns-3 : (t : ℕ) → walk-args-lts.Need-returns-3 (walk-args-calls t) (walk-args-at t) walk-args.Post
 walk-args-returns-3 t c =
-    let tested = c .before .before .before .before in
-    let walked = tested .before .before in
-    let some = walked .before .before in
-    let start = some .before .before .before in
-    args-found _ _ _ (start .args .e) (start .pre .1 .1) (some .if1 .left) _ _ (walked .walk .ensures)
-    (tested .if2 .left) _ _ _ (c .before .before .tail .ensures) (c .before .walk-args .ensures) (c .joined .ensures)
+    let at-b = c .before .before .before .before in
+    let at-a = at-b .before .before .before .before .before in
+    let start = at-a .before .before .before .before .before .before in
+    let on-a = follows (at-a .if2 .a) (start .args .e .b) (at-b .before .before .before .if3 .left) in
+    two-said _ _ (start .args .left) (start .args .e .head) (start .pre .1 .1) (start .args .e) (at-a .before .before .before .if1 .left) (row-a t at-a) (on-a .0) (on-a .1) (row-b t at-b)
+    (c .before .before .if5 .taken) (subst (λ (w : Walked). Says w (at-b .if4 .b) (c .said2 .result)) (c .before .two .ensures) (c .said2 .ensures))
+
+walk-args-recall-requires-3 : (t : ℕ) → walk-args-lts.Need-recall-requires-3 (walk-args-calls t) (walk-args-at t) walk-args.Post
+walk-args-recall-requires-3 t c κs = search needs
+
+walk-args-walk-requires-3 : (t : ℕ) → walk-args-lts.Need-walk-requires-3 (walk-args-calls t) (walk-args-at t) walk-args.Post
+walk-args-walk-requires-3 t c κs =
+    let start = c .before .before .before .before .before .before .before .before .before .before .before .before .before .before .before .before .before in
+    let knows = row-b t (c .before .before .before .before .before .before) .knows in
+    (omega (arith, start .pre .0), (start .pre .1 .0, told-none _ _ _ knows _ _ (c .before .before .recall3 .ensures) (c .before .if6 .taken), knows))
+
+walk-args-within-requires-3 : (t : ℕ) → walk-args-lts.Need-within-requires-3 (walk-args-calls t) (walk-args-at t) walk-args.Post
+walk-args-within-requires-3 t c κs = search needs
+
+walk-args-three-requires : (t : ℕ) → walk-args-lts.Need-three-requires (walk-args-calls t) (walk-args-at t) walk-args.Post
+walk-args-three-requires t c κs = search needs
+
+walk-args-said-requires-3 : (t : ℕ) → walk-args-lts.Need-said-requires-3 (walk-args-calls t) (walk-args-at t) walk-args.Post
+walk-args-said-requires-3 t c κs =
+    let at-c = c .before .before .before in
+    let at-b = at-c .before .before .before .before .before in
+    let at-a = at-b .before .before .before .before .before in
+    let start = at-a .before .before .before .before .before .before in
+    let on-a = follows (at-a .if2 .a) (start .args .e .b) (at-b .before .before .before .if3 .left) in
+    let on-b = follows (at-b .if4 .b) (start .args .e .c) (at-c .before .before .before .if5 .left) in
+    let x = start .args .x in
+    let h = start .args .e .head in
+    λ u.
+    subst Small (sym (c .three .ensures))
+    (smalls (start .args .terms .now) (x .p) (x .q) (x .r) (x .s) (x .t) (start .args .left) h (filled (start .args .e .a ∷ start .args .e .b ∷ start .args .e .c ∷ []))
+    (at-a .if2 .a ∷ at-b .if4 .b ∷ at-c .if6 .c ∷ []) (start .pre .1 .0)
+    (three-good _ _ (start .args .left) h (start .pre .1 .1) (start .args .e) (at-a .before .before .before .if1 .left) (row-a t at-a) (on-a .0) (on-a .1) (row-b t at-b) (on-b .0) (on-b .1) (row-c t at-c) u))
+
+walk-args-returns-4 : (t : ℕ) → walk-args-lts.Need-returns-4 (walk-args-calls t) (walk-args-at t) walk-args.Post
+walk-args-returns-4 t c =
+    let at-c = c .before .before .before .before in
+    let at-b = at-c .before .before .before .before .before in
+    let at-a = at-b .before .before .before .before .before in
+    let start = at-a .before .before .before .before .before .before in
+    let on-a = follows (at-a .if2 .a) (start .args .e .b) (at-b .before .before .before .if3 .left) in
+    let on-b = follows (at-b .if4 .b) (start .args .e .c) (at-c .before .before .before .if5 .left) in
+    three-said _ _ (start .args .left) (start .args .e .head) (start .pre .1 .1) (start .args .e) (at-a .before .before .before .if1 .left) (row-a t at-a) (on-a .0) (on-a .1) (row-b t at-b) (on-b .0) (on-b .1) (row-c t at-c)
+    (c .before .before .if7 .taken) (subst (λ (w : Walked). Says w (at-c .if6 .c) (c .said3 .result)) (c .before .three .ensures) (c .said3 .ensures))
+
+walk-args-recall-requires-4 : (t : ℕ) → walk-args-lts.Need-recall-requires-4 (walk-args-calls t) (walk-args-at t) walk-args.Post
+walk-args-recall-requires-4 t c κs = search needs
+
+walk-args-walk-requires-4 : (t : ℕ) → walk-args-lts.Need-walk-requires-4 (walk-args-calls t) (walk-args-at t) walk-args.Post
+walk-args-walk-requires-4 t c κs =
+    let start = c .before .before .before .before .before .before .before .before .before .before .before .before .before .before .before .before .before .before .before .before .before .before in
+    let knows = row-c t (c .before .before .before .before .before .before) .knows in
+    (omega (arith, start .pre .0), (start .pre .1 .0, told-none _ _ _ knows _ _ (c .before .before .recall4 .ensures) (c .before .if8 .taken), knows))
+
+walk-args-within-requires-4 : (t : ℕ) → walk-args-lts.Need-within-requires-4 (walk-args-calls t) (walk-args-at t) walk-args.Post
+walk-args-within-requires-4 t c κs = search needs
+
+walk-args-four-requires : (t : ℕ) → walk-args-lts.Need-four-requires (walk-args-calls t) (walk-args-at t) walk-args.Post
+walk-args-four-requires t c κs = search needs
+
+walk-args-said-requires-4 : (t : ℕ) → walk-args-lts.Need-said-requires-4 (walk-args-calls t) (walk-args-at t) walk-args.Post
+walk-args-said-requires-4 t c κs =
+    let at-d = c .before in
+    let at-c = at-d .before .before .before .before .before in
+    let at-b = at-c .before .before .before .before .before in
+    let at-a = at-b .before .before .before .before .before in
+    let start = at-a .before .before .before .before .before .before in
+    let on-a = follows (at-a .if2 .a) (start .args .e .b) (at-b .before .before .before .if3 .left) in
+    let on-b = follows (at-b .if4 .b) (start .args .e .c) (at-c .before .before .before .if5 .left) in
+    let on-c = follows (at-c .if6 .c) (start .args .e .d) (at-d .before .before .before .if7 .left) in
+    let x = start .args .x in
+    let h = start .args .e .head in
+    λ u.
+    subst Small (sym (c .four .ensures))
+    (smalls (start .args .terms .now) (x .p) (x .q) (x .r) (x .s) (x .t) (start .args .left) h (argsOf (start .args .e))
+    (at-a .if2 .a ∷ at-b .if4 .b ∷ at-c .if6 .c ∷ at-d .if8 .d ∷ []) (start .pre .1 .0)
+    (four-good _ _ (start .args .left) h (start .pre .1 .1) (start .args .e) (at-a .before .before .before .if1 .left) (row-a t at-a) (on-a .0) (on-a .1) (row-b t at-b) (on-b .0) (on-b .1) (row-c t at-c) (on-c .0) (on-c .1) (row-d t at-d) u))
+
+walk-args-returns-5 : (t : ℕ) → walk-args-lts.Need-returns-5 (walk-args-calls t) (walk-args-at t) walk-args.Post
+walk-args-returns-5 t c =
+    let at-d = c .before .before in
+    let at-c = at-d .before .before .before .before .before in
+    let at-b = at-c .before .before .before .before .before in
+    let at-a = at-b .before .before .before .before .before in
+    let start = at-a .before .before .before .before .before .before in
+    let on-a = follows (at-a .if2 .a) (start .args .e .b) (at-b .before .before .before .if3 .left) in
+    let on-b = follows (at-b .if4 .b) (start .args .e .c) (at-c .before .before .before .if5 .left) in
+    let on-c = follows (at-c .if6 .c) (start .args .e .d) (at-d .before .before .before .if7 .left) in
+    four-said _ _ (start .args .left) (start .args .e .head) (start .pre .1 .1) (start .args .e) (at-a .before .before .before .if1 .left) (row-a t at-a) (on-a .0) (on-a .1) (row-b t at-b) (on-b .0) (on-b .1) (row-c t at-c) (on-c .0) (on-c .1) (row-d t at-d)
+    (subst (λ (w : Walked). Says w (at-d .if8 .d) (c .said4 .result)) (c .before .four .ensures) (c .said4 .ensures))
 
 pub +walk+walk-args-spec : {M : Type 1} → statement M
 +walk+walk-args-spec =
     close μ-walk μ-walk-args
     (λ t.
     walk-lts.spec (walk-calls t) (walk-at t) walk.Post
-    (walk-marks-requires t)
-    (walk-value-on-requires t)
-    (walk-returns t)
-    (walk-recall-requires t)
-    (walk-unpacked-requires t)
-    (walk-returns-2 t)
     (walk-term-at-requires t)
     (walk-is-connective-requires t)
-    (walk-nowhere-requires t)
-    (walk-returns-3 t)
+    (walk-returns t)
     (walk-sub-walk-args t)
     (walk-walk-args-requires t)
-    (walk-nowhere-requires-2 t)
-    (walk-returns-4 t)
-    (walk-add-t19 t)
+    (walk-returns-2 t)
+    (walk-add-r t)
     (walk-remember-requires t)
-    (walk-returns-5 t))
+    (walk-returns-3 t))
     (λ t.
     walk-args-lts.spec (walk-args-calls t) (walk-args-at t) walk-args.Post
-    (walk-args-no-argument-requires t)
+    (walk-args-none-requires t)
+    (walk-args-packed-requires t)
     (walk-args-returns t)
+    (walk-args-recall-requires t)
     (walk-args-walk-requires t)
-    (walk-args-nowhere-requires t)
+    (walk-args-within-requires t)
+    (walk-args-one-requires t)
+    (walk-args-said-requires t)
     (walk-args-returns-2 t)
-    (walk-args-tail-requires t)
-    (walk-args-walk-args-requires t)
-    (walk-args-joined-requires t)
-    (walk-args-returns-3 t))
+    (walk-args-recall-requires-2 t)
+    (walk-args-walk-requires-2 t)
+    (walk-args-within-requires-2 t)
+    (walk-args-two-requires t)
+    (walk-args-said-requires-2 t)
+    (walk-args-returns-3 t)
+    (walk-args-recall-requires-3 t)
+    (walk-args-walk-requires-3 t)
+    (walk-args-within-requires-3 t)
+    (walk-args-three-requires t)
+    (walk-args-said-requires-3 t)
+    (walk-args-returns-4 t)
+    (walk-args-recall-requires-4 t)
+    (walk-args-walk-requires-4 t)
+    (walk-args-within-requires-4 t)
+    (walk-args-four-requires t)
+    (walk-args-said-requires-4 t)
+    (walk-args-returns-5 t))

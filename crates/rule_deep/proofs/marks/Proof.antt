@@ -1,6 +1,6 @@
 -- `rule_deep::marks` meets its contract.
 use borrow.Author.Needs.{needs}
-use Rattle.rule_deep.proofs.Laws.{marks-nil}
+use Rattle.rule_deep.proofs.Bits.{marks-nil}
 use Rattle.rule_deep.proofs.marks.Statement.{statement}
 use Rattle.rule_deep.proofs.marks.Tie as tie
 

@@ -2,7 +2,7 @@
 use borrow.Author.Needs.{needs}
 use native.Mathlib.Omega.{arith}
 use borrow.Author.Tests.{eq-eqb, ne-eqb}
-use Rattle.rule_deep.proofs.Laws.{marks-end, marks-set, marks-clear}
+use Rattle.rule_deep.proofs.Bits.{marks-end, marks-set, marks-clear}
 use Rattle.rule_deep.proofs.more_marks.Statement.{statement}
 use Rattle.rule_deep.proofs.more_marks.Tie as tie
 

@@ -1,5 +1,5 @@
 -- `rule_deep::more_value` meets its contract.
-use Rattle.rule_deep.proofs.Laws.{value-end, value-first, value-later}
+use Rattle.rule_deep.proofs.Bits.{value-end, value-first, value-later}
 use Rattle.rule_deep.proofs.more_value.Statement.{statement}
 use Rattle.rule_deep.proofs.more_value.Tie as tie
 

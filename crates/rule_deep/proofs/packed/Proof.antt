@@ -1,28 +1,42 @@
 -- `rule_deep::packed` meets its contract.
-use mathlib.Core.Bool.{true, false}
 use borrow.Author.Needs.{needs}
-use native.Mathlib.Omega.{arith}
-use Rattle.rule_deep.proofs.Laws.{unpacks}
+use Rattle.rule_deep.proofs.Numbers.{number-le, packs}
 use Rattle.rule_deep.proofs.packed.Statement.{statement}
 use Rattle.rule_deep.proofs.packed.Tie as tie
 
-mul-c : tie.Need-mul-c
-mul-c c = search needs
+mul-result : tie.Need-mul-result
+mul-result c = search needs
 
-mul-c-2 : tie.Need-mul-c-2
-mul-c-2 c = search needs
-
-add-c : tie.Need-add-c
-add-c c = search needs
+mul-result-2 : tie.Need-mul-result-2
+mul-result-2 c = search needs
 
 add-result : tie.Need-add-result
 add-result c = search needs
 
-returns : tie.Need-returns
-returns c = unpacks _ true (c .before .before .before .pre .1) (c .if1 .taken) _ (omega arith)
+number-requires : tie.Need-number-requires
+number-requires c κs = search needs
 
-returns-2 : tie.Need-returns-2
-returns-2 c = unpacks _ false (c .before .before .before .pre .1) (c .if1 .left) _ (omega arith)
+mul-result-3 : tie.Need-mul-result-3
+mul-result-3 c = let l = number-le (c .before .before .before .args .r .truth) (c .number .ensures) in search needs
+
+add-result-2 : tie.Need-add-result-2
+add-result-2 c = let l = number-le (c .before .before .before .args .r .truth) (c .number .ensures) in search needs
+
+add-result-3 : tie.Need-add-result-3
+add-result-3 c = let l = number-le (c .before .before .before .args .r .truth) (c .number .ensures) in search needs
+
+returns : tie.Need-returns
+returns c = packs _ (c .before .before .before .pre) (c .number .ensures)
 
 pub packed-spec : {M : Type 1} → statement M
-packed-spec = tie.close (tie.spec mul-c mul-c-2 add-c add-result returns returns-2)
+packed-spec =
+    tie.close
+    (tie.spec
+    mul-result
+    mul-result-2
+    add-result
+    number-requires
+    mul-result-3
+    add-result-2
+    add-result-3
+    returns)

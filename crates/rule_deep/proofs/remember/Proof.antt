@@ -2,12 +2,9 @@
 use borrow.Author.Needs.{needs}
 use mathlib.Core.Path.{refl}
 use mathlib.Core.Logic.{inl}
-use Rattle.rule_deep.proofs.Laws.{remembers}
+use Rattle.rule_deep.proofs.Memory.{remembered}
 use Rattle.rule_deep.proofs.remember.Statement.{statement}
 use Rattle.rule_deep.proofs.remember.Tie as tie
-
-packed-requires : tie.Need-packed-requires
-packed-requires c κs = search needs
 
 cast-memo : tie.Need-cast-memo
 cast-memo c = search needs
@@ -19,11 +16,10 @@ element-write-memo : tie.Need-element-write-memo
 element-write-memo c = search needs
 
 returns : tie.Need-returns
-returns c = remembers (c .before .before .before .before .args .memo .now) _ _ _ (c .before .packed .ensures)
+returns c = remembered (c .before .before .before .args .memo .now) _ _
 
 returns-2 : tie.Need-returns-2
 returns-2 c u = inl refl
 
 pub remember-spec : {M : Type 1} → statement M
-remember-spec =
-    tie.close (tie.spec packed-requires cast-memo mul-memo element-write-memo returns returns-2)
+remember-spec = tie.close (tie.spec cast-memo mul-memo element-write-memo returns returns-2)

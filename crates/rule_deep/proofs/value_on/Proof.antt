@@ -1,6 +1,6 @@
 -- `rule_deep::value_on` meets its contract.
 use borrow.Author.Needs.{needs}
-use Rattle.rule_deep.proofs.Laws.{value-nil}
+use Rattle.rule_deep.proofs.Bits.{value-nil}
 use Rattle.rule_deep.proofs.value_on.Statement.{statement}
 use Rattle.rule_deep.proofs.value_on.Tie as tie
 
