@@ -19,7 +19,7 @@ use Rattle.calculus.proofs.Forms.{connective-case}
 use Rattle.calculus.proofs.Deep.{premise-here, grounded-here, value-here}
 use Rattle.rule_claims.specs.Claims.{stated}
 use Rattle.rule_deep.specs.declared.Walked.{Walked}
-use Rattle.rule_deep.specs.Walks.{marked, everyOne, itself, connects, noArgument, connected, joined, Finds, FindsRow, FindsArgs}
+use Rattle.rule_deep.specs.Walks.{marked, everyOne, itself, connects, noArgument, connected, joined, FindsRow, FindsArgs}
 use Rattle.rule_deep.proofs.Bits.{marks-all, marks-short, marks-same, marks-never, marks-either, on-premise}
 use Rattle.rule_deep.proofs.Numbers.{is-true-num, risen}
 
@@ -114,7 +114,9 @@ module _ (ts : List ℕ) (ps : List Premise) where
   one-more h c a r f xs b g =
       record {
         reach = λ n. ap₂ _&&_ (f .reach n) (g .reach n) ∙ sym (leb-max (r .height) (b .height) n);
-        truths = λ n l. connects-more (walkValue ts ps n a) (map (walkValue ts ps n) xs) h c ∙ ap₂ (connected h) (f .truths n (omega arith)) (g .truths n (omega arith));
+        truths = λ n l.
+            connects-more (walkValue ts ps n a) (map (walkValue ts ps n) xs) h c
+            ∙ ap₂ (connected h) (f .truths n (omega arith)) (g .truths n (omega arith));
         meets = λ n l. sym (marks-either _ _ ps) ∙ ap₂ bitOr (f .meets n (omega arith)) (g .meets n (omega arith));
       }
 

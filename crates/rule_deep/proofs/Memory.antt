@@ -102,7 +102,8 @@ notes-more bit before after p ps m low filled h n = rw (ne-eqb (p .row) blank fi
     own : (t : ℕ) → t < 256 → p .row ≡ t → code ≡ due t
     own t l e =
         let k = marked (itself t) qs in
-        let old : at (p .row) / 64 ≡ (bit + bit) * k = ap (λ u. at u / 64) e ∙ ap (λ c. c / 64) (h .noted t ∙ rw (lt-ltb t 256 l)) ∙ entry-met _ (premiseValue qs t) in
+        let there : at t ≡ entry ((bit + bit) * k) (premiseValue qs t) = h .noted t ∙ rw (lt-ltb t 256 l) in
+        let old : at (p .row) / 64 ≡ (bit + bit) * k = ap (λ u. at u / 64) e ∙ ap (λ c. c / 64) there ∙ entry-met _ (premiseValue qs t) in
         let new = entry-some (bit * (1 + 2 * k)) (p .value) (λ (z : bit * (1 + 2 * k) ≡ 0). omega (arith, shifted bit k true)) in
         rw (lt-ltb t 256 l, eq-eqb (p .row) t e) (omega (arith, old, new, shifted bit k true))
 
@@ -207,7 +208,8 @@ module _ (ts : List ℕ) (ps : List Premise) where
       near t n (no l) = let k : 256 ≤ t = omega arith in absurd (n (h .noted t ∙ rw (le-ltb t 256 k)))
 
   -- and with a row more
-  pub knows-more : (before after : List ℕ) (t c : ℕ) → Knows ts ps before → FindsRow ts ps t (unpacked c) → c ≢ 0 → Remembered before after t c → Knows ts ps after
+  pub knows-more : (before after : List ℕ) (t c : ℕ) → Knows ts ps before → FindsRow ts ps t (unpacked c) → c ≢ 0 → Remembered before after t c
+      → Knows ts ps after
   knows-more before after t c k f n r = record { remembers = λ u d. found u (r u) d; premises = λ u l z. none u l (r u) z }
     where
       found : (u : ℕ) → (getD after u 0 ≡ getD before u 0) ⊎ ((u ≡ t) × (getD after u 0 ≡ c)) → getD after u 0 ≢ 0

@@ -1,13 +1,13 @@
 -- The walks of a row and of its arguments, by what is found below.
-use mathlib.Core.Path.{_≡_, refl, sym, ap, ap₂, subst, _∙_}
+use mathlib.Core.Path.{_≡_, refl, sym, ap, subst, _∙_}
 use mathlib.Core.Logic.{_≢_, _⊎_, inl, inr}
 use mathlib.Core.Bool.{Bool, true, false, not, _&&_, _||_, cond, and-false}
 use mathlib.Core.List.{List, [], _∷_}
-use Prim.Native.Nat.{ℕ, zero, suc, _+_, _-_, _/_, _≤_, _<_, max}
+use Prim.Native.Nat.{ℕ, zero, suc, _+_, _-_, _/_, _≤_}
 use native.Mathlib.Omega.{arith}
 use lib.Dec.{eqb, leb}
 use lib.ListN.{length}
-use borrow.Author.Tests.{eqb-true, eqb-false, eq-eqb, ne-eqb, le-leb, lt-leb, leb-true, leb-false, not-true, not-false}
+use borrow.Author.Tests.{eqb-true, eqb-false, eq-eqb, ne-eqb, leb-true, not-true, not-false}
 use Rattle.calculus.specs.declared.Premise.{Premise}
 use Rattle.calculus.specs.declared.Term.{Term}
 use Rattle.calculus.specs.declared.Rule.the-variants.{Deep}
@@ -20,8 +20,8 @@ use Rattle.calculus.proofs.Forms.{filled-short}
 use Rattle.calculus.proofs.Deep.{value-here}
 use Rattle.rule_claims.specs.Claims.{stated}
 use Rattle.rule_deep.specs.declared.Walked.{Walked}
-use Rattle.rule_deep.specs.Walks.{marked, everyOne, itself, unpacked, entry, Small, Says, connects, noArgument, joined, chain, Notes, told, Remembered}
-use Rattle.rule_deep.specs.Walks.{Finds, FindsRow, FindsArgs, Knows, Walks, WalksRow, WalksArgs}
+use Rattle.rule_deep.specs.Walks.{marked, everyOne, itself, unpacked, Small, Says, connects, noArgument, chain, Notes, told, Remembered}
+use Rattle.rule_deep.specs.Walks.{FindsRow, FindsArgs, Knows, WalksRow, WalksArgs}
 use Rattle.rule_deep.proofs.Bits.{on-premise}
 use Rattle.rule_deep.proofs.Numbers.{risen, rises, entry-none, entry-met}
 use Rattle.rule_deep.proofs.Finds.{at-premise, above, no-argument, one-more, value-num, fits-found, met-short}
@@ -97,7 +97,7 @@ module _ (ts : List ℕ) (ps : List Premise) where
       pub row-found : n ≤ layers → connects (e .head) ≡ true → b ≢ 0 → (after : List ℕ) → Remembered memo after t (b + 4) → WalksRow ts ps after n t (b + 4)
       unfolding cells args
       row-found low c m after r =
-          record { lost = λ (z : b + 4 ≡ 0). absurd (omega arith); found = λ z. (f, high); knows = knows-more ts ps memo after t (b + 4) (w .knows) f some-number r }
+          record { lost = λ z. absurd (some-number z); found = λ z. (f, high); knows = knows-more ts ps memo after t (b + 4) (w .knows) f some-number r }
         where
           some-number : b + 4 ≢ 0
           some-number z = omega arith
@@ -205,7 +205,10 @@ module _ (ts : List ℕ) (ps : List Premise) where
               → WalksArgs ts ps after-c n h (argsOf t) r
           three-said stop s =
               said after-c (argsOf t) (a ∷ b ∷ c ∷ []) s (λ z. lost-b (t .c ∷ t .d ∷ []) (lost-here (t .c) (t .d ∷ []) c-in (wc .lost z)))
-              (λ u. with-b (t .c ∷ t .d ∷ []) (c ∷ []) (good-more (t .c) c (t .d ∷ []) [] c-in (wc .found u) (good-end (t .d) [] (ends c (t .d) stop u)))) (wc .knows)
+              (λ u.
+              with-b (t .c ∷ t .d ∷ []) (c ∷ [])
+              (good-more (t .c) c (t .d ∷ []) [] c-in (wc .found u) (good-end (t .d) [] (ends c (t .d) stop u))))
+              (wc .knows)
 
           module _ (c-on : c ≢ 0) (d-in : t .d ≢ blank) {d : ℕ} {after-d : List ℕ} (wd : WalksRow ts ps after-d n (t .d) d) where
             pub four-good : d ≢ 0 → Good (argsOf t) (a ∷ b ∷ c ∷ d ∷ [])

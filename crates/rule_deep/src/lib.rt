@@ -197,12 +197,12 @@ fn recall(memo: &[u16; 256], x: Claim, t: Row) -> u16
     entry(marks(x, t), value_on(x, t))
 }
 
-// Of row t, c is remembered.
-fn remember(memo: &mut [u16; 256], t: Row, c: u16)
-    ensures { λ _. ⌜ Remembered (now (memo .entry)) (now (memo .exit)) (t .0) c ⌝ }
+// Of this row, c is remembered.
+fn remember(memo: &mut [u16; 256], row: Row, c: u16)
+    ensures { λ _. ⌜ Remembered (now (memo .entry)) (now (memo .exit)) (row .0) c ⌝ }
 {
-    if t.0 < 256 {
-        memo[t.0 as usize] = c;
+    if row.0 < 256 {
+        memo[row.0 as usize] = c;
     }
 }
 

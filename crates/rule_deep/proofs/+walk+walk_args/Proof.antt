@@ -1,10 +1,11 @@
 -- The cycle of calls {walk, walk_args}. `walk` calls `walk_args` with one connective less left, and `walk_args` calls `walk` with as many left: so the
 -- measures are twice the connectives left, and one more for `walk_args`.
-use mathlib.Core.Path.{_≡_, refl, sym, ap, subst, subst₂, _∙_}
+use mathlib.Core.Path.{sym, subst, subst₂, _∙_}
 use mathlib.Core.Logic.{_≢_, _⊎_, inl, inr}
 use mathlib.Core.List.{List, [], _∷_}
 use native.Mathlib.Omega.{arith}
 use borrow.Author.Needs.{needs}
+use Rattle.calculus.specs.Sheets.{blank}
 use Rattle.calculus.specs.Terms.{filled, argsOf}
 use Rattle.rule_claims.specs.Claims.{premisesOf}
 use Rattle.rule_deep.specs.declared.Walked.{Walked}
@@ -161,48 +162,98 @@ either : {A B C : Type 0} → A ⊎ B → (A → C) → (B → C) → C
 either (inl x) f g = f x
 either (inr y) f g = g y
 
+-- where it starts, and where the first, second, third and fourth argument have been seen to
 abbrev Begun : ℕ → Type 0
 Begun t = walk-args-lts.Start (walk-args-calls t) (walk-args-at t) walk-args.Post
 
--- of argument u, a says what is found, and what is remembered then is memo
+abbrev Seen-a : ℕ → Type 0
+Seen-a t = walk-args-lts.Joined2 (walk-args-calls t) (walk-args-at t) walk-args.Post
+
+abbrev Seen-b : ℕ → Type 0
+Seen-b t = walk-args-lts.Joined4 (walk-args-calls t) (walk-args-at t) walk-args.Post
+
+abbrev Seen-c : ℕ → Type 0
+Seen-c t = walk-args-lts.Joined6 (walk-args-calls t) (walk-args-at t) walk-args.Post
+
+abbrev Seen-d : ℕ → Type 0
+Seen-d t = walk-args-lts.Joined8 (walk-args-calls t) (walk-args-at t) walk-args.Post
+
+abbrev begun-a : (t : ℕ) → Seen-a t → Begun t
+begun-a t j = j .before .before .before .before .before .before
+
+abbrev a-before-b : (t : ℕ) → Seen-b t → Seen-a t
+a-before-b t j = j .before .before .before .before .before
+
+abbrev begun-b : (t : ℕ) → Seen-b t → Begun t
+begun-b t j = begun-a t (a-before-b t j)
+
+abbrev b-before-c : (t : ℕ) → Seen-c t → Seen-b t
+b-before-c t j = j .before .before .before .before .before
+
+abbrev begun-c : (t : ℕ) → Seen-c t → Begun t
+begun-c t j = begun-b t (b-before-c t j)
+
+abbrev c-before-d : (t : ℕ) → Seen-d t → Seen-c t
+c-before-d t j = j .before .before .before .before .before
+
+abbrev begun-d : (t : ℕ) → Seen-d t → Begun t
+begun-d t j = begun-c t (c-before-d t j)
+
+-- of argument u, the number c says what is found, and memo is what is remembered then
 abbrev Row : (t : ℕ) → Begun t → List ℕ → ℕ → ℕ → Type 0
-Row t start memo u a = WalksRow (start .args .terms .now) (premisesOf (start .args .x)) memo (start .args .left) u a
+Row t start memo u c = WalksRow (start .args .terms .now) (premisesOf (start .args .x)) memo (start .args .left) u c
 
-row-a : (t : ℕ) (j : walk-args-lts.Joined2 (walk-args-calls t) (walk-args-at t) walk-args.Post) → let start = j .before .before .before .before .before .before in Row t start (j .if2 .memo) (start .args .e .a) (j .if2 .a)
+row-a : (t : ℕ) (j : Seen-a t) → Row t (begun-a t j) (j .if2 .memo) (begun-a t j .args .e .a) (j .if2 .a)
 row-a t j =
-    let start = j .before .before .before .before .before .before in
-    either (j .if2 .came)
-    (λ y. subst₂ (λ memo a. Row t start memo (start .args .e .a) a) (sym (y .3)) (sym (y .4)) (y .2 .ensures))
+    let start = begun-a t j in
+    let u = start .args .e .a in
+    let knows = start .pre .1 .2 in
+    either (j .if2 .came) (λ y. subst₂ (λ memo c. Row t start memo u c) (sym (y .3)) (sym (y .4)) (y .2 .ensures))
     (λ y.
-    subst (λ memo. Row t start memo (start .args .e .a) (j .if2 .a)) (sym (y .2))
-    (row-known _ _ _ _ _ (start .pre .1 .2) (j .before .recall .ensures) (y .0 .left) (y .3 ∙ y .1 .ensures)))
+    subst (λ memo. Row t start memo u (j .if2 .a)) (sym (y .2))
+    (row-known _ _ _ _ _ knows (j .before .recall .ensures) (y .0 .left) (y .3 ∙ y .1 .ensures)))
 
-row-b : (t : ℕ) (j : walk-args-lts.Joined4 (walk-args-calls t) (walk-args-at t) walk-args.Post) → let start = j .before .before .before .before .before .before .before .before .before .before .before in Row t start (j .if4 .memo) (start .args .e .b) (j .if4 .b)
+row-b : (t : ℕ) (j : Seen-b t) → Row t (begun-b t j) (j .if4 .memo) (begun-b t j .args .e .b) (j .if4 .b)
 row-b t j =
-    let start = j .before .before .before .before .before .before .before .before .before .before .before in
-    either (j .if4 .came)
-    (λ y. subst₂ (λ memo b. Row t start memo (start .args .e .b) b) (sym (y .3)) (sym (y .4)) (y .2 .ensures))
+    let start = begun-b t j in
+    let u = start .args .e .b in
+    let knows = row-a t (a-before-b t j) .knows in
+    either (j .if4 .came) (λ y. subst₂ (λ memo c. Row t start memo u c) (sym (y .3)) (sym (y .4)) (y .2 .ensures))
     (λ y.
-    subst (λ memo. Row t start memo (start .args .e .b) (j .if4 .b)) (sym (y .2))
-    (row-known _ _ _ _ _ (row-a t (j .before .before .before .before .before) .knows) (j .before .recall2 .ensures) (y .0 .left) (y .3 ∙ y .1 .ensures)))
+    subst (λ memo. Row t start memo u (j .if4 .b)) (sym (y .2))
+    (row-known _ _ _ _ _ knows (j .before .recall2 .ensures) (y .0 .left) (y .3 ∙ y .1 .ensures)))
 
-row-c : (t : ℕ) (j : walk-args-lts.Joined6 (walk-args-calls t) (walk-args-at t) walk-args.Post) → let start = j .before .before .before .before .before .before .before .before .before .before .before .before .before .before .before .before in Row t start (j .if6 .memo) (start .args .e .c) (j .if6 .c)
+row-c : (t : ℕ) (j : Seen-c t) → Row t (begun-c t j) (j .if6 .memo) (begun-c t j .args .e .c) (j .if6 .c)
 row-c t j =
-    let start = j .before .before .before .before .before .before .before .before .before .before .before .before .before .before .before .before in
-    either (j .if6 .came)
-    (λ y. subst₂ (λ memo c. Row t start memo (start .args .e .c) c) (sym (y .3)) (sym (y .4)) (y .2 .ensures))
+    let start = begun-c t j in
+    let u = start .args .e .c in
+    let knows = row-b t (b-before-c t j) .knows in
+    either (j .if6 .came) (λ y. subst₂ (λ memo c. Row t start memo u c) (sym (y .3)) (sym (y .4)) (y .2 .ensures))
     (λ y.
-    subst (λ memo. Row t start memo (start .args .e .c) (j .if6 .c)) (sym (y .2))
-    (row-known _ _ _ _ _ (row-b t (j .before .before .before .before .before) .knows) (j .before .recall3 .ensures) (y .0 .left) (y .3 ∙ y .1 .ensures)))
+    subst (λ memo. Row t start memo u (j .if6 .c)) (sym (y .2))
+    (row-known _ _ _ _ _ knows (j .before .recall3 .ensures) (y .0 .left) (y .3 ∙ y .1 .ensures)))
 
-row-d : (t : ℕ) (j : walk-args-lts.Joined8 (walk-args-calls t) (walk-args-at t) walk-args.Post) → let start = j .before .before .before .before .before .before .before .before .before .before .before .before .before .before .before .before .before .before .before .before .before in Row t start (j .if8 .memo) (start .args .e .d) (j .if8 .d)
+row-d : (t : ℕ) (j : Seen-d t) → Row t (begun-d t j) (j .if8 .memo) (begun-d t j .args .e .d) (j .if8 .d)
 row-d t j =
-    let start = j .before .before .before .before .before .before .before .before .before .before .before .before .before .before .before .before .before .before .before .before .before in
-    either (j .if8 .came)
-    (λ y. subst₂ (λ memo d. Row t start memo (start .args .e .d) d) (sym (y .3)) (sym (y .4)) (y .2 .ensures))
+    let start = begun-d t j in
+    let u = start .args .e .d in
+    let knows = row-c t (c-before-d t j) .knows in
+    either (j .if8 .came) (λ y. subst₂ (λ memo c. Row t start memo u c) (sym (y .3)) (sym (y .4)) (y .2 .ensures))
     (λ y.
-    subst (λ memo. Row t start memo (start .args .e .d) (j .if8 .d)) (sym (y .2))
-    (row-known _ _ _ _ _ (row-c t (j .before .before .before .before .before) .knows) (j .before .recall4 .ensures) (y .0 .left) (y .3 ∙ y .1 .ensures)))
+    subst (λ memo. Row t start memo u (j .if8 .d)) (sym (y .2))
+    (row-known _ _ _ _ _ knows (j .before .recall4 .ensures) (y .0 .left) (y .3 ∙ y .1 .ensures)))
+
+-- before argument b is looked at, a has a value, and b is filled
+a-on : (t : ℕ) (j : Seen-b t) → (a-before-b t j .if2 .a ≢ 0) × (begun-b t j .args .e .b ≢ blank)
+a-on t j = follows _ _ (j .before .before .before .if3 .left)
+
+-- before argument c is looked at, b has a value, and c is filled
+b-on : (t : ℕ) (j : Seen-c t) → (b-before-c t j .if4 .b ≢ 0) × (begun-c t j .args .e .c ≢ blank)
+b-on t j = follows _ _ (j .before .before .before .if5 .left)
+
+-- before argument d is looked at, c has a value, and d is filled
+c-on : (t : ℕ) (j : Seen-d t) → (c-before-d t j .if6 .c ≢ 0) × (begun-d t j .args .e .d ≢ blank)
+c-on t j = follows _ _ (j .before .before .before .if7 .left)
 
 -- ---- walk_args
 
@@ -225,7 +276,8 @@ walk-args-walk-requires : (t : ℕ) → walk-args-lts.Need-walk-requires (walk-a
 walk-args-walk-requires t c κs =
     let start = c .before .before .before .before .before .before .before in
     let knows = start .pre .1 .2 in
-    (omega (arith, start .pre .0), (start .pre .1 .0, told-none _ _ _ knows _ _ (c .before .before .recall .ensures) (c .before .if2 .taken), knows))
+    let none = told-none _ _ _ knows _ _ (c .before .before .recall .ensures) (c .before .if2 .taken) in
+    (omega (arith, start .pre .0), (start .pre .1 .0, none, knows))
 
 walk-args-within-requires : (t : ℕ) → walk-args-lts.Need-within-requires (walk-args-calls t) (walk-args-at t) walk-args.Post
 walk-args-within-requires t c κs = search needs
@@ -236,30 +288,33 @@ walk-args-one-requires t c κs = search needs
 walk-args-said-requires : (t : ℕ) → walk-args-lts.Need-said-requires (walk-args-calls t) (walk-args-at t) walk-args.Post
 walk-args-said-requires t c κs =
     let at-a = c .before .before .before in
-    let start = at-a .before .before .before .before .before .before in
+    let start = begun-a t at-a in
+    let e = start .args .e in
+    let good = one-good _ _ (start .args .left) (e .head) (start .pre .1 .1) e (at-a .before .before .before .if1 .left) (row-a t at-a) in
     let x = start .args .x in
-    let h = start .args .e .head in
     λ u.
     subst Small (sym (c .one .ensures))
-    (smalls (start .args .terms .now) (x .p) (x .q) (x .r) (x .s) (x .t) (start .args .left) h (filled (start .args .e .a ∷ []))
-    (at-a .if2 .a ∷ []) (start .pre .1 .0)
-    (one-good _ _ (start .args .left) h (start .pre .1 .1) (start .args .e) (at-a .before .before .before .if1 .left) (row-a t at-a) u))
+    (smalls (start .args .terms .now) (x .p) (x .q) (x .r) (x .s) (x .t) (start .args .left) (e .head) (filled (e .a ∷ []))
+    (at-a .if2 .a ∷ []) (start .pre .1 .0) (good u))
 
 walk-args-returns-2 : (t : ℕ) → walk-args-lts.Need-returns-2 (walk-args-calls t) (walk-args-at t) walk-args.Post
 walk-args-returns-2 t c =
     let at-a = c .before .before .before .before in
-    let start = at-a .before .before .before .before .before .before in
-    one-said _ _ (start .args .left) (start .args .e .head) (start .pre .1 .1) (start .args .e) (at-a .before .before .before .if1 .left) (row-a t at-a)
-    (c .before .before .if3 .taken) (subst (λ (w : Walked). Says w (at-a .if2 .a) (c .said .result)) (c .before .one .ensures) (c .said .ensures))
+    let start = begun-a t at-a in
+    let e = start .args .e in
+    let says = subst (λ (w : Walked). Says w (at-a .if2 .a) (c .said .result)) (c .before .one .ensures) (c .said .ensures) in
+    one-said _ _ (start .args .left) (e .head) (start .pre .1 .1) e (at-a .before .before .before .if1 .left) (row-a t at-a)
+    (c .before .before .if3 .taken) says
 
 walk-args-recall-requires-2 : (t : ℕ) → walk-args-lts.Need-recall-requires-2 (walk-args-calls t) (walk-args-at t) walk-args.Post
 walk-args-recall-requires-2 t c κs = search needs
 
 walk-args-walk-requires-2 : (t : ℕ) → walk-args-lts.Need-walk-requires-2 (walk-args-calls t) (walk-args-at t) walk-args.Post
 walk-args-walk-requires-2 t c κs =
-    let start = c .before .before .before .before .before .before .before .before .before .before .before .before in
+    let start = begun-a t (c .before .before .before .before .before .before) in
     let knows = row-a t (c .before .before .before .before .before .before) .knows in
-    (omega (arith, start .pre .0), (start .pre .1 .0, told-none _ _ _ knows _ _ (c .before .before .recall2 .ensures) (c .before .if4 .taken), knows))
+    let none = told-none _ _ _ knows _ _ (c .before .before .recall2 .ensures) (c .before .if4 .taken) in
+    (omega (arith, start .pre .0), (start .pre .1 .0, none, knows))
 
 walk-args-within-requires-2 : (t : ℕ) → walk-args-lts.Need-within-requires-2 (walk-args-calls t) (walk-args-at t) walk-args.Post
 walk-args-within-requires-2 t c κs = search needs
@@ -270,34 +325,37 @@ walk-args-two-requires t c κs = search needs
 walk-args-said-requires-2 : (t : ℕ) → walk-args-lts.Need-said-requires-2 (walk-args-calls t) (walk-args-at t) walk-args.Post
 walk-args-said-requires-2 t c κs =
     let at-b = c .before .before .before in
-    let at-a = at-b .before .before .before .before .before in
-    let start = at-a .before .before .before .before .before .before in
-    let on-a = follows (at-a .if2 .a) (start .args .e .b) (at-b .before .before .before .if3 .left) in
+    let at-a = a-before-b t at-b in
+    let start = begun-a t at-a in
+    let e = start .args .e in
+    let good = two-good _ _ (start .args .left) (e .head) (start .pre .1 .1) e (at-a .before .before .before .if1 .left) (row-a t at-a)
+    (a-on t at-b .0) (a-on t at-b .1) (row-b t at-b) in
     let x = start .args .x in
-    let h = start .args .e .head in
     λ u.
     subst Small (sym (c .two .ensures))
-    (smalls (start .args .terms .now) (x .p) (x .q) (x .r) (x .s) (x .t) (start .args .left) h (filled (start .args .e .a ∷ start .args .e .b ∷ []))
-    (at-a .if2 .a ∷ at-b .if4 .b ∷ []) (start .pre .1 .0)
-    (two-good _ _ (start .args .left) h (start .pre .1 .1) (start .args .e) (at-a .before .before .before .if1 .left) (row-a t at-a) (on-a .0) (on-a .1) (row-b t at-b) u))
+    (smalls (start .args .terms .now) (x .p) (x .q) (x .r) (x .s) (x .t) (start .args .left) (e .head) (filled (e .a ∷ e .b ∷ []))
+    (at-a .if2 .a ∷ at-b .if4 .b ∷ []) (start .pre .1 .0) (good u))
 
 walk-args-returns-3 : (t : ℕ) → walk-args-lts.Need-returns-3 (walk-args-calls t) (walk-args-at t) walk-args.Post
 walk-args-returns-3 t c =
     let at-b = c .before .before .before .before in
-    let at-a = at-b .before .before .before .before .before in
-    let start = at-a .before .before .before .before .before .before in
-    let on-a = follows (at-a .if2 .a) (start .args .e .b) (at-b .before .before .before .if3 .left) in
-    two-said _ _ (start .args .left) (start .args .e .head) (start .pre .1 .1) (start .args .e) (at-a .before .before .before .if1 .left) (row-a t at-a) (on-a .0) (on-a .1) (row-b t at-b)
-    (c .before .before .if5 .taken) (subst (λ (w : Walked). Says w (at-b .if4 .b) (c .said2 .result)) (c .before .two .ensures) (c .said2 .ensures))
+    let at-a = a-before-b t at-b in
+    let start = begun-a t at-a in
+    let e = start .args .e in
+    let says = subst (λ (w : Walked). Says w (at-b .if4 .b) (c .said2 .result)) (c .before .two .ensures) (c .said2 .ensures) in
+    two-said _ _ (start .args .left) (e .head) (start .pre .1 .1) e (at-a .before .before .before .if1 .left) (row-a t at-a)
+    (a-on t at-b .0) (a-on t at-b .1) (row-b t at-b)
+    (c .before .before .if5 .taken) says
 
 walk-args-recall-requires-3 : (t : ℕ) → walk-args-lts.Need-recall-requires-3 (walk-args-calls t) (walk-args-at t) walk-args.Post
 walk-args-recall-requires-3 t c κs = search needs
 
 walk-args-walk-requires-3 : (t : ℕ) → walk-args-lts.Need-walk-requires-3 (walk-args-calls t) (walk-args-at t) walk-args.Post
 walk-args-walk-requires-3 t c κs =
-    let start = c .before .before .before .before .before .before .before .before .before .before .before .before .before .before .before .before .before in
+    let start = begun-b t (c .before .before .before .before .before .before) in
     let knows = row-b t (c .before .before .before .before .before .before) .knows in
-    (omega (arith, start .pre .0), (start .pre .1 .0, told-none _ _ _ knows _ _ (c .before .before .recall3 .ensures) (c .before .if6 .taken), knows))
+    let none = told-none _ _ _ knows _ _ (c .before .before .recall3 .ensures) (c .before .if6 .taken) in
+    (omega (arith, start .pre .0), (start .pre .1 .0, none, knows))
 
 walk-args-within-requires-3 : (t : ℕ) → walk-args-lts.Need-within-requires-3 (walk-args-calls t) (walk-args-at t) walk-args.Post
 walk-args-within-requires-3 t c κs = search needs
@@ -308,38 +366,41 @@ walk-args-three-requires t c κs = search needs
 walk-args-said-requires-3 : (t : ℕ) → walk-args-lts.Need-said-requires-3 (walk-args-calls t) (walk-args-at t) walk-args.Post
 walk-args-said-requires-3 t c κs =
     let at-c = c .before .before .before in
-    let at-b = at-c .before .before .before .before .before in
-    let at-a = at-b .before .before .before .before .before in
-    let start = at-a .before .before .before .before .before .before in
-    let on-a = follows (at-a .if2 .a) (start .args .e .b) (at-b .before .before .before .if3 .left) in
-    let on-b = follows (at-b .if4 .b) (start .args .e .c) (at-c .before .before .before .if5 .left) in
+    let at-b = b-before-c t at-c in
+    let at-a = a-before-b t at-b in
+    let start = begun-a t at-a in
+    let e = start .args .e in
+    let good = three-good _ _ (start .args .left) (e .head) (start .pre .1 .1) e (at-a .before .before .before .if1 .left) (row-a t at-a)
+    (a-on t at-b .0) (a-on t at-b .1) (row-b t at-b)
+    (b-on t at-c .0) (b-on t at-c .1) (row-c t at-c) in
     let x = start .args .x in
-    let h = start .args .e .head in
     λ u.
     subst Small (sym (c .three .ensures))
-    (smalls (start .args .terms .now) (x .p) (x .q) (x .r) (x .s) (x .t) (start .args .left) h (filled (start .args .e .a ∷ start .args .e .b ∷ start .args .e .c ∷ []))
-    (at-a .if2 .a ∷ at-b .if4 .b ∷ at-c .if6 .c ∷ []) (start .pre .1 .0)
-    (three-good _ _ (start .args .left) h (start .pre .1 .1) (start .args .e) (at-a .before .before .before .if1 .left) (row-a t at-a) (on-a .0) (on-a .1) (row-b t at-b) (on-b .0) (on-b .1) (row-c t at-c) u))
+    (smalls (start .args .terms .now) (x .p) (x .q) (x .r) (x .s) (x .t) (start .args .left) (e .head) (filled (e .a ∷ e .b ∷ e .c ∷ []))
+    (at-a .if2 .a ∷ at-b .if4 .b ∷ at-c .if6 .c ∷ []) (start .pre .1 .0) (good u))
 
 walk-args-returns-4 : (t : ℕ) → walk-args-lts.Need-returns-4 (walk-args-calls t) (walk-args-at t) walk-args.Post
 walk-args-returns-4 t c =
     let at-c = c .before .before .before .before in
-    let at-b = at-c .before .before .before .before .before in
-    let at-a = at-b .before .before .before .before .before in
-    let start = at-a .before .before .before .before .before .before in
-    let on-a = follows (at-a .if2 .a) (start .args .e .b) (at-b .before .before .before .if3 .left) in
-    let on-b = follows (at-b .if4 .b) (start .args .e .c) (at-c .before .before .before .if5 .left) in
-    three-said _ _ (start .args .left) (start .args .e .head) (start .pre .1 .1) (start .args .e) (at-a .before .before .before .if1 .left) (row-a t at-a) (on-a .0) (on-a .1) (row-b t at-b) (on-b .0) (on-b .1) (row-c t at-c)
-    (c .before .before .if7 .taken) (subst (λ (w : Walked). Says w (at-c .if6 .c) (c .said3 .result)) (c .before .three .ensures) (c .said3 .ensures))
+    let at-b = b-before-c t at-c in
+    let at-a = a-before-b t at-b in
+    let start = begun-a t at-a in
+    let e = start .args .e in
+    let says = subst (λ (w : Walked). Says w (at-c .if6 .c) (c .said3 .result)) (c .before .three .ensures) (c .said3 .ensures) in
+    three-said _ _ (start .args .left) (e .head) (start .pre .1 .1) e (at-a .before .before .before .if1 .left) (row-a t at-a)
+    (a-on t at-b .0) (a-on t at-b .1) (row-b t at-b)
+    (b-on t at-c .0) (b-on t at-c .1) (row-c t at-c)
+    (c .before .before .if7 .taken) says
 
 walk-args-recall-requires-4 : (t : ℕ) → walk-args-lts.Need-recall-requires-4 (walk-args-calls t) (walk-args-at t) walk-args.Post
 walk-args-recall-requires-4 t c κs = search needs
 
 walk-args-walk-requires-4 : (t : ℕ) → walk-args-lts.Need-walk-requires-4 (walk-args-calls t) (walk-args-at t) walk-args.Post
 walk-args-walk-requires-4 t c κs =
-    let start = c .before .before .before .before .before .before .before .before .before .before .before .before .before .before .before .before .before .before .before .before .before .before in
+    let start = begun-c t (c .before .before .before .before .before .before) in
     let knows = row-c t (c .before .before .before .before .before .before) .knows in
-    (omega (arith, start .pre .0), (start .pre .1 .0, told-none _ _ _ knows _ _ (c .before .before .recall4 .ensures) (c .before .if8 .taken), knows))
+    let none = told-none _ _ _ knows _ _ (c .before .before .recall4 .ensures) (c .before .if8 .taken) in
+    (omega (arith, start .pre .0), (start .pre .1 .0, none, knows))
 
 walk-args-within-requires-4 : (t : ℕ) → walk-args-lts.Need-within-requires-4 (walk-args-calls t) (walk-args-at t) walk-args.Post
 walk-args-within-requires-4 t c κs = search needs
@@ -350,33 +411,35 @@ walk-args-four-requires t c κs = search needs
 walk-args-said-requires-4 : (t : ℕ) → walk-args-lts.Need-said-requires-4 (walk-args-calls t) (walk-args-at t) walk-args.Post
 walk-args-said-requires-4 t c κs =
     let at-d = c .before in
-    let at-c = at-d .before .before .before .before .before in
-    let at-b = at-c .before .before .before .before .before in
-    let at-a = at-b .before .before .before .before .before in
-    let start = at-a .before .before .before .before .before .before in
-    let on-a = follows (at-a .if2 .a) (start .args .e .b) (at-b .before .before .before .if3 .left) in
-    let on-b = follows (at-b .if4 .b) (start .args .e .c) (at-c .before .before .before .if5 .left) in
-    let on-c = follows (at-c .if6 .c) (start .args .e .d) (at-d .before .before .before .if7 .left) in
+    let at-c = c-before-d t at-d in
+    let at-b = b-before-c t at-c in
+    let at-a = a-before-b t at-b in
+    let start = begun-a t at-a in
+    let e = start .args .e in
+    let good = four-good _ _ (start .args .left) (e .head) (start .pre .1 .1) e (at-a .before .before .before .if1 .left) (row-a t at-a)
+    (a-on t at-b .0) (a-on t at-b .1) (row-b t at-b)
+    (b-on t at-c .0) (b-on t at-c .1) (row-c t at-c)
+    (c-on t at-d .0) (c-on t at-d .1) (row-d t at-d) in
     let x = start .args .x in
-    let h = start .args .e .head in
     λ u.
     subst Small (sym (c .four .ensures))
-    (smalls (start .args .terms .now) (x .p) (x .q) (x .r) (x .s) (x .t) (start .args .left) h (argsOf (start .args .e))
-    (at-a .if2 .a ∷ at-b .if4 .b ∷ at-c .if6 .c ∷ at-d .if8 .d ∷ []) (start .pre .1 .0)
-    (four-good _ _ (start .args .left) h (start .pre .1 .1) (start .args .e) (at-a .before .before .before .if1 .left) (row-a t at-a) (on-a .0) (on-a .1) (row-b t at-b) (on-b .0) (on-b .1) (row-c t at-c) (on-c .0) (on-c .1) (row-d t at-d) u))
+    (smalls (start .args .terms .now) (x .p) (x .q) (x .r) (x .s) (x .t) (start .args .left) (e .head) (argsOf e)
+    (at-a .if2 .a ∷ at-b .if4 .b ∷ at-c .if6 .c ∷ at-d .if8 .d ∷ []) (start .pre .1 .0) (good u))
 
 walk-args-returns-5 : (t : ℕ) → walk-args-lts.Need-returns-5 (walk-args-calls t) (walk-args-at t) walk-args.Post
 walk-args-returns-5 t c =
     let at-d = c .before .before in
-    let at-c = at-d .before .before .before .before .before in
-    let at-b = at-c .before .before .before .before .before in
-    let at-a = at-b .before .before .before .before .before in
-    let start = at-a .before .before .before .before .before .before in
-    let on-a = follows (at-a .if2 .a) (start .args .e .b) (at-b .before .before .before .if3 .left) in
-    let on-b = follows (at-b .if4 .b) (start .args .e .c) (at-c .before .before .before .if5 .left) in
-    let on-c = follows (at-c .if6 .c) (start .args .e .d) (at-d .before .before .before .if7 .left) in
-    four-said _ _ (start .args .left) (start .args .e .head) (start .pre .1 .1) (start .args .e) (at-a .before .before .before .if1 .left) (row-a t at-a) (on-a .0) (on-a .1) (row-b t at-b) (on-b .0) (on-b .1) (row-c t at-c) (on-c .0) (on-c .1) (row-d t at-d)
-    (subst (λ (w : Walked). Says w (at-d .if8 .d) (c .said4 .result)) (c .before .four .ensures) (c .said4 .ensures))
+    let at-c = c-before-d t at-d in
+    let at-b = b-before-c t at-c in
+    let at-a = a-before-b t at-b in
+    let start = begun-a t at-a in
+    let e = start .args .e in
+    let says = subst (λ (w : Walked). Says w (at-d .if8 .d) (c .said4 .result)) (c .before .four .ensures) (c .said4 .ensures) in
+    four-said _ _ (start .args .left) (e .head) (start .pre .1 .1) e (at-a .before .before .before .if1 .left) (row-a t at-a)
+    (a-on t at-b .0) (a-on t at-b .1) (row-b t at-b)
+    (b-on t at-c .0) (b-on t at-c .1) (row-c t at-c)
+    (c-on t at-d .0) (c-on t at-d .1) (row-d t at-d)
+    says
 
 pub +walk+walk-args-spec : {M : Type 1} → statement M
 +walk+walk-args-spec =
