@@ -7,6 +7,7 @@
 
 #![forbid(unsafe_code)]
 
+mod deep;
 mod engine;
 mod explain;
 mod place;

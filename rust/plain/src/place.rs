@@ -3,12 +3,12 @@
 //! For 13 that is the first column, from the term on, after which nothing to the
 //! right makes the row fit. Every way in which the rule gives the term a value is
 //! gone through; the one that agrees with the row for longest says how far the row
-//! can stand, and the column after that is the place.
+//! can stand, and the column after that is the place. With deep it is the term, always.
 
 use crate::problem::{AND, NOT, OR, SELECT};
 use crate::rules::{
-    part_head, unit_head, View, CONG, DIFFER, EVAL, NEG, PART, PRED, READ, REFL, SAME, SKIP, SYM,
-    TRANS, UNIT,
+    part_head, unit_head, View, CONG, DEEP, DIFFER, EVAL, NEG, PART, PRED, READ, REFL, SAME, SKIP,
+    SYM, TRANS, UNIT,
 };
 
 /// Columns of a step row, counted from 1.
@@ -45,6 +45,9 @@ type Visit<'a> = &'a mut dyn FnMut(&Way);
 impl View<'_> {
     /// The column at which a row that does not fit its rule went wrong.
     pub fn unfit_column(self, rule: u16, row: u8, value: u16, premises: &[u8]) -> u16 {
+        if rule == DEEP {
+            return TERM;
+        }
         let mut longest = None;
         self.ways(rule, row, value, &mut |way| {
             longest = longest.max(Some(way.agrees(premises)));

@@ -1,11 +1,11 @@
-//! The thirteen rules.
+//! The fourteen rules.
 
 use crate::engine::Entry;
 use crate::problem::{Term, AND, EQ, NOT, OR, SELECT, STORE};
 use crate::MAX_TERMS;
 
 /// How many rules there are.
-pub const RULES: u16 = 13;
+pub const RULES: u16 = 14;
 
 /// The rules, in the order of their numbers.
 pub const SAME: u16 = 0;
@@ -21,6 +21,7 @@ pub const CONG: u16 = 9;
 pub const PRED: u16 = 10;
 pub const READ: u16 = 11;
 pub const SKIP: u16 = 12;
+pub const DEEP: u16 = 13;
 
 /// The premises of a deduce, a clash or a fail; those past the length are 0.
 pub struct Premises {
@@ -108,6 +109,7 @@ impl<'a> View<'a> {
             }
             (READ, &[]) => value == 1 && self.read(row),
             (SKIP, &[p]) => value == 1 && self.value(p) == 0 && self.skip(row, p),
+            (DEEP, rows) => self.deep(row, value, rows),
             _ => false,
         }
     }

@@ -469,6 +469,7 @@ fn rule_word(word: &Field) -> u16 {
         b"pred" => 10,
         b"read" => 11,
         b"skip" => 12,
+        b"deep" => 13,
         _ => UNKNOWN,
     }
 }

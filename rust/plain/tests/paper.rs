@@ -233,7 +233,8 @@ fn the_order_of_clash_and_fail() {
     let same = step(FAIL, 0, E, 0, &[A, B]);
     for (kind, before, premise, misfit) in [(CLASH, vec![], E, neg), (FAIL, above, A, same)] {
         let number = |row: [u16; 9]| result(&inputs, &[&before[..], &[row]].concat())[2];
-        assert_eq!(number(step(kind, 13, 8, 1, &[8])), 9);
+        assert_eq!(number(step(kind, 14, 8, 1, &[8])), 9);
+        assert_eq!(number(step(kind, 13, 8, 1, &[8])), 11);
         assert_eq!(number(step(kind, X, 8, 1, &[8])), 9);
         assert_eq!(number(step(kind, 9, X, 1, &[8])), 9);
         assert_eq!(number(step(kind, 9, 8, 2, &[8])), 9);

@@ -230,6 +230,21 @@ fn arrays() {
     assert_eq!(unfit("ab false", "skip skip true ab ab - - -"), 6);
 }
 
+/// Whatever is wrong, it is placed at the term.
+#[test]
+fn through_several_layers() {
+    let all = "p true, q false, ab true, bc true, pp true, a 1";
+    assert_eq!(unfit(all, "deep or false p q ab bc -"), 3);
+    assert_eq!(unfit(all, "deep or true p q ab - -"), 3);
+    assert_eq!(unfit(all, "deep or true p q ab bc pp"), 3);
+    assert_eq!(unfit(all, "deep or true p q ab bc a"), 3);
+    assert_eq!(unfit(all, "deep or true - - - - -"), 3);
+    assert_eq!(unfit(all, "deep r true p - - - -"), 3);
+    assert_eq!(unfit(all, "deep np true p - - - -"), 3);
+    assert_eq!(unfit(all, "deep pp false pp - - - -"), 3);
+    assert_eq!(unfit(all, "deep pp true pp p - - -"), 3);
+}
+
 /// 11 and 12 have the first column with the fault.
 #[test]
 fn no_rows_and_absent_premises() {
@@ -246,6 +261,7 @@ fn no_rows_and_absent_premises() {
         assert_eq!(place("refl or true p p q p p"), (12, 7));
         assert_eq!(place("refl or true p p p q p"), (12, 8));
         assert_eq!(place("refl or true p p p p q"), (12, 9));
+        assert_eq!(place("deep or true p p q p p"), (12, 7));
         assert_eq!(place("refl a true p p p p q"), (22, 0));
         assert_eq!(place("refl or 2 p p p p q"), (9, 0));
     }
