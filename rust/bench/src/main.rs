@@ -269,6 +269,9 @@ fn all(bench: &Bench) -> Result<(), String> {
     bench.run("conflict-heavy log", &work::conflict_heavy(), true)?;
     bench.run("cut-heavy log", &work::cut_heavy(), true)?;
     bench.run("learn-heavy log", &work::learn_heavy(), true)?;
+    bench.run("deep-heavy log", &work::deep_heavy(), true)?;
+    bench.run("deep, shared rows", &work::deep_shared(), true)?;
+    bench.run("deep, all rows", &work::deep_wide(), true)?;
     bench.run("wide conflicts", &work::wide_conflicts(256), true)?;
     bench.run("wide conflicts, 64", &work::wide_conflicts(64), true)?;
     bench.run("terms, distinct heads", &work::distinct_heads(), false)?;

@@ -25,6 +25,7 @@ const UNIT: u16 = 7;
 const EVAL: u16 = 8;
 const CONG: u16 = 9;
 const PRED: u16 = 10;
+const DEEP: u16 = 13;
 
 /// Four sheets, and a line that says what they are.
 #[derive(Default)]
@@ -440,6 +441,122 @@ impl Sheets {
             let other = 1 - rule.values[last];
             self.step(DEDUCE, NEG, rule.props[last], other, &[rule.nots[last]]);
         }
+    }
+}
+
+/// Deductions by deep of formulas of two to four layers, each from three to five
+/// premises, one of them at level 1, whose decision a clash clears at the end.
+pub fn deep_heavy() -> Sheets {
+    let mut s = Sheets::new();
+    let (clearable, low) = s.level_one();
+    let given: Vec<u16> = (0..3).map(|_| s.constant(0)).collect();
+    for (at, &prop) in given.iter().enumerate() {
+        s.input(prop, at as u16 % 2);
+    }
+    let mut deduced = 0;
+    while s.rows() + 6 <= 256 {
+        let atom = s.constant(0);
+        s.input(atom, deduced / 3 % 2);
+        let both = s.prop(AND, &[atom, low]);
+        let not = s.prop(NOT, &[atom]);
+        // The or is true, and so is the and of it with the second of the given.
+        let mut formula = s.prop(OR, &[both, given[0], not]);
+        let mut premises = vec![given[0], atom, low];
+        if deduced % 3 > 0 {
+            formula = s.prop(AND, &[given[1], formula]);
+            premises.insert(1, given[1]);
+        }
+        if deduced % 3 > 1 {
+            formula = s.prop(AND, &[formula, given[2]]);
+            premises.push(given[2]);
+        }
+        let value = u16::from(deduced % 3 < 2);
+        s.step(DEDUCE, DEEP, formula, value, &premises);
+        deduced += 1;
+    }
+    s.deep_end(clearable, deduced, "deduces of two to four layers")
+}
+
+/// Deductions by deep that go into all rows of eight layers: four rows a layer, each over
+/// all four of the layer below, and on the last of them the conclusions.
+pub fn deep_shared() -> Sheets {
+    let mut s = Sheets::new();
+    let (clearable, base) = s.deep_base();
+    let mut below = base.clone();
+    for _ in 1..8 {
+        below = s.layer(&below, 4);
+    }
+    s.deep_tops(&below, &base, 48);
+    s.deep_end(clearable, 48, "deduces of eight layers of four rows")
+}
+
+/// The same over layers of more rows, which are about all that there can be.
+pub fn deep_wide() -> Sheets {
+    let mut s = Sheets::new();
+    let (clearable, base) = s.deep_base();
+    let mut below = base.clone();
+    for rows in [33, 33, 33, 33, 64, 16, 4] {
+        below = s.layer(&below, rows);
+    }
+    s.deep_tops(&below, &base, 24);
+    s.deep_end(clearable, 24, "deduces of eight layers, about all rows")
+}
+
+impl Sheets {
+    /// A cycle begins: a decision, and an equality that follows from it.
+    fn level_one(&mut self) -> ([u16; 3], u16) {
+        let clearable = self.clearable();
+        let c = clearable[0];
+        let d = self.constant(SORT);
+        self.input(d, 7);
+        let low = self.prop(EQ, &[c, d]);
+        self.step(DECIDE, X, c, 7, &[]);
+        self.step(DEDUCE, SAME, low, 1, &[c, d]);
+        (clearable, low)
+    }
+
+    /// Four premises, all of them true, one at level 1.
+    fn deep_base(&mut self) -> ([u16; 3], Vec<u16>) {
+        let (clearable, low) = self.level_one();
+        let mut base = vec![low];
+        for _ in 0..3 {
+            let prop = self.constant(0);
+            self.input(prop, 1);
+            base.push(prop);
+        }
+        (clearable, base)
+    }
+
+    /// So many different connectives of four rows of a layer, which has all of these.
+    fn layer(&mut self, below: &[u16], rows: usize) -> Vec<u16> {
+        let count = below.len();
+        (0..rows)
+            .map(|at| {
+                // At each turn round the layer the arguments stand in another order.
+                let turn = 4 * at / count;
+                let mut args = [0, 1, 2, 3].map(|arg| below[(4 * at + arg) % count]);
+                args.rotate_left(turn % 4);
+                args[1..].rotate_left(turn / 4 % 3);
+                args[2..].rotate_left(turn / 24 % 2);
+                self.prop([OR, AND][(at + turn / 12) % 2], &args)
+            })
+            .collect()
+    }
+
+    /// So many deductions of connectives of the four rows on top.
+    fn deep_tops(&mut self, below: &[u16], premises: &[u16], count: usize) {
+        for top in self.layer(below, count) {
+            self.step(DEDUCE, DEEP, top, 1, premises);
+        }
+    }
+
+    /// The end of the cycle, which is repeated.
+    fn deep_end(mut self, clearable: [u16; 3], deduced: u16, about: &str) -> Sheets {
+        self.clash_and_clear(clearable);
+        let (cycle, rows) = (self.step_rows(), self.rows());
+        self.about = format!("{deduced} {about} of a cycle of {cycle} steps, {rows} terms");
+        self.repeat();
+        self
     }
 }
 

@@ -4,54 +4,53 @@
 use crate::problem::{AND, NOT, OR};
 use crate::rules::View;
 use crate::MAX_TERMS;
+use std::num::NonZeroU8;
 
 /// So many connectives may lie on a path, the formula's own being the first.
 const LAYERS: u8 = 8;
 
-/// What a walk knows of a row: 0 for nothing yet, else its value and its layers, the
-/// most connectives on a path from it to a premise. A premise is known from the start,
-/// with no layers.
+/// What a walk knows of a row that has a value: the value, the layers, which are the
+/// most connectives on a path from it to a premise, and whether it was met.
 #[derive(Clone, Copy)]
-struct Known(u8);
+struct Known(NonZeroU8);
 
 impl Known {
-    const NOTHING: Known = Known(0);
     const VALUE: u8 = 1;
-    const LAYERS_AT: u8 = 1;
-    const LAYERS: u8 = 15 << Self::LAYERS_AT;
-    const IS_KNOWN: u8 = 32;
-    /// The row is a premise that the walk has not come to.
-    const AWAITED: u8 = 64;
+    const MET: u8 = 2;
+    const LAYERS_FROM: u32 = 2;
+    const LAYERS: u8 = 15;
+    const KNOWN: NonZeroU8 = NonZeroU8::new(128).unwrap();
 
+    /// A premise, which has no layers, before the walk comes to it.
     fn premise(value: u16) -> Self {
-        Known(Self::IS_KNOWN | Self::AWAITED | u8::from(value == 1))
+        Known(Self::KNOWN | u8::from(value == 1))
     }
 
+    /// A connective that the walk has come to.
     fn connective(layers: u8, value: bool) -> Self {
-        Known(Self::IS_KNOWN | layers << Self::LAYERS_AT | u8::from(value))
+        Known(Self::KNOWN | layers << Self::LAYERS_FROM | Self::MET | u8::from(value))
     }
 
     fn value(self) -> bool {
-        self.0 & Self::VALUE != 0
+        self.0.get() & Self::VALUE != 0
     }
 
     fn layers(self) -> u8 {
-        (self.0 & Self::LAYERS) >> Self::LAYERS_AT
+        self.0.get() >> Self::LAYERS_FROM & Self::LAYERS
     }
 
-    fn is_awaited(self) -> bool {
-        self.0 & Self::AWAITED != 0
+    fn is_met(self) -> bool {
+        self.0.get() & Self::MET != 0
     }
 
-    /// The same of a row that the walk has come to.
     fn met(self) -> Self {
-        Known(self.0 & !Self::AWAITED)
+        Known(self.0 | Self::MET)
     }
 }
 
 struct Walk<'a> {
     view: View<'a>,
-    known: [Known; MAX_TERMS],
+    known: [Option<Known>; MAX_TERMS],
 }
 
 impl View<'_> {
@@ -59,35 +58,39 @@ impl View<'_> {
     pub fn deep(self, row: u8, value: u16, premises: &[u8]) -> bool {
         let mut walk = Walk {
             view: self,
-            known: [Known::NOTHING; MAX_TERMS],
+            known: [None; MAX_TERMS],
         };
         for &premise in premises {
-            walk.known[usize::from(premise)] = Known::premise(self.value(premise));
+            walk.known[usize::from(premise)] = Some(Known::premise(self.value(premise)));
         }
-        let found = walk.down(row, LAYERS);
-        let is_awaited = |&premise: &u8| walk.known[usize::from(premise)].is_awaited();
-        found.is_some_and(|known| u16::from(known.value()) == value)
-            && !premises.iter().any(is_awaited)
+        let found = walk.come_to(row, LAYERS);
+        let is_met = |&premise: &u8| walk.known[usize::from(premise)].is_some_and(Known::is_met);
+        found.is_some_and(|known| u16::from(known.value()) == value) && premises.iter().all(is_met)
     }
 }
 
 impl Walk<'_> {
     /// What the walk finds at the row, if all its paths end at premises within so many
-    /// layers. A row is gone into once: what is not found ends the whole walk.
-    fn down(&mut self, row: u8, layers: u8) -> Option<Known> {
-        let at = usize::from(row);
-        let known = self.known[at];
-        if known.0 != 0 {
-            self.known[at] = known.met();
-            return (known.layers() <= layers).then_some(known);
-        }
+    /// layers. A row is gone into once: one that has no value ends the whole walk.
+    #[inline]
+    fn come_to(&mut self, row: u8, layers: u8) -> Option<Known> {
+        let Some(known) = &mut self.known[usize::from(row)] else {
+            return self.go_into(row, layers);
+        };
+        *known = known.met();
+        (known.layers() <= layers).then_some(*known)
+    }
+
+    /// The same of a row that nothing is known of: a connective, or a leaf without a
+    /// value.
+    fn go_into(&mut self, row: u8, layers: u8) -> Option<Known> {
         let term = self.view.term(row);
         if layers == 0 || !matches!(term.head, NOT | AND | OR) {
             return None;
         }
         let (mut below, mut any, mut all) = (0, false, true);
         for &arg in term.args() {
-            let arg = self.down(arg, layers - 1)?;
+            let arg = self.come_to(arg, layers - 1)?;
             below = arg.layers().max(below);
             any |= arg.value();
             all &= arg.value();
@@ -97,8 +100,8 @@ impl Walk<'_> {
             AND => all,
             _ => any,
         };
-        let found = Known::connective(below + 1, value);
-        self.known[at] = found;
-        Some(found)
+        let found = Some(Known::connective(below + 1, value));
+        self.known[usize::from(row)] = found;
+        found
     }
 }
