@@ -1,9 +1,9 @@
 //! A case: four sheets and two buffers, in good order or damaged.
 
 use crate::grow;
-use crate::learn::Shown;
 use crate::problem::{self, X};
 use crate::rng::Rng;
+use crate::{deep, learn};
 
 #[derive(Clone)]
 pub struct Case {
@@ -25,7 +25,9 @@ pub struct Made {
     pub probes: Vec<(usize, grow::Row)>,
     /// What the learns of the log and of the probes show; none if the sheets are
     /// damaged.
-    pub learns: Vec<Shown>,
+    pub learns: Vec<learn::Shown>,
+    /// What the rows by deep show, likewise.
+    pub deeps: Vec<deep::Shown>,
 }
 
 pub fn make(rng: &mut Rng) -> Made {
@@ -35,6 +37,7 @@ pub fn make(rng: &mut Rng) -> Made {
         late,
         mut probes,
         mut learns,
+        mut deeps,
     } = grow::log(rng, &problem);
     let mut case = Case {
         sorts: problem.sorts.into_flattened(),
@@ -47,6 +50,7 @@ pub fn make(rng: &mut Rng) -> Made {
     if rng.percent(30) {
         probes.clear();
         learns.clear();
+        deeps.clear();
         for _ in 0..rng.within(1, 2) {
             damage(rng, &mut case);
         }
@@ -57,6 +61,7 @@ pub fn make(rng: &mut Rng) -> Made {
         late,
         probes,
         learns,
+        deeps,
     }
 }
 

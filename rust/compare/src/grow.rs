@@ -1,7 +1,8 @@
 //! Logs grown step by step, each chosen among those allowed at the state the
 //! earlier ones made, then perhaps a step that is not allowed.
 
-use crate::learn::{self, Lesson, Shown, LEARN};
+use crate::deep::{self, DEEP};
+use crate::learn::{self, Lesson, LEARN};
 use crate::naive::{Entry, Model, Next};
 use crate::problem::{value, Problem, X};
 use crate::rng::Rng;
@@ -13,6 +14,9 @@ pub type Row = [u16; 9];
 const DEDUCE: u16 = 1;
 const CLASH: u16 = 2;
 const FAIL: u16 = 7;
+
+/// The rule whose uses deep takes too.
+const EVAL: u16 = 8;
 
 /// The other line of clash and fail.
 fn other_line(step: u16) -> u16 {
@@ -46,9 +50,9 @@ fn row(step: u16, rule: u16, term: u16, value: u16, premises: &[u16]) -> Row {
 }
 
 /// Which rules to try: the hard ones more often, so that all are used often.
-const TRIED: [u16; 31] = [
-    0, 0, 1, 1, 2, 3, 3, 4, 4, 4, 5, 5, 6, 6, 7, 7, 7, 7, 8, 8, 9, 9, 10, 10, 10, 10, 11, 12, 12,
-    12, 12,
+const TRIED: [u16; 35] = [
+    0, 0, 1, 1, 2, 3, 3, 4, 4, 4, 5, 5, 6, 6, 7, 7, 7, 7, 8, 8, 8, 9, 9, 9, 10, 10, 10, 10, 11, 12,
+    12, 12, 12, 13, 13,
 ];
 
 /// The numbers to aim at: those of steps, the hard ones more often.
@@ -64,6 +68,8 @@ struct Grower<'a> {
     eager: bool,
     /// Whether this log makes conflicts that clauses can be learned from often.
     keen: bool,
+    /// Whether there are formulas of many layers, and this log often walks them.
+    tall: bool,
     /// Steps to take next where they are allowed, the next one last.
     plan: Vec<Row>,
     /// Whether uses that come close to a rule are taken for uses of it.
@@ -72,7 +78,8 @@ struct Grower<'a> {
     values: Vec<Option<u16>>,
     late: u64,
     probes: Vec<(usize, Row)>,
-    learns: Vec<Shown>,
+    learns: Vec<learn::Shown>,
+    deeps: Vec<deep::Shown>,
 }
 
 /// A grown log.
@@ -83,7 +90,9 @@ pub struct Log {
     /// Steps to try in place of the rest of the log after so many rows.
     pub probes: Vec<(usize, Row)>,
     /// What the learns show that were grown or are to be tried.
-    pub learns: Vec<Shown>,
+    pub learns: Vec<learn::Shown>,
+    /// What the rows by deep show.
+    pub deeps: Vec<deep::Shown>,
 }
 
 /// A log for the problem.
@@ -101,9 +110,11 @@ pub fn log(rng: &mut Rng, problem: &Problem) -> Log {
             ((row[2], row[3]), term)
         })
         .collect();
+    let tall = problem.tall;
     let mut grower = Grower {
-        eager: rng.percent(50),
-        keen: rng.percent(40),
+        eager: rng.percent(50) && !tall,
+        keen: rng.percent(40) && !tall,
+        tall,
         plan: Vec::new(),
         loose: false,
         rng,
@@ -113,6 +124,7 @@ pub fn log(rng: &mut Rng, problem: &Problem) -> Log {
         late: 0,
         probes: Vec::new(),
         learns: Vec::new(),
+        deeps: Vec::new(),
     };
     let rows = grower.grow();
     Log {
@@ -120,6 +132,7 @@ pub fn log(rng: &mut Rng, problem: &Problem) -> Log {
         late: grower.late,
         probes: grower.probes,
         learns: grower.learns,
+        deeps: grower.deeps,
     }
 }
 
@@ -149,7 +162,7 @@ impl Grower<'_> {
             let often = if self.model.conflict.is_some() {
                 40
             } else {
-                25
+                28
             };
             if self.rng.percent(often) {
                 let row = self.attempt();
@@ -160,8 +173,10 @@ impl Grower<'_> {
                 break;
             };
             self.show(&row);
-            if row[0] == LEARN {
-                self.around(&row, rows.len());
+            match row[..2] {
+                [LEARN, _] => self.around(&row, rows.len()),
+                [_, EVAL] => self.by_deep(&row, rows.len()),
+                _ => (),
             }
             rows.push(row);
             match self.model.next(&row).expect("an allowed step") {
@@ -190,10 +205,26 @@ impl Grower<'_> {
         }
     }
 
-    /// Notes what the row shows, if it is a learn.
+    /// The row by deep, which allows all that eval allows, now and then as a probe.
+    fn by_deep(&mut self, eval: &Row, rows: usize) {
+        let mut row = *eval;
+        row[1] = DEEP;
+        let is_allowed = self.model.next(&row).is_ok();
+        assert!(is_allowed, "eval allows {eval:?}, and deep does not");
+        if self.rng.percent(10) {
+            self.show(&row);
+            self.probes.push((rows, row));
+        }
+    }
+
+    /// Notes what the row shows, if it is a learn or by deep, or by the rule after it.
     fn show(&mut self, row: &Row) {
-        if row[0] == LEARN {
-            self.learns.push(learn::shown(&self.model, row));
+        match row[0] {
+            LEARN => self.learns.push(learn::shown(&self.model, row)),
+            DEDUCE | CLASH | FAIL if row[1] == DEEP || row[1] == DEEP + 1 => {
+                self.deeps.push(deep::shown(&self.model, row));
+            }
+            _ => (),
         }
     }
 
@@ -243,14 +274,20 @@ impl Grower<'_> {
         row
     }
 
-    fn allowed_in_search(&mut self) -> Option<Row> {
+    /// Now and then a plan of one kind or another, if there is one.
+    fn plan_some(&mut self) -> Option<()> {
         match self.rng.below(20) {
             0..=1 => self.plan_split(),
             2..=3 => self.plan_use(),
             4 => self.plan_lesson(),
             5..=12 if self.keen => self.plan_lesson(),
+            5..=9 if self.tall => self.plan_use(),
             _ => None,
-        };
+        }
+    }
+
+    fn allowed_in_search(&mut self) -> Option<Row> {
+        self.plan_some();
         if let Some(row) = self.planned() {
             return Some(row);
         }
@@ -268,7 +305,7 @@ impl Grower<'_> {
         for _ in 0..16 {
             let rule = match self.eager && self.rng.percent(40) {
                 true => self.rng.below(2) as u16,
-                false => *self.rng.pick(&TRIED),
+                false => self.any_rule(),
             };
             let (deduction, closing) = self.uses(rule);
             let patient = self
@@ -324,7 +361,7 @@ impl Grower<'_> {
     /// Plans a use of some rule: decide what it lacks, then deduce; or decide the
     /// opposite of what it gives too, then clash.
     fn plan_use(&mut self) -> Option<()> {
-        let rule = *self.rng.pick(&TRIED);
+        let rule = self.any_rule();
         let (found, dreamt) = self.dreamt(rule);
         if found.is_empty() {
             return None;
@@ -342,6 +379,14 @@ impl Grower<'_> {
         }
         self.plan = rows;
         Some(())
+    }
+
+    /// A rule to try.
+    fn any_rule(&mut self) -> u16 {
+        match self.tall && self.rng.percent(60) {
+            true => DEEP,
+            false => *self.rng.pick(&TRIED),
+        }
     }
 
     /// The uses of the rule if every prop had a value, where it has none often one that
@@ -476,9 +521,14 @@ impl Grower<'_> {
             .filter(|use_| self.value(use_.term).is_none())
             .collect();
         let deduction = (!fresh.is_empty()).then(|| self.rng.pick(&fresh).row(DEDUCE));
+        let often = match rule {
+            10 => 40,
+            _ if self.tall => 45,
+            _ => 12,
+        };
         let closing = self.closing(&found).filter(|row| {
             let refutes = matches!(self.model.next(row), Ok(Next::Refuted));
-            !refutes || self.rng.percent(12)
+            !refutes || self.rng.percent(often)
         });
         (deduction, closing)
     }
@@ -498,7 +548,7 @@ impl Grower<'_> {
 
     /// A use whose opposite is on the trail, as the other line than its level's.
     fn wrong_line(&mut self) -> Option<Row> {
-        let rule = *self.rng.pick(&TRIED);
+        let rule = self.any_rule();
         let found = self.instances(rule);
         let mut row = self.closing(&found)?;
         row[0] = other_line(row[0]);
@@ -640,7 +690,7 @@ impl Grower<'_> {
             .pick(&[9, 11, 17, 17, 22, 22, 25, 25, 25, 14, 21, 21, 21, 21])
         {
             9 => match self.rng.below(5) {
-                0 => row[1] = self.rng.below(14) as u16,
+                0 => row[1] = self.rng.below(15) as u16,
                 1 => row[3] = X,
                 2 => row[8] = any,
                 3 => row[7] = any,
@@ -724,14 +774,75 @@ impl Grower<'_> {
             .collect()
     }
 
-    /// All the uses of the rule that the trail has the premises for.
-    fn instances(&self, rule: u16) -> Vec<Instance> {
+    /// All the uses of the rule that the trail has the premises for; by deep some.
+    fn instances(&mut self, rule: u16) -> Vec<Instance> {
+        if rule == DEEP {
+            return self.deep_instances();
+        }
         let mut found = Vec::new();
         for at in 0..self.model.terms.len() as u16 {
             let (head, args) = self.term(at);
             self.instances_at(rule, at, head, &args, &mut found);
         }
         found
+    }
+
+    /// Uses of deep whose walks end at some of the rows that have a value, often all of
+    /// the same number of layers; loosely, too many.
+    fn deep_instances(&mut self) -> Vec<Instance> {
+        let often = *self.rng.pick(&[0, 0, 0, 10, 30, 100]);
+        let count = self.model.terms.len();
+        let marked: Vec<bool> = (0..count).map(|_| self.rng.percent(often)).collect();
+        let most = if self.loose { 14 } else { 8 };
+        let mut found = deep::uses(&self.model, &self.values, &marked, most);
+        let layers = self.rng.within(1, 8);
+        if self.loose {
+            found.retain(|use_| use_.layers > 8);
+        } else if found.iter().any(|use_| use_.layers == layers) {
+            found.retain(|use_| use_.layers == layers);
+        }
+        found
+            .into_iter()
+            .map(|use_| {
+                let mut premises = use_.premises;
+                deep::shuffle(self.rng, &mut premises);
+                Instance {
+                    rule: DEEP,
+                    term: use_.term,
+                    value: use_.value,
+                    premises,
+                }
+            })
+            .collect()
+    }
+
+    /// A row by deep that may or may not be allowed: a use, or one of too many layers,
+    /// with up to three faults; or a use by the rule after it.
+    fn near_deep(&mut self) -> Option<Row> {
+        self.loose = self.rng.percent(40);
+        let mut found = self.instances(DEEP);
+        if std::mem::take(&mut self.loose) && found.is_empty() {
+            found = self.instances(DEEP);
+        }
+        if found.is_empty() || self.rng.percent(5) {
+            found = self.dreamt(DEEP).0;
+        }
+        if found.is_empty() {
+            return None;
+        }
+        let step = *self.rng.pick(&[DEDUCE, CLASH, FAIL]);
+        let mut row = self.rng.pick(&found).row(step);
+        if self.rng.percent(4) {
+            row[1] = DEEP + 1;
+            return Some(row);
+        }
+        for _ in 0..*self.rng.pick(&[0, 1, 1, 1, 1, 1, 2, 2, 3]) {
+            deep::spoil(self.rng, &self.model, &mut row);
+        }
+        if self.rng.percent(18) {
+            deep::spoil_columns(self.rng, &self.model, &mut row);
+        }
+        Some(row)
     }
 
     fn instances_at(&self, rule: u16, at: u16, head: u16, args: &[u16], found: &mut Vec<Instance>) {
@@ -886,27 +997,20 @@ impl Grower<'_> {
 
     /// A step that may or may not be allowed, near one that is.
     fn attempt(&mut self) -> Row {
-        if self.model.conflict.is_none() && self.rng.percent(30) {
+        let searches = self.model.conflict.is_none();
+        let few_rows = self.model.terms.len() <= 8;
+        if searches && self.rng.percent(if few_rows { 50 } else { 30 }) {
             return self.misplaced();
         }
-        let learns = if self.model.conflict.is_some() { 45 } else { 2 };
-        if self.rng.percent(learns) {
-            if let Some(row) = self.near_learn() {
-                return row;
-            }
+        if let Some(row) = self.near_deep_or_learn() {
+            return row;
         }
-        if self.model.conflict.is_some() && self.rng.percent(70) {
+        if !searches && self.rng.percent(70) {
             return self.conflict_step();
         }
-        if self.model.conflict.is_none() && self.rng.percent(10) {
-            if let Some(row) = (0..4).find_map(|_| self.wrong_line()) {
-                return row;
-            }
-        }
-        if self.model.conflict.is_none() && self.rng.percent(60) {
-            if let Some(row) = (0..4).find_map(|_| self.near_miss()) {
-                return row;
-            }
+        let near = if searches { self.near_use() } else { None };
+        if let Some(row) = near {
+            return row;
         }
         let mut row = match self.rng.below(12) {
             0 => self.noise(),
@@ -921,11 +1025,38 @@ impl Grower<'_> {
         row
     }
 
+    /// Now and then a row near one by deep or near a learn.
+    fn near_deep_or_learn(&mut self) -> Option<Row> {
+        let deeps = if self.tall { 40 } else { 4 };
+        let learns = if self.model.conflict.is_some() { 45 } else { 2 };
+        let row = match self.rng.percent(deeps) {
+            true => self.near_deep(),
+            false => None,
+        };
+        if row.is_some() || !self.rng.percent(learns) {
+            return row;
+        }
+        self.near_learn()
+    }
+
+    /// Mostly a row that comes close to a use, or a use as the wrong line.
+    fn near_use(&mut self) -> Option<Row> {
+        if self.rng.percent(10) {
+            if let Some(row) = (0..4).find_map(|_| self.wrong_line()) {
+                return Some(row);
+            }
+        }
+        match self.rng.percent(60) {
+            true => (0..4).find_map(|_| self.near_miss()),
+            false => None,
+        }
+    }
+
     /// A use of some rule as a deduction, a clash or a fail, or else a decision.
     fn any_use(&mut self) -> Row {
         let step = *self.rng.pick(&[DEDUCE, CLASH, FAIL]);
         for _ in 0..6 {
-            let rule = *self.rng.pick(&TRIED);
+            let rule = self.any_rule();
             let found = self.instances(rule);
             if !found.is_empty() {
                 return self.rng.pick(&found).row(step);
@@ -977,7 +1108,7 @@ impl Grower<'_> {
         let absent = self.any_row(|grower, term| grower.value(term).is_none());
         let no_row = self.model.terms.len() as u16;
         match self.rng.below(14) {
-            0..=1 => row[1] = self.rng.below(13) as u16,
+            0..=1 => row[1] = self.rng.below(14) as u16,
             2 => row[2] = prop.unwrap_or(any),
             3..=5 if row[3] < 2 => row[3] = 1 - row[3],
             6..=7 => row[at] = there.unwrap_or(any),
@@ -1052,7 +1183,7 @@ impl Grower<'_> {
         let count = row[4..].iter().filter(|&&premise| premise != X).count();
         match self.rng.below(10) {
             0 => row[3] = self.number(),
-            1 => row[1] = self.rng.below(14) as u16,
+            1 => row[1] = self.rng.below(15) as u16,
             2 if count > 0 => row[3 + count] = X,
             3 if count < 5 => row[4 + count] = Self::any_term(self.rng, &self.model),
             4 if count > 1 => row.swap(4, 5),

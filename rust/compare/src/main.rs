@@ -11,9 +11,11 @@
 //! occur are printed, and a zero fails.
 
 mod case;
+mod deep;
 mod grow;
 mod learn;
 mod naive;
+mod naive_deep;
 mod naive_place;
 mod naive_text;
 mod print;
@@ -169,6 +171,7 @@ impl Session {
             late,
             probes,
             learns,
+            deeps,
         } = case::make(rng);
         let (ran, place) = compare_run(&case)?;
         let outcome = ran.0;
@@ -184,6 +187,9 @@ impl Session {
         }
         for shown in &learns {
             self.stats.learn(shown);
+        }
+        for shown in &deeps {
+            self.stats.deep(shown);
         }
         for (rows, row) in probes.into_iter().rev() {
             case.steps.truncate(9 * rows);

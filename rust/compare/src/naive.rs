@@ -656,6 +656,7 @@ impl Model {
                 }
             }
             12 => premises.len() == 1 && truth && self.skip(row, premises[0]),
+            13 => self.deep(term, value, premises),
             _ => unreachable!(),
         }
     }
@@ -753,7 +754,7 @@ pub fn columns_fit(row: &[u16; 9]) -> bool {
         0 => blank(rule) && !blank(value) && none_after(0),
         1 | 2 | 7 => {
             let count = premises.iter().filter(|&&column| !blank(column)).count();
-            rule <= 12 && value <= 1 && none_after(count)
+            rule <= 13 && value <= 1 && none_after(count)
         }
         3..=5 => blank(rule) && blank(value) && none_after(0),
         6 => blank(rule) && blank(value) && !blank(premises[0]) && none_after(1),

@@ -50,9 +50,12 @@ pub fn place(model: &Model, row: &[u16; 9], number: u16) -> Place {
 
 /// The first column, from the term on, after which no value, rows and blanks to its
 /// right fit the rule. A completion with rows that can be premises is one; where there
-/// is none of these, it is sought with every row.
+/// is none of these, it is sought with every row. With deep it is the term, always.
 fn unfit(model: &Model, row: &[u16; 9]) -> Place {
     let [_, rule, term, value, cells @ ..] = *row;
+    if rule == 13 {
+        return Place::Read(3);
+    }
     let filled: Vec<u16> = cells.into_iter().filter(|&cell| cell != X).collect();
     let premises = model.on_trail(&filled).expect("premises on the trail");
     for column in 3..=9 {

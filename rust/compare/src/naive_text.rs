@@ -15,9 +15,9 @@ const HEADERS: [&str; 4] = [
 pub const STEP_WORDS: [&str; 9] = [
     "decide", "deduce", "clash", "resolve", "clear", "jump", "flip", "fail", "learn",
 ];
-pub const RULE_WORDS: [&str; 13] = [
+pub const RULE_WORDS: [&str; 14] = [
     "same", "differ", "refl", "sym", "trans", "neg", "part", "unit", "eval", "cong", "pred",
-    "read", "skip",
+    "read", "skip", "deep",
 ];
 pub const HEAD_WORDS: [&str; 6] = ["eq", "not", "and", "or", "select", "store"];
 

@@ -16,15 +16,15 @@ const HEADERS: [&str; 4] = [
 ];
 
 /// Names that look like something else.
-const ODD: [&str; 17] = [
-    "true", "false", "eq", "store", "decide", "clash", "fail", "learn", "same", "term", "sort",
-    "0", "17", "--", "prop1", "~", "!",
+const ODD: [&str; 18] = [
+    "true", "false", "eq", "store", "decide", "clash", "fail", "learn", "same", "deep", "term",
+    "sort", "0", "17", "--", "prop1", "~", "!",
 ];
 
 /// Words that no step and no rule has.
-const NO_WORDS: [&str; 14] = [
+const NO_WORDS: [&str; 18] = [
     "Clash", "samen", "sam", "0", "clashes", "eq", "Fail", "fails", "fai", "7", "Learn", "learns",
-    "lear", "8",
+    "lear", "8", "Deep", "deeper", "dee", "13",
 ];
 
 /// A text of a case, and the sheets that it stands for.

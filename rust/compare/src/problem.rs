@@ -11,6 +11,8 @@ pub struct Problem {
     pub sorts: Vec<[u16; 2]>,
     pub terms: Vec<[u16; 6]>,
     pub inputs: Vec<[u16; 2]>,
+    /// Whether it was made of formulas of many layers.
+    pub tall: bool,
 }
 
 /// A free head with what its first use fixes.
@@ -30,6 +32,29 @@ struct Maker<'a> {
     limit: usize,
 }
 
+/// What most of a problem is made of.
+#[derive(Clone, Copy, PartialEq, Eq)]
+enum Theme {
+    /// Connectives over equalities that share a side.
+    Splits,
+    /// Connectives, and clauses that can be learned from them.
+    Lessons,
+    /// Formulas of many layers.
+    Towers,
+    Mixed,
+}
+
+impl Theme {
+    fn any(rng: &mut Rng) -> Self {
+        match rng.below(100) {
+            0..=16 => Theme::Splits,
+            17..=35 => Theme::Lessons,
+            36..=44 => Theme::Towers,
+            _ => Theme::Mixed,
+        }
+    }
+}
+
 /// A problem of some size, most of them small, now and then of all 256 rows.
 pub fn make(rng: &mut Rng) -> Problem {
     let limit = match rng.below(500) {
@@ -40,32 +65,31 @@ pub fn make(rng: &mut Rng) -> Problem {
         61..=200 => rng.within(5, 16),
         _ => rng.within(16, 40),
     };
-    if rng.percent(15) {
+    if rng.percent(18) {
         return small(rng);
     }
     let mut maker = Maker::new(rng, limit);
     maker.sorts = sorts(maker.rng);
-    let (splits, lessons) = match maker.rng.below(100) {
-        0..=17 => (true, false),
-        18..=37 => (false, true),
-        _ => (false, false),
-    };
+    let theme = Theme::any(maker.rng);
     for _ in 0..3 * limit {
-        match maker.rng.percent(85) {
-            true if splits => maker.split(),
-            true if lessons => maker.lesson(),
+        match (theme, maker.rng.percent(85)) {
+            (Theme::Splits, true) => maker.split(),
+            (Theme::Lessons, true) => maker.lesson(),
+            (Theme::Towers, true) => maker.tower(),
             _ => maker.bundle(),
         };
     }
     let (sorts, terms) = (maker.sorts, maker.terms);
-    let inputs = match splits {
-        true => clauses(rng, &terms),
-        false => inputs(rng, &terms),
+    let inputs = match theme {
+        Theme::Splits => clauses(rng, &terms),
+        Theme::Towers => grounds(rng, &terms),
+        _ => inputs(rng, &terms),
     };
     Problem {
         sorts,
         terms,
         inputs,
+        tall: theme == Theme::Towers,
     }
 }
 
@@ -100,6 +124,7 @@ fn small(rng: &mut Rng) -> Problem {
         sorts,
         terms,
         inputs,
+        tall: false,
     }
 }
 
@@ -145,6 +170,24 @@ fn clauses(rng: &mut Rng, terms: &[[u16; 6]]) -> Vec<[u16; 2]> {
         .filter(|&term| is_one(&terms[usize::from(term)]) && rng.percent(80))
         .map(|term| [term, terms[usize::from(term)][0] - 2])
         .collect()
+}
+
+/// Many of the rows that formulas are made of, and a few formulas, often the last rows.
+fn grounds(rng: &mut Rng, terms: &[[u16; 6]]) -> Vec<[u16; 2]> {
+    let often = *rng.pick(&[30, 60, 90, 100, 100]);
+    let top = *rng.pick(&[6, 70]);
+    let mut rows = Vec::new();
+    for (at, row) in terms.iter().enumerate() {
+        let often = match row[0] {
+            1..=3 if at + 4 > terms.len() => top,
+            1..=3 => 6,
+            _ => often,
+        };
+        if rng.percent(often) {
+            rows.push([at as u16, value(rng, row)]);
+        }
+    }
+    rows
 }
 
 /// A value for the term. Values of sorts other than prop are often equal;
@@ -315,9 +358,10 @@ impl<'a> Maker<'a> {
 
     /// A few terms that belong together. None says that there was no room.
     fn bundle(&mut self) -> Option<()> {
-        match self.rng.below(26) {
+        match self.rng.below(27) {
             20..=23 => self.split(),
             24 => self.lesson(),
+            26 => self.tower(),
             0..=4 => self.equalities(),
             5..=7 => self.congruence(),
             8..=9 | 25 => self.predicate(),
@@ -565,6 +609,83 @@ impl<'a> Maker<'a> {
             _ => select,
         };
         Some(())
+    }
+
+    /// A formula of up to eleven layers over one to five props.
+    fn tower(&mut self) -> Option<()> {
+        let mut base = Vec::new();
+        for _ in 0..self.rng.within(1, 5) {
+            let old = self.prop().filter(|_| self.rng.percent(50));
+            base.push(match old {
+                Some(prop) => prop,
+                None => {
+                    let head = self.head(|_| false, 0, Vec::new());
+                    self.term(head.number, 0, &[])?
+                }
+            });
+        }
+        let style = self.rng.below(10);
+        let width = *self.rng.pick(&[2, 2, 2, 3, 3, 4]);
+        let mut all = base.clone();
+        let mut layer = base.clone();
+        for _ in 0..self.rng.within(3, 11) {
+            layer = match style {
+                0 => self.whole_layer(&layer, width)?,
+                1..=4 => vec![self.storey(&layer, &base)?],
+                5..=6 => self.layer(&layer, &layer)?,
+                _ => self.layer(&layer, &all)?,
+            };
+            all.extend(&layer);
+        }
+        Some(())
+    }
+
+    /// A connective of a row of the layer below and of other props, each once.
+    fn storey(&mut self, below: &[u16], base: &[u16]) -> Option<u16> {
+        let mut args = vec![*self.rng.pick(below)];
+        for _ in 0..self.rng.below(4) {
+            let at = self.rng.below(args.len() + 1);
+            let prop = *self.rng.pick(base);
+            if !args.contains(&prop) {
+                args.insert(at, prop);
+            }
+        }
+        let head = if args.len() == 1 {
+            1
+        } else {
+            *self.rng.pick(&[2, 3])
+        };
+        self.term(head, 0, &args)
+    }
+
+    /// One to three connectives, each with an argument of the layer below and others
+    /// from there or from among all rows.
+    fn layer(&mut self, below: &[u16], all: &[u16]) -> Option<Vec<u16>> {
+        let mut layer = Vec::new();
+        for _ in 0..*self.rng.pick(&[1, 1, 1, 2, 3]) {
+            let head = *self.rng.pick(&[1, 2, 2, 3, 3]);
+            let count = if head == 1 { 1 } else { self.rng.within(2, 4) };
+            let mut args = vec![*self.rng.pick(below)];
+            while args.len() < count {
+                let at = self.rng.below(args.len() + 1);
+                let from = if self.rng.percent(50) { below } else { all };
+                args.insert(at, *self.rng.pick(from));
+            }
+            layer.push(self.term(head, 0, &args)?);
+        }
+        Some(layer)
+    }
+
+    /// So many connectives, each over all rows of the layer below.
+    fn whole_layer(&mut self, below: &[u16], width: usize) -> Option<Vec<u16>> {
+        let mut layer = Vec::new();
+        for at in 0..width {
+            let mut args: Vec<u16> = below.iter().copied().cycle().take(width).collect();
+            args.rotate_left(at);
+            let head = *self.rng.pick(&[2, 3]);
+            layer.push(self.term(head, 0, &args)?);
+        }
+        Some(layer)
     }
 
     fn connective(&mut self) -> Option<()> {

@@ -1,6 +1,7 @@
 //! How often everything occurred.
 
-use crate::learn::{self, Shown};
+use crate::deep::{self, DEEP};
+use crate::learn;
 use crate::naive_place::Place;
 use crate::naive_text::{RULE_WORDS, STEP_WORDS};
 use crate::problem::X;
@@ -58,8 +59,8 @@ const ABSENT: [u16; 5] = [5, 6, 7, 8, 9];
 /// then every premise, and the column after the last one for a surplus premise. same,
 /// differ and trans take two premises, sym, neg, part and skip one, refl and read none;
 /// unit, eval and cong take up to four, and pred up to five, which leaves no column for
-/// another.
-const UNFIT: [&[u16]; 13] = [
+/// another. With deep it is 3, always.
+const UNFIT: [&[u16]; 14] = [
     &[3, 4, 5, 6, 7],
     &[3, 4, 5, 6, 7],
     &[3, 4, 5],
@@ -73,6 +74,7 @@ const UNFIT: [&[u16]; 13] = [
     &[3, 5, 6, 7, 8, 9],
     &[3, 4, 5],
     &[3, 4, 5, 6],
+    &[3],
 ];
 
 /// The fields that a person is told with 11, 12 and 13.
@@ -94,8 +96,9 @@ const MEANT: [Meant; 2] = [Meant::Fail, Meant::Clash];
 /// Everything that has to occur, by heading and name, in the order of printing.
 pub struct Stats {
     counts: BTreeMap<(Heading, u16), (String, u64)>,
-    /// Places of 13 that the slow checker did not find.
+    /// Places of 13 that the slow checker did not find, and those that deep gives.
     unknown: u64,
+    given: u64,
 }
 
 #[derive(Clone, Copy, PartialEq, Eq, PartialOrd, Ord)]
@@ -110,6 +113,9 @@ enum Heading {
     Standing,
     Learns,
     Before,
+    Deeps,
+    DeepNumbers,
+    DeepBefore,
     Strange,
     Absent,
     Unfit,
@@ -136,6 +142,9 @@ impl Heading {
             Heading::Standing => "levels of clashes and fails that ended a run",
             Heading::Learns => "what learns showed",
             Heading::Before => "numbers of learns with a later one's fault too",
+            Heading::Deeps => "what rows by deep showed",
+            Heading::DeepNumbers => "numbers of rows by deep in each step",
+            Heading::DeepBefore => "numbers of rows by deep with a later one's fault too",
             Heading::Strange => "places of 11 in each step",
             Heading::Absent => "places of 12 in each step",
             Heading::Unfit => "places of 13 with each rule",
@@ -152,7 +161,7 @@ impl Heading {
 }
 
 /// Events that are counted besides.
-pub const EVENTS: [&str; 20] = [
+pub const EVENTS: [&str; 22] = [
     "11 behind a premise not on the trail",
     "12 with a premise too many for the rule",
     "12 behind every place that 13 can have",
@@ -161,6 +170,8 @@ pub const EVENTS: [&str; 20] = [
     "learned clauses in a clash or a fail",
     "learns allowed in texts",
     "learns allowed, the level as a word",
+    "rows by deep allowed in texts",
+    "13 by deep in texts",
     "workspace exactly long enough",
     "workspace one short",
     "trail buffer exactly long enough",
@@ -185,6 +196,7 @@ impl Stats {
         let mut stats = Stats {
             counts: BTreeMap::new(),
             unknown: 0,
+            given: 0,
         };
         stats.expect(Heading::Steps, &STEP_WORDS);
         for uses in [Heading::Deduces, Heading::Clashes, Heading::Fails] {
@@ -192,6 +204,7 @@ impl Stats {
         }
         stats.expect(Heading::Verdicts, &VERDICTS);
         stats.expect(Heading::Learns, &learn::NOTES);
+        stats.expect(Heading::Deeps, &deep::NOTES);
         stats.expect(Heading::Events, &EVENTS);
         stats.expect(Heading::TextVerdicts, &VERDICTS);
         stats.expect(Heading::Meant, &MEANT.map(Meant::words));
@@ -204,6 +217,7 @@ impl Stats {
         stats.expect_refusals();
         stats.expect_standing();
         stats.expect_before();
+        stats.expect_deep();
         stats.expect_places();
         stats
     }
@@ -255,6 +269,26 @@ impl Stats {
         }
     }
 
+    /// Every number of a row by deep in each step, before every later one but 14 before
+    /// 15, which no row has both.
+    fn expect_deep(&mut self) {
+        for step in deep::STEPS {
+            let word = STEP_WORDS[usize::from(step)];
+            let numbers = deep::numbers(step);
+            self.expect_one(Heading::DeepNumbers, refusal(step, 0), format!("{word} 0"));
+            for (at, &number) in numbers.iter().enumerate() {
+                let name = format!("{word} {number}");
+                self.expect_one(Heading::DeepNumbers, refusal(step, number), name);
+                for (later, &other) in numbers.iter().enumerate().skip(at + 1) {
+                    let name = format!("{word}, {number} before {other}");
+                    if (number, other) != (14, 15) {
+                        self.expect_one(Heading::DeepBefore, deep_before(step, at, later), name);
+                    }
+                }
+            }
+        }
+    }
+
     /// Every place of 11, 12 and 13.
     fn expect_places(&mut self) {
         for (step, places) in STRANGE.iter().enumerate() {
@@ -264,8 +298,9 @@ impl Stats {
             self.expect_at(Heading::Absent, step, STEP_WORDS[step], &ABSENT);
         }
         for (rule, places) in UNFIT.iter().enumerate() {
-            for heading in [Heading::Unfit, Heading::Listed] {
-                self.expect_at(heading, rule, RULE_WORDS[rule], places);
+            self.expect_at(Heading::Unfit, rule, RULE_WORDS[rule], places);
+            if rule != usize::from(DEEP) {
+                self.expect_at(Heading::Listed, rule, RULE_WORDS[rule], places);
             }
         }
         for (number, places) in FIELDS {
@@ -333,7 +368,8 @@ impl Stats {
                 match found {
                     Place::Listed(_) => self.add(Heading::Listed, located(row[1], place), 1),
                     Place::Unknown => self.unknown += 1,
-                    _ => (),
+                    Place::Read(_) => self.given += 1,
+                    Place::Picked(_) => (),
                 }
             }
             _ => (),
@@ -353,6 +389,7 @@ impl Stats {
         let Some(&last) = UNFIT
             .get(usize::from(row[1]))
             .and_then(|places| places.last())
+            .filter(|_| row[1] != DEEP)
         else {
             return;
         };
@@ -386,7 +423,7 @@ impl Stats {
     }
 
     /// Counts what a learn that was tried showed.
-    pub fn learn(&mut self, shown: &Shown) {
+    pub fn learn(&mut self, shown: &learn::Shown) {
         for name in &shown.notes {
             let at = learn::NOTES.iter().position(|note| note == name);
             self.add(Heading::Learns, at.expect("a note listed") as u16, 1);
@@ -398,6 +435,29 @@ impl Stats {
         for later in shown.faults.iter().filter_map(|&number| place(number)) {
             if later > at {
                 self.add(Heading::Before, before(at, later), 1);
+            }
+        }
+    }
+
+    /// Counts what a row by deep that was tried showed.
+    pub fn deep(&mut self, shown: &deep::Shown) {
+        for name in &shown.notes {
+            let at = deep::NOTES.iter().position(|note| note == name);
+            self.add(Heading::Deeps, at.expect("a note listed") as u16, 1);
+        }
+        if !shown.listed {
+            return;
+        }
+        let (step, number) = (shown.step, shown.number);
+        self.add(Heading::DeepNumbers, refusal(step, number), 1);
+        let numbers = deep::numbers(step);
+        let place = |number: u16| numbers.iter().position(|&other| other == number);
+        let Some(at) = place(number) else {
+            return;
+        };
+        for later in shown.faults.iter().filter_map(|&number| place(number)) {
+            if later > at {
+                self.add(Heading::DeepBefore, deep_before(step, at, later), 1);
             }
         }
     }
@@ -475,9 +535,10 @@ impl Stats {
         missing.is_empty() && self.enough_places()
     }
 
-    /// Whether the slow checker found at least two of three places of 13.
+    /// Whether the slow checker found at least two of three places of 13, but for those
+    /// with deep, which are not sought.
     fn enough_places(&self) -> bool {
-        let all: u64 = self.counted(Heading::Unfit);
+        let all: u64 = self.counted(Heading::Unfit) - self.given;
         let listed = self.counted(Heading::Listed);
         let found = all - self.unknown;
         println!("{found} of {all} places of 13 by completions, {listed} of them with every row");
@@ -513,13 +574,18 @@ pub fn expect_place(outcome: [u16; 5], steps: &[u16]) -> Result<(), String> {
     let places = match number {
         11 => STRANGE[usize::from(row[0])],
         12 => &ABSENT,
-        13 => UNFIT[usize::from(row[1])],
+        13 => UNFIT.get(usize::from(row[1])).copied().unwrap_or_default(),
         _ => &[0],
     };
     match places.contains(&place) {
         true => Ok(()),
         false => Err(format!("plain gives {number} the place {place} in {row:?}")),
     }
+}
+
+/// The place in the counts of a number of a row by deep before a later one.
+fn deep_before(step: u16, at: usize, later: usize) -> u16 {
+    100 * step + (10 * at + later) as u16
 }
 
 /// The place in the counts of a number of learn before a later one.

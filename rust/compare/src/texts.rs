@@ -2,6 +2,7 @@
 //! program prints.
 
 use crate::case::Case;
+use crate::deep::{self, DEEP};
 use crate::learn::LEARN;
 use crate::rng::Rng;
 use crate::{compare_run, naive, naive_text, numbers, print, run_with, Session};
@@ -115,6 +116,7 @@ impl Session {
             let ((outcome, ..), _) = compare_run(&case)?;
             self.stats.text_verdict(outcome[0]);
             self.learns(&printed.text, &case, outcome[1].into());
+            self.deeps(&case, outcome);
             expect_outcome(&printed.text, &checked, outcome)?;
         } else if read.number != 32 {
             expect_refusal(&printed.text, &checked, &read)?;
@@ -158,6 +160,19 @@ impl Session {
             self.stats
                 .event("learns allowed, the level as a word", word.into());
         }
+    }
+
+    /// Counts the rows by deep that were allowed, and those refused with 13.
+    fn deeps(&mut self, case: &Case, outcome: [u16; 5]) {
+        let [_, allowed, number, ..] = outcome;
+        let is_deep = |row: &&[u16]| deep::STEPS.contains(&row[0]) && row[1] == DEEP;
+        let rows = case.steps.chunks(9);
+        let count = rows.clone().take(allowed.into()).filter(is_deep).count();
+        self.stats
+            .event("rows by deep allowed in texts", count as u64);
+        let refused = rows.clone().nth(allowed.into()).filter(is_deep);
+        let unfit = number == 13 && refused.is_some();
+        self.stats.event("13 by deep in texts", unfit.into());
     }
 
     /// Counts the lines that are as long as lines may be, or one byte longer.
