@@ -97,7 +97,15 @@ enum cdsat_step {
     CDSAT_LEARN = 8
 };
 
-/* Rules of deduce, clash and fail. */
+/* Rules of deduce, clash and fail.
+ *
+ * deep is eval through several layers: the term is a formula of not, and, or,
+ * and the premises, in any order, are those that a walk down from it comes to. A
+ * row that is a premise has its value there; every other not, and, or takes its
+ * own from all its arguments. At most eight of these lie on a path, the term
+ * being the first. Where a path ends at another row, a premise is not met or the
+ * value is another, the step is refused with 13.
+ */
 enum cdsat_rule {
     CDSAT_RULE_SAME = 0,
     CDSAT_RULE_DIFFER = 1,
@@ -111,7 +119,8 @@ enum cdsat_rule {
     CDSAT_RULE_CONG = 9,
     CDSAT_RULE_PRED = 10,
     CDSAT_RULE_READ = 11,
-    CDSAT_RULE_SKIP = 12
+    CDSAT_RULE_SKIP = 12,
+    CDSAT_RULE_DEEP = 13
 };
 
 /* Verdicts. */
@@ -152,8 +161,8 @@ enum cdsat_why {
  * fault. For 13 (the rule does not fit) it is the first, from the term on, after
  * which no value, rows and blanks to its right fit the rule: 3 where the rule
  * never gives the term a value, 4 where it never gives it this one, else the
- * premise that is wrong, missing or one too many. With every other number the
- * place is 0.
+ * premise that is wrong, missing or one too many. With CDSAT_RULE_DEEP it is 3,
+ * always. With every other number the place is 0.
  */
 typedef struct {
     uint16_t verdict; /* enum cdsat_verdict */

@@ -25,7 +25,7 @@ _Static_assert(CDSAT_INPUT_COLUMNS == 2 && CDSAT_STEP_COLUMNS == 9 && CDSAT_ENTR
 _Static_assert(CDSAT_WORK_WORDS(256) == 2060 && CDSAT_TRAIL_NUMBERS(256) == 1024, "buffers");
 _Static_assert(CDSAT_EQ == 0 && CDSAT_STORE == 5 && CDSAT_FREE == 16 && CDSAT_LAST_FREE == 65534, "heads");
 _Static_assert(CDSAT_DECIDE == 0 && CDSAT_CLASH == 2 && CDSAT_FLIP == 6 && CDSAT_FAIL == 7 && CDSAT_LEARN == 8, "steps");
-_Static_assert(CDSAT_RULE_SAME == 0 && CDSAT_RULE_SKIP == 12, "rules");
+_Static_assert(CDSAT_RULE_SAME == 0 && CDSAT_RULE_SKIP == 12 && CDSAT_RULE_DEEP == 13, "rules");
 _Static_assert(CDSAT_OPEN == 0 && CDSAT_REFUTED == 1 && CDSAT_REFUSED == 2, "verdicts");
 _Static_assert(CDSAT_WHY_FINE == 0 && CDSAT_WHY_CUT == 11 && CDSAT_SAID == 256, "causes");
 
@@ -45,6 +45,9 @@ _Static_assert(CDSAT_WHY_FINE == 0 && CDSAT_WHY_CUT == 11 && CDSAT_SAID == 256, 
 #define CONFLICT \
     SORTS ROWS "n not prop e - - -\nl or prop n g - -\n\nterm value\n\n" STEPS \
     "decide - e true - - - - -\ndecide - g false - - - - -\nclash cong g true e - - - -\n"
+/* A formula m of three layers over e and g, of which e is true and g false: o is false, and m is true. The first step is on line 21. */
+#define FORMULA \
+    SORTS ROWS "n not prop e - - -\no or prop n g - -\nm not prop o - - -\n\nterm value\ne true\ng false\nm false\n\n" STEPS
 #define HEADERS "sort index value\n\nterm head sort a b c d\n\nterm value\n\n" STEPS
 
 /* The sheets and buffers that are lent, full of old contents. */
@@ -185,7 +188,14 @@ static void test_places(void) {
         {"a premise too many", CDSAT_RULE_CONG, 5, 1, {2, 2, B, B, B}, 13, 6},
         {"a term that is no prop, from no row", CDSAT_RULE_CONG, 0, 1, {6, B, B, B, B}, 11, 5},
         {"a term that is no prop", CDSAT_RULE_CONG, 0, 1, {0, B, B, B, B}, 22, 0},
-        {"a rule that there is not", CDSAT_RULE_SKIP + 1, 6, 1, {6, B, B, B, B}, 9, 0},
+        {"deep of an equality", CDSAT_RULE_DEEP, 5, 1, {2, B, B, B, B}, 13, 3},
+        {"deep of itself with the other value", CDSAT_RULE_DEEP, 5, 1, {5, 5, B, B, B}, 13, 3},
+        {"deep of itself beside another", CDSAT_RULE_DEEP, 5, 0, {5, 2, B, B, B}, 13, 3},
+        {"deep without a premise", CDSAT_RULE_DEEP, 5, 1, {B, B, B, B, B}, 13, 3},
+        {"deep from a premise not on the trail", CDSAT_RULE_DEEP, 5, 1, {2, 5, 3, B, B}, 12, 7},
+        {"deep of a term that is no prop", CDSAT_RULE_DEEP, 0, 1, {2, B, B, B, B}, 22, 0},
+        {"deep of no row", CDSAT_RULE_DEEP, 6, 1, {2, B, B, B, B}, 11, 3},
+        {"a rule that there is not", CDSAT_RULE_DEEP + 1, 6, 1, {6, B, B, B, B}, 9, 0},
     };
     static const uint16_t kinds[] = {CDSAT_DEDUCE, CDSAT_CLASH, CDSAT_FAIL}, want_trail[] = {2, 1, 0, 0, 5, 0, 0, 0};
     for (size_t i = 0; i < LENGTH(rows) * LENGTH(kinds); i++) {
@@ -352,6 +362,18 @@ static void test_checks(void) {
          "line 20: 21 its level is not above the rest, or learn's level is outside its range\n"},
         {"a clause that is none", CONFLICT "learn - n 1 e g - - -\n", {CDSAT_REFUSED, 3, 22, 2, 0},
          "line 20: 22 a term's sort or head is wrong for the step, or the value does not suit it\n"},
+        {"deep", FORMULA "fail deep m true g e - - -\n", {CDSAT_REFUTED, 1, 0, 3, 0}, ""},
+        {"deep, a premise again", FORMULA "fail deep m true e g e g e\n", {CDSAT_REFUTED, 1, 0, 3, 0}, ""},
+        {"deep of what has the other value", FORMULA "deduce deep m true e g - - -\n", {CDSAT_REFUSED, 0, 15, 3, 0}, "line 21: 15 the opposite is there\n"},
+        {"deep of itself", FORMULA "deduce deep m false m - - - -\n", {CDSAT_REFUSED, 0, 14, 3, 0}, "line 21: 14 the value is there already\n"},
+        {"deep of itself as a fail", FORMULA "fail deep m false m - - - -\n", {CDSAT_REFUSED, 0, 16, 3, 0}, "line 21: 16 the opposite is not there\n"},
+        {"deep of the lower layers", FORMULA "deduce deep o false g e - - -\ndeduce deep n false e - - - -\n", {CDSAT_OPEN, 2, 0, 5, 0}, ""},
+        {"deep, a premise above", FORMULA "deduce deep o false g e m - -\n", {CDSAT_REFUSED, 0, 13, 3, 3},
+         "line 21, field 3: 13 the rule does not fit\n"},
+        {"deep, a leaf without a value", FORMULA "fail deep m true e - - - -\n", {CDSAT_REFUSED, 0, 13, 3, 3},
+         "line 21, field 3: 13 the rule does not fit\n"},
+        {"deep, the other value", FORMULA "fail deep m false e g - - -\n", {CDSAT_REFUSED, 0, 13, 3, 3},
+         "line 21, field 3: 13 the rule does not fit\n"},
         {"a term that there is not", SORTS TERMS INPUTS STEPS "decide - x 7 - - - - -\n", {CDSAT_REFUSED, 0, 11, 2, 3},
          "line 17, field 3: 11 the term or a premise is no row\n"},
         {"a premise not on the trail", SORTS TERMS INPUTS STEPS "fail cong g true e a - - -\n", {CDSAT_REFUSED, 0, 12, 2, 6},

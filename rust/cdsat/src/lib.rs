@@ -97,7 +97,8 @@ pub struct Outcome {
     /// With 11 and 12 it is the first column that has the fault. With 13 it is the
     /// first, from the term on, after which nothing to the right makes the step fit
     /// its rule: 3 where the rule never gives the term a value, 4 where it never gives
-    /// it this one, else a premise that is wrong, missing or one too many.
+    /// it this one, else a premise that is wrong, missing or one too many. With
+    /// [`Rule::Deep`] it is 3, always.
     pub place: u16,
 }
 

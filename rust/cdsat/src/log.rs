@@ -70,7 +70,8 @@ pub enum Step {
     Learn,
 }
 
-/// The rules of deduce, clash and fail, with their premises in order.
+/// The rules of deduce, clash and fail, with their premises, which stand in this order
+/// but for deep.
 #[derive(Clone, Copy, Debug, PartialEq, Eq, Hash)]
 #[repr(u16)]
 pub enum Rule {
@@ -101,6 +102,40 @@ pub enum Rule {
     Read,
     /// i=j false: select(store(a,i,v),j)=select(a,j).
     Skip,
+    /// The premises that a walk down from a formula comes to, in any order: the formula
+    /// with the value that it finds.
+    ///
+    /// A premise on the walk has its value; every other not, and, or takes its own from
+    /// all its arguments, also where one settles it. At most eight of these lie on a
+    /// path, the formula's own being the first; from a premise the walk does not go on.
+    /// Where a path ends elsewhere, a premise is not met or the value is another, the
+    /// step is refused with 13, and the place is the term.
+    ///
+    /// ```
+    /// use cdsat::{Head, Log, Rule, Sort, Verdict};
+    ///
+    /// // A lamp is lit if its fader is up and the house is not dark.
+    /// let mut log = Log::new();
+    /// let [up, dark] = [0, 1].map(|at| log.term(Head::Free(at), Sort::PROP, &[]));
+    /// let bright = log.term(Head::Not, Sort::PROP, &[dark]);
+    /// let lit = log.term(Head::And, Sort::PROP, &[up, bright]);
+    /// log.input(up, 1).input(dark, 0).input(lit, 0);
+    ///
+    /// let mut one_line = log.clone();
+    /// one_line.fail(Rule::Deep, lit, true, &[dark, up]);
+    /// assert_eq!(one_line.run().outcome.verdict, Verdict::Refuted);
+    ///
+    /// let mut two_lines = log.clone();
+    /// two_lines.deduce(Rule::Eval, bright, true, &[dark]);
+    /// two_lines.fail(Rule::Eval, lit, true, &[up, bright]);
+    /// assert_eq!(two_lines.run().outcome.verdict, Verdict::Refuted);
+    ///
+    /// let mut no_leaf = log.clone();
+    /// no_leaf.fail(Rule::Deep, lit, true, &[up]);
+    /// let outcome = no_leaf.run().outcome;
+    /// assert_eq!((outcome.number, outcome.column()), (13, Some("term")));
+    /// ```
+    Deep,
 }
 
 /// An entry of the trail.

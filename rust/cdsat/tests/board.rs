@@ -125,6 +125,69 @@ fn the_other_line_was_meant() {
     assert_eq!(run.outcome.meaning(), meaning);
 }
 
+/// Three layers over the board's two equalities: not(or(not(e),g)).
+#[test]
+fn deep_walks_down() {
+    let Board {
+        mut log,
+        a,
+        e,
+        g,
+        not_e,
+        ..
+    } = board();
+    let or = log.term(Head::Or, Sort::PROP, &[not_e, g]);
+    let top = log.term(Head::Not, Sort::PROP, &[or]);
+    log.input(e, 1).input(g, 0);
+    let end = |value: bool, premises: &[Term]| {
+        let mut log = log.clone();
+        log.deduce(Rule::Deep, top, value, premises);
+        assert_eq!(log.steps()[..2], [Step::Deduce as u16, 13]);
+        log.run().outcome.numbers()
+    };
+    assert_eq!(end(true, &[e, g]), [0, 1, 0, 3, 0]);
+    assert_eq!(end(true, &[g, e, g, e, e]), [0, 1, 0, 3, 0]);
+    assert_eq!(end(false, &[e, g]), [2, 0, 13, 2, 3]);
+    assert_eq!(end(true, &[e]), [2, 0, 13, 2, 3]);
+    assert_eq!(end(true, &[]), [2, 0, 13, 2, 3]);
+    assert_eq!(end(true, &[e, g, or]), [2, 0, 12, 2, 7]);
+    let mut given = log.clone();
+    given.input(or, 0).input(a, 1);
+    let mut met = given.clone();
+    met.deduce(Rule::Deep, top, true, &[or]);
+    assert_eq!(met.run().outcome.numbers(), [0, 1, 0, 5, 0]);
+    for premises in [[or, e], [or, a], [a, or]] {
+        let mut log = given.clone();
+        log.deduce(Rule::Deep, top, true, &premises);
+        assert_eq!(log.run().outcome.numbers(), [2, 0, 13, 4, 3]);
+    }
+    let mut itself = log.clone();
+    itself.deduce(Rule::Deep, g, false, &[g]);
+    assert_eq!(itself.run().outcome.numbers(), [2, 0, 14, 2, 0]);
+    let mut itself = log.clone();
+    itself.fail(Rule::Deep, g, false, &[g]);
+    assert_eq!(itself.run().outcome.numbers(), [2, 0, 16, 2, 0]);
+}
+
+/// Eight negations are walked, a ninth is not.
+#[test]
+fn deep_ends_at_eight_layers() {
+    for count in 1..=9 {
+        let Board { mut log, g, .. } = board();
+        let mut top = g;
+        for _ in 0..count {
+            top = log.term(Head::Not, Sort::PROP, &[top]);
+        }
+        log.input(g, 1);
+        log.deduce(Rule::Deep, top, count % 2 == 0, &[g]);
+        let wanted = match count {
+            9 => [2, 0, 13, 1, 3],
+            _ => [0, 1, 0, 2, 0],
+        };
+        assert_eq!(log.run().outcome.numbers(), wanted, "{count}");
+    }
+}
+
 /// The board's two equalities as circuits that exclude each other: their and is
 /// false, and a clause says so. A conflict over both, in which the and is at level 1,
 /// a slot at level 2 and the circuits at the levels 3 and 4.

@@ -296,6 +296,9 @@ fn places_in_texts() {
         ("fail cong g true - - - - -", 13, 5, "p"),
         ("fail cong g true g - - - -", 13, 5, "p"),
         ("fail cong g true e e - - -", 13, 6, "q"),
+        ("fail deep g true e - - - -", 13, 3, "term"),
+        ("fail deep g true g - - - -", 13, 3, "term"),
+        ("fail deep g true e g a - -", 12, 7, "r"),
     ] {
         let checked = check(with("fail cong g true e - - - -", row).as_bytes());
         assert_eq!(checked.outcome.numbers(), [2, 0, number, 2, place], "{row}");
