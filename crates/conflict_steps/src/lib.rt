@@ -112,7 +112,7 @@ fn resolve_refusal(
 
 // Numbers 17, 20, 21.
 fn clear_refusal(terms: &[u16], work: &[u64], w: usize, n: usize, count: usize, a: Row) -> u16
-    requires { ⌜ Found w n (now work) count × (a .0 < n) ⌝ }
+    requires { ⌜ Found w n (now work) count × (n ≡ termRows (now terms)) × (a .0 < n) ⌝ }
     ensures { λ r. ⌜ r ≡ clearRefusal (now (terms .entry)) (trailIn w n (now (work .entry)) count) (conflictIn w n (now (work .entry))) (a .0) ⌝ }
 {
     if !conflicts::in_conflict(work, w, n, a) {
@@ -140,7 +140,7 @@ fn jump_refusal(
     l: Row,
     m: Level,
 ) -> u16
-    requires { ⌜ Found w n (now work) count × (l .0 < n) × (m .0 ≡ restLevel w n (now work) count (l .0)) ⌝ }
+    requires { ⌜ Found w n (now work) count × (n ≡ termRows (now terms)) × (l .0 < n) × (m .0 ≡ restLevel w n (now work) count (l .0)) ⌝ }
     ensures { λ r. ⌜ r ≡ jumpRefusal (now (terms .entry)) (trailIn w n (now (work .entry)) count) (conflictIn w n (now (work .entry))) (l .0) ⌝ }
 {
     if !conflicts::in_conflict(work, w, n, l) {

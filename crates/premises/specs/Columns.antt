@@ -1,12 +1,11 @@
--- What the premises of a step row are found to be in the words, what a claim says beside its step row, and the premises column by column.
+-- What the premises of a step row are found to be in the words, what a claim says beside its step row, and the first premise that is absent.
 use mathlib.Core.Path.{_≡_}
-use mathlib.Core.Bool.{Bool, true, not}
+use mathlib.Core.Bool.{true, not}
 use mathlib.Core.List.{List, _∷_}
 use Prim.Native.Nat.{ℕ, suc}
-use Rattle.calculus.specs.Lists.{all, has}
-use Rattle.calculus.specs.Terms.{filled}
+use Rattle.calculus.specs.Lists.{all}
 use Rattle.calculus.specs.declared.Step.{Step}
-use Rattle.calculus.specs.Trail.{Trail, on, levelOf, premisesAt}
+use Rattle.calculus.specs.Trail.{Trail, on, premisesAt}
 use Rattle.calculus.specs.Steps.{premises}
 use Rattle.calculus.specs.Place.{firstFault}
 use Rattle.rule_claims.specs.declared.Claim.{Claim}
@@ -24,18 +23,7 @@ pub record Claims (tr : Trail) (x : Step) (y : Claim) : Type 0 where
   pub value : y .value ≡ x .value
   pub premises : premisesOf y ≡ premisesAt tr (premises x)
 
--- m is the level of the premises in the columns xs, where all of them stand on the trail
-abbrev pub PremisesLevel : Trail → List ℕ → ℕ → Type 0
-PremisesLevel tr xs m = all (on tr) (filled xs) ≡ true → m ≡ levelOf tr (has (filled xs))
-
--- ---- one more column in front: what it makes of the answer for the rest
-
-abbrev pub MoreOn : Trail → ℕ → Bool → Bool → Type 0
-MoreOn tr p rest r = (xs : List ℕ) → rest ≡ all (on tr) (filled xs) → r ≡ all (on tr) (filled (p ∷ xs))
-
+-- the column of the first premise that is not on the trail: what column c, which holds p, makes of the answer for the rest
 abbrev pub MoreAbsent : Trail → ℕ → ℕ → ℕ → ℕ → Type 0
 MoreAbsent tr c p rest r =
     (xs : List ℕ) → rest ≡ firstFault (λ y. not (on tr y)) (suc c) xs → r ≡ firstFault (λ y. not (on tr y)) c (p ∷ xs)
-
-abbrev pub MoreLevel : Trail → ℕ → ℕ → ℕ → Type 0
-MoreLevel tr p rest r = (xs : List ℕ) → PremisesLevel tr xs rest → PremisesLevel tr (p ∷ xs) r

@@ -144,7 +144,10 @@ module _ (w n : ℕ) (ts ws : List ℕ) (st : Status) where
 
     -- what the tests ask
     pub inferred : Inferring w n ts ws st x → Inferred w n ts ws (st .count) x
-    inferred g = record { laid = g .searching .standing .held .laid; rows = g .searching .standing .held .rows; truth = g .truth }
+    inferred g =
+        let s = g .searching in
+        let h = s .standing .held in
+        record { laid = h .laid; rows = h .rows; row = s .row; truth = g .truth }
 
     -- a refusal with its place
     refused-at : (a : calculus.Answer) {m : ℕ} {c : Refusal} → Refuses at m c → (c .number ≡ 0 → ⊥)

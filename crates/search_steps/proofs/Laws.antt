@@ -1,6 +1,6 @@
 -- What a rule answers, what it is asked of, and the level of a clash.
 use mathlib.Core.Path.{_≡_, refl, sym, _∙_}
-use mathlib.Core.Bool.{Bool, true, false, true≢false}
+use mathlib.Core.Bool.{Bool, true, false}
 use mathlib.Core.List.{List, [], _∷_}
 use Prim.Native.Nat.{ℕ, max}
 use native.Mathlib.Omega.{arith}
@@ -8,7 +8,7 @@ use Rattle.calculus.specs.declared.Fit.{Fit}
 use Rattle.calculus.specs.declared.Fit.the-variants.{Fits, Unfit}
 use Rattle.calculus.specs.declared.Rule.{Rule}
 use Rattle.calculus.specs.declared.Step.{Step}
-use lib.Dec.{T, ltb, nltb→le}
+use lib.Dec.{T, ltb, lt→ltb}
 use Rattle.calculus.specs.Lists.{all, has}
 use Rattle.calculus.specs.Sheets.{termRows}
 use Rattle.calculus.specs.Trail.{Trail, on, levelAt, levelOf, premisesAt}
@@ -16,9 +16,9 @@ use Rattle.calculus.specs.Rules.{fits, fitOf, ruleOf}
 use Rattle.calculus.specs.Steps.{premises, clashSet}
 use Rattle.calculus.specs.Place.{unfitPlace}
 use Rattle.calculus.specs.WellFormed.{Below}
-use Rattle.calculus.proofs.Facts.{both-true, and-both, true-T, false-T}
+use Rattle.calculus.proofs.Facts.{both-true, and-both}
+use Rattle.calculus.proofs.Trails.{on-below}
 use Rattle.completions.specs.Search.{isRow}
-use Rattle.state.proofs.States.{below-off}
 use Rattle.calculus.proofs.WellFormed.{level-more}
 use Rattle.rule_claims.specs.declared.Claim.{Claim}
 use Rattle.rule_claims.specs.Claims.{premisesOf}
@@ -52,17 +52,12 @@ pub rows-on : (ts : List ℕ) (tr : Trail) (n : ℕ) → n ≡ termRows ts → B
 rows-on ts tr n e b [] h = tt
 rows-on ts tr n e b (p ∷ ps) h =
     let here = both-true (on tr p) (all (on tr) ps) h in
-    and-both (ltb p (termRows ts)) _ (rw (← e) (on-row (ltb p n) refl (here .0))) (rows-on ts tr n e b ps (here .1))
-  where
-    on-row : (r : Bool) → ltb p n ≡ r → on tr p ≡ true → T (ltb p n)
-    on-row true q o = true-T _ q
-    on-row false q o = absurd (true≢false (sym o ∙ below-off n tr p b (nltb→le p n (false-T _ q))))
+    and-both (ltb p (termRows ts)) _ (rw (← e) (lt→ltb p n (on-below n p tr b (here .0)))) (rows-on ts tr n e b ps (here .1))
 
 -- ---- levels
 
 -- the level of premises and term
 pub clash-level-is : (w n : ℕ) (ws : List ℕ) (count : ℕ) (x : Step) {l p r : ℕ} → Premised w n ws count x
-    → on (trailIn w n ws count) (x .term) ≡ true → (on (trailIn w n ws count) (x .term) ≡ true → l ≡ levelAt (trailIn w n ws count) (x .term))
-    → p ≡ levelOf (trailIn w n ws count) (has (premises x)) → r ≡ max l p
+    → l ≡ levelAt (trailIn w n ws count) (x .term) → p ≡ levelOf (trailIn w n ws count) (has (premises x)) → r ≡ max l p
     → r ≡ levelOf (trailIn w n ws count) (clashSet (x .term) (premises x))
-clash-level-is w n ws count x g o a b e = rw (e, a o, b) (sym (level-more _ (has (premises x)) (x .term) (g .laid .distinct)))
+clash-level-is w n ws count x g a b e = rw (e, a, b) (sym (level-more _ (has (premises x)) (x .term) (g .laid .distinct)))

@@ -161,19 +161,22 @@ module _ (ts : List ℕ) (tr : Trail) (x : Step) where
     then-rest : (n : ℕ) (rest : ℕ) → at ts tr x n ≡ 0 → n ≡ rest → Said (shared rest) (unplaced n)
     then-rest n rest z e = bare ts tr x n z (second-part rest (shared-parts rest) (sym (g .passed)) refl e)
 
-    module _ {a : Bool} (a-is : a ≡ assigned tr l v) where
-      pub deduce-14 : a ≡ true → Said (deduceRefusal ts tr r l v ps) (unplaced 14)
+    module _ {b : Bool} (b-is : b ≡ on tr l) where
+      -- a term that is not on the trail has no value there
+      pub deduce-0 : not b ≡ true → Said (deduceRefusal ts tr r l v ps) (unplaced 0)
       unfolding deduceRefusal placeOf
-      deduce-14 h = then-rest 14 _ refl (stops _ _ (ap not (told a-is h)))
+      deduce-0 h =
+          let off = told-not b-is h in
+          then-rest 0 _ refl (past _ _ (rw off) (past _ _ (ap not off) refl))
 
-      module _ (a-no : a ≡ false) {b : Bool} (b-is : b ≡ on tr l) where
-        pub deduce-15 : b ≡ true → Said (deduceRefusal ts tr r l v ps) (unplaced 15)
+      module _ (b-in : not b ≡ false) {a : Bool} (a-is : a ≡ assigned tr l v) where
+        pub deduce-14 : a ≡ true → Said (deduceRefusal ts tr r l v ps) (unplaced 14)
         unfolding deduceRefusal placeOf
-        deduce-15 h = then-rest 15 _ refl (past _ _ (ap not (told a-is a-no)) (stops _ _ (ap not (told b-is h))))
+        deduce-14 h = then-rest 14 _ refl (stops _ _ (ap not (told a-is h)))
 
-        pub deduce-0 : b ≡ false → Said (deduceRefusal ts tr r l v ps) (unplaced 0)
+        pub deduce-15 : a ≡ false → Said (deduceRefusal ts tr r l v ps) (unplaced 15)
         unfolding deduceRefusal placeOf
-        deduce-0 h = then-rest 0 _ refl (past _ _ (ap not (told a-is a-no)) (past _ _ (ap not (told b-is h)) refl))
+        deduce-15 h = then-rest 15 _ refl (past _ _ (ap not (told a-is h)) (stops _ _ (ap not (told-yes b-is b-in))))
 
     module _ {o : ℕ} (o-is : o ≡ opposite v) {a : Bool} (a-is : a ≡ assigned tr l o) where
       held : {b : Bool} → a ≡ b → assigned tr l (opposite v) ≡ b

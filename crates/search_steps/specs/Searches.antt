@@ -26,10 +26,11 @@ pub record Inferring (w n : ℕ) (ts ws : List ℕ) (st : Status) (x : Step) : T
   pub searching : Searching w n ts ws st (x .term)
   pub truth : x .value ≤ 1
 
--- what the tests of such a row find: the words are a trail of the sheet's rows
+-- what the tests of such a row find: the words are a trail of the sheet's rows, and the term is one of them
 pub record Inferred (w n : ℕ) (ts ws : List ℕ) (count : ℕ) (x : Step) : Type 0 where
   pub laid : Laid w n ws count
   pub rows : n ≡ termRows ts
+  pub row : x .term < n
   pub truth : x .value ≤ 1
 
 -- the kinds of such rows

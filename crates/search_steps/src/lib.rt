@@ -1,6 +1,8 @@
 // The steps of the search: decide, deduce, clash, fail. Each has its number, found by reading alone, and then what it does.
 ghost use mathlib.Core.Path.{_≡_};
 ghost use mathlib.Core.Bool.{true};
+ghost use Prim.Native.Nat.{_<_};
+ghost use Rattle.calculus.specs.Sheets.{termRows};
 ghost use Rattle.calculus.specs.Inputs.{valueSuits};
 ghost use Rattle.calculus.specs.Trail.{on, levelOf};
 ghost use Rattle.calculus.specs.Steps.{premises, clashSet, decideRefusal, inferenceRefusal, deduceRefusal};
@@ -23,6 +25,7 @@ use state::Status;
 
 // Whether v is a value for term row t: for a prop, 0 or 1.
 fn value_suits(terms: &[u16], t: Row, v: u16) -> bool
+    requires { ⌜ t .0 < termRows (now terms) ⌝ }
     ensures { λ r. ⌜ r ≡ valueSuits (now (terms .entry)) (t .0) v ⌝ }
 {
     let p = state::is_prop(terms, t);
@@ -51,7 +54,7 @@ fn decide_refusal(
     t: Row,
     v: u16,
 ) -> u16
-    requires { ⌜ Laid w n (now work) count ⌝ }
+    requires { ⌜ Laid w n (now work) count × (t .0 < termRows (now terms)) ⌝ }
     ensures { λ r. ⌜ r ≡ decideRefusal (now (terms .entry)) (trailIn w n (now (work .entry)) count) (t .0) v ⌝ }
 {
     if !value_suits(terms, t, v) {
@@ -112,20 +115,20 @@ fn deduce_refusal(terms: &[u16], work: &[u64], w: usize, n: usize, count: usize,
     ensures { λ r. ⌜ Refuses (placeOf (now (terms .entry)) (trailIn w n (now (work .entry)) count) x)
         (deduceRefusal (now (terms .entry)) (trailIn w n (now (work .entry)) count) (x .rule) (x .term) (x .value) (premises x)) r ⌝ }
 {
+    if !state::stands(work, w, n, count, Row(x.term)) {
+        return Refusal {
+            number: 0,
+            place: 0,
+        };
+    }
     if state::has_value(work, w, n, count, Row(x.term), x.value) {
         return Refusal {
             number: 14,
             place: 0,
         };
     }
-    if state::stands(work, w, n, count, Row(x.term)) {
-        return Refusal {
-            number: 15,
-            place: 0,
-        };
-    }
     Refusal {
-        number: 0,
+        number: 15,
         place: 0,
     }
 }

@@ -2,6 +2,7 @@
 ghost use mathlib.Core.Path.{_≡_};
 ghost use mathlib.Core.Bool.{true};
 ghost use Prim.Native.Nat.{_<_};
+ghost use Rattle.calculus.specs.Sheets.{termRows};
 ghost use Rattle.calculus.specs.Terms.{prop};
 ghost use Rattle.calculus.specs.Trail.{on, valueAt, levelAt, assigned};
 ghost use Rattle.trail.specs.Words.{trailIn, Laid};
@@ -46,15 +47,12 @@ pub fn value_at(work: &[u64], w: usize, n: usize, count: usize, t: Row) -> u16
     BLANK
 }
 
-// The level of t, where it stands on the trail.
+// The level of t, which stands on the trail.
 pub fn level_at(work: &[u64], w: usize, n: usize, count: usize, t: Row) -> Level
-    requires { ⌜ Laid w n (now work) count ⌝ }
-    ensures { λ r. ⌜ (on (trailIn w n (now (work .entry)) count) (t .0) ≡ true → r .0 ≡ levelAt (trailIn w n (now (work .entry)) count) (t .0)) ⌝ }
+    requires { ⌜ Laid w n (now work) count × (on (trailIn w n (now work) count) (t .0) ≡ true) ⌝ }
+    ensures { λ r. ⌜ r .0 ≡ levelAt (trailIn w n (now (work .entry)) count) (t .0) ⌝ }
 {
-    if (t.0 as usize) < n {
-        return trail::level(work, w, n, count, t);
-    }
-    Level(0)
+    trail::level(work, w, n, count, t)
 }
 
 // Whether t stands on the trail with value v.
@@ -70,7 +68,8 @@ pub fn has_value(work: &[u64], w: usize, n: usize, count: usize, t: Row, v: u16)
 
 // Whether term row t is of sort prop.
 pub fn is_prop(terms: &[u16], t: Row) -> bool
+    requires { ⌜ t .0 < termRows (now terms) ⌝ }
     ensures { λ r. ⌜ r ≡ prop (now (terms .entry)) (t .0) ⌝ }
 {
-    rows::cell(terms, t.0 as usize * 6 + 1) == 0
+    terms[t.0 as usize * 6 + 1] == 0
 }
