@@ -15,7 +15,7 @@ use Rattle.calculus.specs.Rules.{rowOf, valueOf, notOf, andOf, orOf, eva
 use Rattle.calculus.specs.Rules.{isConnective, grounded, walkValue, comesTo, fits, ruleOf}
 use Rattle.calculus.specs.Steps.{inferenceRefusal}
 use Rattle.calculus.proofs.Facts.{and-l, and-r, and-both, or-l, or-r, eqb-of, T-true, T-false, true-T, all-of, any-at, any-of, unless-yes, unless-ok}
-use Rattle.calculus.proofs.Forms.{connectiveNumber, connective-case}
+use Rattle.calculus.proofs.Forms.{connective-case}
 use Rattle.calculus.proofs.WellSorted.{eqList-eq, WellSorted, row-args}
 
 -- ---- premises by their row
@@ -89,7 +89,7 @@ heads true b c x y z t = tt
 heads false true c x y z t = tt
 heads false false c x y z t = and-l c z t
 
-pub evaluates-once : (h : ℕ) (xs : List ℕ) (v : ℕ) → T (evaluates h xs v) → T (connectiveNumber h) × (v ≡ num (evaluates h xs 1))
+pub evaluates-once : (h : ℕ) (xs : List ℕ) (v : ℕ) → T (evaluates h xs v) → T (isConnective h) × (v ≡ num (evaluates h xs 1))
 evaluates-once h xs v t =
     let c = heads (eqb h notHead) (eqb h andHead) (eqb h orHead) _ _ _ t in (
       c,
@@ -98,7 +98,7 @@ evaluates-once h xs v t =
 
 -- the test of eval: the premises are the arguments, and their values give the connective its own
 pub evaluation-says : (ts : List ℕ) (l v : ℕ) (ps : List Premise) → T (fits ts Evaluation l v ps)
-    → (map rowOf ps ≡ args ts l) × T (isConnective ts l) × (v ≡ num (evaluates (head ts l) (map valueOf ps) 1))
+    → (map rowOf ps ≡ args ts l) × T (isConnective (head ts l)) × (v ≡ num (evaluates (head ts l) (map valueOf ps) 1))
 unfolding fits
 evaluation-says ts l v ps h =
     let rows = eqList (map rowOf ps) (args ts l) in
@@ -132,10 +132,10 @@ module _ {ss ts : List ℕ} (W : WellSorted ss ts) where
           let w : y .0 .row ≡ l = eqb→eq _ _ (y .2) in
           omega arith)
 
-      down : (n : ℕ) → map rowOf ps ≡ args ts l → T (isConnective ts l) → T (grounded ts ps (suc n) l)
+      down : (n : ℕ) → map rowOf ps ≡ args ts l → T (isConnective (head ts l)) → T (grounded ts ps (suc n) l)
       down n e c =
           or-r (isPremise ps l) _
-          (and-both (isConnective ts l) _ c (all-of (grounded ts ps n) (args ts l) (λ a m. grounded-here ts ps n a (at e a m))))
+          (and-both (isConnective (head ts l)) _ c (all-of (grounded ts ps n) (args ts l) (λ a m. grounded-here ts ps n a (at e a m))))
 
       meets : (n : ℕ) → map rowOf ps ≡ args ts l → (p : Premise) → List·Memᴰ p ps → T (comesTo ts ps (suc n) (p .row) l)
       meets n e p m =

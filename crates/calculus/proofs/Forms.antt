@@ -18,7 +18,7 @@ use Rattle.calculus.specs.Sheets.{blank}
 use Rattle.calculus.specs.Terms.{head, cells, filled, args, arg, heads, headOf, isFree, isFunction, twins}
 use Rattle.calculus.specs.Terms.{eqHead, notHead, andHead, orHead, selectHead, storeHead, firstFree}
 use Rattle.calculus.specs.Place.{firstFault, premiseFault}
-use Rattle.calculus.specs.Rules.{leading, gives, others, allBut, unitAt, isHead, pairs, fits}
+use Rattle.calculus.specs.Rules.{isConnective, leading, gives, others, allBut, unitAt, isHead, pairs, fits}
 use Rattle.calculus.proofs.Facts.{or-cases}
 
 -- ---- filled columns
@@ -30,6 +30,10 @@ filled-short (x ∷ xs) = go (filled-short xs) (eqb x blank)
     go : length (filled xs) ≤ length xs → (b : Bool) → length (cond b [] (x ∷ filled xs)) ≤ suc (length xs)
     go h true = omega arith
     go h false = omega arith
+
+pub args-short : (ts : List ℕ) (t : ℕ) → length (args ts t) ≤ 4
+unfolding args cells
+args-short ts t = filled-short (cells ts t)
 
 -- ---- heads
 
@@ -74,12 +78,8 @@ function-numbers (suc (suc (suc (suc (suc (suc n)))))) =
     let h = suc (suc (suc (suc (suc (suc n))))) in
     is-function-past (freeNumber h) ∙ sym (rw (lt-leb h storeHead (omega arith), and-false (leb selectHead h)))
 
--- the number of a connective's head: not's, and's or or's
-abbrev pub connectiveNumber : ℕ → Bool
-connectiveNumber h = eqb h notHead || (eqb h andHead || eqb h orHead)
-
--- a case for each
-pub connective-case {ℓ} : (P : ℕ → Type ℓ) → P notHead → P andHead → P orHead → (h : ℕ) → T (connectiveNumber h) → P h
+-- a connective is not, and, or or
+pub connective-case {ℓ} : (P : ℕ → Type ℓ) → P notHead → P andHead → P orHead → (h : ℕ) → T (isConnective h) → P h
 connective-case P n a o h c = go (or-cases (eqb h notHead) _ c)
   where
     here : {k : ℕ} → P k → T (eqb h k) → P h

@@ -1,4 +1,4 @@
--- The fourteen rules: when a rule gives term l the value v from the premises ps, in their order.
+-- The fourteen rules: when a rule gives term l the value v from the premises ps. The order of the premises counts, but not for deep.
 use mathlib.Core.Bool.{Bool, true, false, not, _&&_, _||_, cond}
 use mathlib.Core.List.{List, [], _∷_, _++_, map}
 use Prim.Native.Nat.{ℕ, zero, suc, _+_}
@@ -73,6 +73,10 @@ andOf xs = all isTrue xs
 abbrev pub orOf : List ℕ → Bool
 orOf xs = any isTrue xs
 
+-- h is the head of a connective
+abbrev pub isConnective : ℕ → Bool
+isConnective h = eqb h notHead || (eqb h andHead || eqb h orHead)
+
 -- head h over the truth values xs has the value v
 abbrev pub evaluates : ℕ → List ℕ → ℕ → Bool
 evaluates h xs v =
@@ -135,13 +139,10 @@ module _ (ts : List ℕ) where
   pairs (a ∷ xs) (b ∷ ys) [] = false
   pairs (a ∷ xs) (b ∷ ys) (p ∷ ps) = equates a b 1 p && pairs xs ys ps
 
-  abbrev pub isConnective : ℕ → Bool
-  isConnective t = isHead t notHead || (isHead t andHead || isHead t orHead)
-
   -- within n connectives, every path of the walk down from t ends at a premise
   unfoldable pub grounded : List Premise → ℕ → ℕ → Bool
   grounded ps zero t = isPremise ps t
-  grounded ps (suc n) t = isPremise ps t || (isConnective t && all (grounded ps n) (args ts t))
+  grounded ps (suc n) t = isPremise ps t || (isConnective (head ts t) && all (grounded ps n) (args ts t))
 
   -- the value that the walk gives t: a premise's own, a connective's by those of its arguments
   unfoldable pub walkValue : List Premise → ℕ → ℕ → ℕ

@@ -15,10 +15,9 @@ use Rattle.calculus.specs.Terms.{args, andHead, orHead}
 use Rattle.calculus.specs.Rules.{gives, single, leading, others, allBut, unitAt, fits}
 use Rattle.calculus.specs.Place.{with}
 use Rattle.calculus.proofs.Facts.{and-r, or-cases, facts}
-use Rattle.calculus.proofs.Forms.{connected}
+use Rattle.calculus.proofs.Forms.{args-short, connected}
 use Rattle.completions.specs.Needs.{needs}
 use Rattle.completions.proofs.First.{somewhere-at}
-use Rattle.completions.proofs.Needed.{args-short}
 use Rattle.completions.proofs.Openings.{Exact, Complete, exact-open}
 
 -- p is row r with value w

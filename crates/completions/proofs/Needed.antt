@@ -1,36 +1,22 @@
 -- What a rule needs are at most five premises, whose values a column can have.
-use mathlib.Core.Bool.{Bool, true, false, cond}
 use mathlib.Core.List.{List, [], _∷_, map}
 use Prim.Native.Nat.{ℕ, suc, _≤_, _<_}
 use native.Mathlib.Omega.{arith}
 use lib.ListN.{length, take, drop, length-map, length-append, length-take, length-drop}
-use lib.Dec.{T, eqb, ltb, lt→ltb}
+use lib.Dec.{T, ltb, lt→ltb}
 use Rattle.calculus.specs.declared.Premise.{Premise}
 use Rattle.calculus.specs.declared.Rule.{Rule}
 use Rattle.calculus.specs.declared.Rule.the-variants.{Same, Differ, Reflexivity, Symmetry, Transitivity, Negated, Part, Unit, Evaluation, Congruence, Predicate, Read, Skip, Deep, Unlisted}
 use Rattle.calculus.specs.Lists.{all, opposite}
-use Rattle.calculus.specs.Sheets.{blank}
-use Rattle.calculus.specs.Terms.{cells, filled, args, arg}
+use Rattle.calculus.specs.Terms.{args, arg}
 use Rattle.calculus.specs.Rules.{allBut}
 use Rattle.calculus.specs.Place.{with, freeValues}
 use Rattle.calculus.proofs.Facts.{and-both}
+use Rattle.calculus.proofs.Forms.{args-short}
 use Rattle.completions.specs.Needs.{ways, equations, needs}
 use Rattle.completions.specs.Search.{small}
 
 -- ---- how many
-
--- a term has at most four arguments
-filled-short : (xs : List ℕ) → length (filled xs) ≤ length xs
-filled-short [] = omega arith
-filled-short (x ∷ xs) = go (eqb x blank) (filled-short xs)
-  where
-    go : (b : Bool) → length (filled xs) ≤ length xs → length (cond b [] (x ∷ filled xs)) ≤ suc (length xs)
-    go true h = omega arith
-    go false h = omega arith
-
-pub args-short : (ts : List ℕ) (t : ℕ) → length (args ts t) ≤ 4
-unfolding args cells
-args-short ts t = filled-short (cells ts t)
 
 allBut-short : (i : ℕ) (xs : List ℕ) → length (allBut i xs) ≤ length xs
 allBut-short i xs = omega (arith, length-append (take i xs) (drop (suc i) xs), length-take i xs, length-drop (suc i) xs)

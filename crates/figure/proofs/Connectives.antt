@@ -84,7 +84,7 @@ settles-valued {h} {w} {u} d o vs s = go (found o vs s)
 
 module _ {ss ts : List ℕ} (W : WellSorted ss ts) where
   -- over truth values, one for each argument, a connective has the value that its test takes
-  pub connective-has : (t : ℕ) → t < termRows ts → T (isConnective ts t) → (vs : List ℕ) → length vs ≡ length (args ts t) → Small vs
+  pub connective-has : (t : ℕ) → t < termRows ts → T (isConnective (head ts t)) → (vs : List ℕ) → length vs ≡ length (args ts t) → Small vs
       → Evaluates (head ts t) vs (num (evaluates (head ts t) vs 1))
   connective-has t l c vs n s =
       let r = connective-case (λ h. head ts t ≡ h → Valued vs h) (λ e. not-valued vs s (n ∙ not-count W t l (ap headOf e)))

@@ -2,17 +2,17 @@
 use mathlib.Core.Path.{_≡_, sym, ap, subst, _∙_}
 use mathlib.Core.Bool.{Bool, true, false, _&&_, cond}
 use mathlib.Core.List.{List, [], _∷_}
-use Prim.Native.Nat.{ℕ, zero, suc, _≤_, _<_}
+use Prim.Native.Nat.{ℕ, zero, suc, _<_}
 use native.Mathlib.Omega.{arith}
 use lib.ListN.{length, getD}
 use lib.Dec.{T, eqb, leb, leb→le, le→leb, ltb→lt, lt→ltb, eqb-refl}
 use Rattle.calculus.specs.declared.Head.the-variants.{Free, Unlisted}
 use Rattle.calculus.specs.Lists.{eqList}
 use Rattle.calculus.specs.Sheets.{blank, termRows}
-use Rattle.calculus.specs.Terms.{head, cells, filled, args, arg, headOf, eqHead, notHead, selectHead, storeHead, firstFree}
+use Rattle.calculus.specs.Terms.{head, args, arg, headOf, eqHead, notHead, selectHead, storeHead, firstFree}
 use Rattle.calculus.specs.Terms as terms
 use Rattle.calculus.proofs.Facts.{and-l, and-r, and-both, or-r}
-use Rattle.calculus.proofs.Forms.{filled-short, freeNumber, free-numbers, function-numbers}
+use Rattle.calculus.proofs.Forms.{freeNumber, free-numbers, function-numbers}
 use Rattle.figure.specs.Inferences.{Applied, FreeHead, FunctionHead, isSelect, isStore, isFree}
 use Rattle.calculus.proofs.WellSorted.{arg-is, arg-mem, WellSorted, row-args}
 use Rattle.calculus.proofs.Rows.{one-arg, two-args, three-args, is-equality, not-count, is-select, is-store}
@@ -24,10 +24,6 @@ eqList-refl [] = tt
 eqList-refl (x ∷ xs) = and-both (eqb x x) _ (eqb-refl x) (eqList-refl xs)
 
 -- ---- the arguments of a row
-
-pub args-short : (ts : List ℕ) (t : ℕ) → length (args ts t) ≤ 4
-unfolding args cells
-args-short ts t = filled-short (cells ts t)
 
 -- an argument of a known list of them, as its column
 pub column : (ts : List ℕ) (t k : ℕ) {xs : List ℕ} → args ts t ≡ xs → k < length xs → arg ts t k ≡ getD xs k blank

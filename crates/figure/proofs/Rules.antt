@@ -18,14 +18,14 @@ use Rattle.calculus.specs.Terms as terms
 use Rattle.calculus.specs.Rules.{rowOf, valueOf, gives, bare, single, double, leading, evaluates, others, unitAt, layers}
 use Rattle.calculus.specs.Rules.{isHead, isEq, equates, pairs, grounded, walkValue, comesTo, fits}
 use Rattle.calculus.proofs.Facts.{eqb-of, neqb-of, and-l, and-r, and-both, or-cases, or-l, or-r, facts, all-at, all-of, has-at, has-of}
-use Rattle.calculus.proofs.Forms.{unitHere, unit-none, unit-last, unit-front, connected}
+use Rattle.calculus.proofs.Forms.{args-short, unitHere, unit-none, unit-last, unit-front, connected}
 use Rattle.figure.specs.Inferences.{assign, Applied, Equation, orByTrue, andByFalse, Pointwise, noPosition, position}
 use Rattle.figure.specs.Inferences.{Infers, same, differ, reflexivity, symmetry, transitivity, negated, part, unit, evaluation}
 use Rattle.figure.specs.Inferences.{congruence, predicate, read, skip, deep}
 use Rattle.calculus.proofs.WellSorted.{WellSorted}
 use Rattle.calculus.proofs.Rows.{connective-row}
 use Rattle.calculus.proofs.Deep.{evaluation-says}
-use Rattle.figure.proofs.Rows.{eqList-refl, args-short, column, function-head, free-head, function-test, free-test}
+use Rattle.figure.proofs.Rows.{eqList-refl, column, function-head, free-head, function-test, free-test}
 use Rattle.figure.proofs.Rows.{equation-row, select-row, store-row, not-row}
 use Rattle.figure.proofs.Connectives.{opposite-of, opposite-sum, Small, evaluates-of, connective-has}
 use Rattle.figure.proofs.Walks.{Truths, walk-test, comes-test, walk-is, comes-is}

@@ -14,7 +14,6 @@ use Rattle.calculus.specs.Terms.{head, sort, args}
 use Rattle.calculus.specs.Rules.{evaluates, isPremise, premiseValue, isConnective, grounded, walkValue, comesTo}
 use Rattle.calculus.proofs.Facts.{num-le, and-l, and-r, and-both, or-cases, or-l, or-r, neqb-of, neq, T-true, T-false, true-T, false-T, cond-case}
 use Rattle.calculus.proofs.Facts.{all-at, any-at, any-of}
-use Rattle.calculus.proofs.Forms.{connectiveNumber}
 use Rattle.calculus.proofs.WellSorted.{WellSorted, row-args}
 use Rattle.calculus.proofs.Rows.{connective-row}
 use Rattle.calculus.proofs.Deep.{premise-here, premise-in, grounded-here, value-here, comes-here, evaluates-once}
@@ -58,7 +57,7 @@ mutual
       let y = evaluates-once h vs v (evaluates-of x) in
       let q : isPremise J t ≡ false = T-false _ (none-test o) in (
         or-r (isPremise J t) _
-            (and-both (isConnective ts t) _ (subst (λ k. T (connectiveNumber k)) (sym (a .headed)) (y .0))
+            (and-both (isConnective (head ts t)) _ (subst (λ k. T (isConnective k)) (sym (a .headed)) (y .0))
             (subst (λ ys. T (all (grounded ts J n) ys)) (sym (a .arguments)) (r .0))),
         rw q ((λ i. num (evaluates (a .headed i) (map (walkValue ts J n) (a .arguments i)) 1)) ∙ (λ i. num (evaluates h (r .1 i) 1)) ∙ sym (y .1)),
       )
@@ -119,9 +118,9 @@ module _ {ss ts : List ℕ} (W : WellSorted ss ts) (J : List Premise) (N : Truth
       cond-case (Walk ts J (suc n) t) (isPremise J t) _ _ (λ e. atPremise (first-is J t (true-T _ e))) (λ e.
       let xs = args ts t in
       let value = walkValue ts J n in
-      let r : T (isConnective ts t && all (grounded ts J n) xs) = rw e at h in
-      let c = and-l (isConnective ts t) _ r in
-      let down : (x : ℕ) → List·Memᴰ x xs → T (grounded ts J n x) = λ x m. all-at (grounded ts J n) xs (and-r (isConnective ts t) _ r) m in
+      let r : T (isConnective (head ts t) && all (grounded ts J n) xs) = rw e at h in
+      let c = and-l (isConnective (head ts t)) _ r in
+      let down : (x : ℕ) → List·Memᴰ x xs → T (grounded ts J n x) = λ x m. all-at (grounded ts J n) xs (and-r (isConnective (head ts t)) _ r) m in
       let small : Small (map value xs) = λ v m.
       let y = Memᴰ·of-map value xs m in
       subst (λ w. w ≤ 1) (y .2) (walk-small n (y .0) (connective-row W t l c .arguments (y .0) (y .1)) (down (y .0) (y .1))) in

@@ -10,7 +10,7 @@
 ghost use mathlib.Core.Path.{_≡_};
 ghost use mathlib.Core.Bool.{false, cond};
 ghost use mathlib.Core.List.{[]};
-ghost use Prim.Native.Nat.{_≤_, max};
+ghost use Prim.Native.Nat.{_≤_};
 ghost use lib.Dec.{ltb};
 ghost use lib.ListN.{length, take};
 ghost use Rattle.calculus.specs.Lists.{all};
@@ -33,15 +33,9 @@ use rows::BLANK;
 use rows::term_at;
 use rule_claims::Claim;
 use rule_claims::EQ;
+use rule_claims::larger;
 
 // ---- known premises over what is needed
-
-// The larger of two numbers.
-fn larger(a: u16, b: u16) -> u16
-    ensures { λ r. ⌜ r ≡ max a b ⌝ }
-{
-    if a < b { b } else { a }
-}
 
 // p where b holds, else q.
 fn pick(b: bool, p: Premise, q: Premise) -> Premise

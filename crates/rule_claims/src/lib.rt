@@ -1,6 +1,7 @@
 // What a deduce, clash or fail row claims, and what the fourteen rules share: how many premises there are, and the shape of a term.
 ghost use mathlib.Core.Path.{_≡_};
 ghost use mathlib.Core.Bool.{_&&_, not};
+ghost use Prim.Native.Nat.{max};
 ghost use lib.Dec.{eqb};
 ghost use Rattle.calculus.specs.Lists.{num};
 ghost use Rattle.calculus.specs.Terms.{eqHead};
@@ -95,6 +96,13 @@ pub fn connected(e: Term, h: u16, p: Premise, w: u16, v: u16, z: u16) -> bool
     ensures { λ r. ⌜ r ≡ (eqb (e .head) h && (eqb (p .value) w && eqb v z)) ⌝ }
 {
     (e.head == h) & ((p.value == w) & (v == z))
+}
+
+// The larger of two numbers.
+pub fn larger(a: u16, b: u16) -> u16
+    ensures { λ r. ⌜ r ≡ max a b ⌝ }
+{
+    if a < b { b } else { a }
 }
 
 // A truth value as a number.

@@ -14,7 +14,7 @@ use Rattle.calculus.specs.Sheets.{blank}
 use Rattle.calculus.specs.Rules.{isPremise, premiseValue}
 use Rattle.calculus.proofs.Facts.{num-le}
 use Rattle.rule_claims.specs.Claims.{gap, stated}
-use Rattle.rule_deep.specs.Walks.{marked, everyOne, itself}
+use Rattle.rule_deep.specs.Walks.{marked, everyOne, sameRow}
 
 -- ---- bits
 
@@ -116,11 +116,11 @@ marks-either f g (p ∷ ps) = go (f (p .row)) (g (p .row)) (marked f ps) (marked
 
 -- a bit is set just where a premise is on t
 module _ (ps : List Premise) (t : ℕ) where
-  pub on-premise : marked (itself t) ps ≢ 0 → isPremise ps t ≡ true
-  on-premise n = marks-any (itself t) ps ∙ ap not (ne-eqb (marked (itself t) ps) 0 n)
+  pub on-premise : marked (sameRow t) ps ≢ 0 → isPremise ps t ≡ true
+  on-premise n = marks-any (sameRow t) ps ∙ ap not (ne-eqb (marked (sameRow t) ps) 0 n)
 
-  pub off-premise : marked (itself t) ps ≡ 0 → isPremise ps t ≡ false
-  off-premise e = marks-any (itself t) ps ∙ ap not (eq-eqb (marked (itself t) ps) 0 e)
+  pub off-premise : marked (sameRow t) ps ≡ 0 → isPremise ps t ≡ false
+  off-premise e = marks-any (sameRow t) ps ∙ ap not (eq-eqb (marked (sameRow t) ps) 0 e)
 
 -- ---- values
 -- the value by the first of the premises on a row

@@ -19,7 +19,7 @@ use Rattle.calculus.proofs.Forms.{connective-case}
 use Rattle.calculus.proofs.Deep.{premise-here, grounded-here, value-here}
 use Rattle.rule_claims.specs.Claims.{stated}
 use Rattle.rule_deep.specs.declared.Walked.{Walked}
-use Rattle.rule_deep.specs.Walks.{marked, everyOne, itself, connects, noArgument, connected, joined, FindsRow, FindsArgs}
+use Rattle.rule_deep.specs.Walks.{marked, everyOne, sameRow, noArgument, connected, joined, FindsRow, FindsArgs}
 use Rattle.rule_deep.proofs.Bits.{marks-all, marks-short, marks-same, marks-never, marks-either, on-premise}
 use Rattle.rule_deep.proofs.Numbers.{is-true-num, risen}
 
@@ -41,7 +41,7 @@ leb-max h k n = go (is-or-not (leb h n)) (is-or-not (leb k n))
     go (inr d) e = rw d (lt-leb (max h k) n (omega (arith, leb-false h n d)))
 
 -- what a connective makes of one value more, and of none
-connects-more : (v : ℕ) (vs : List ℕ) (h : ℕ) → connects h ≡ true → evaluates h (v ∷ vs) 1 ≡ connected h (isTrue v) (evaluates h vs 1)
+connects-more : (v : ℕ) (vs : List ℕ) (h : ℕ) → isConnective h ≡ true → evaluates h (v ∷ vs) 1 ≡ connected h (isTrue v) (evaluates h vs 1)
 connects-more v vs h c =
     connective-case (λ h. evaluates h (v ∷ vs) 1 ≡ connected h (isTrue v) (evaluates h vs 1))
     (by-not (isTrue v)) (by-and (isTrue v) (all isTrue vs)) (by-or (isTrue v) (any isTrue vs))
@@ -59,7 +59,7 @@ connects-more v vs h c =
     by-or true b = refl
     by-or false b = refl
 
-connects-none : (h : ℕ) → connects h ≡ true → evaluates h [] 1 ≡ not (eqb h orHead)
+connects-none : (h : ℕ) → isConnective h ≡ true → evaluates h [] 1 ≡ not (eqb h orHead)
 connects-none h c = connective-case (λ h. evaluates h [] 1 ≡ not (eqb h orHead)) refl refl refl h (true-T _ c)
 
 -- ---- what is found
@@ -71,8 +71,8 @@ module _ (ts : List ℕ) (ps : List Premise) where
   comes-premise zero u t h = refl
   comes-premise (suc n) u t h = rw h (or-false (eqb t u))
 
-  pub at-premise : (t : ℕ) → marked (itself t) ps ≢ 0
-      → FindsRow ts ps t (record { height = 0; met = marked (itself t) ps; truth = isTrue (premiseValue ps t) })
+  pub at-premise : (t : ℕ) → marked (sameRow t) ps ≢ 0
+      → FindsRow ts ps t (record { height = 0; met = marked (sameRow t) ps; truth = isTrue (premiseValue ps t) })
   at-premise t n =
       let h = on-premise ps t n in
       record {
@@ -82,7 +82,7 @@ module _ (ts : List ℕ) (ps : List Premise) where
       }
 
   -- the row above its arguments
-  pub above : (t : ℕ) (b : Walked) → isPremise ps t ≡ false → isConnective ts t ≡ true → FindsArgs ts ps (head ts t) (args ts t) b
+  pub above : (t : ℕ) (b : Walked) → isPremise ps t ≡ false → isConnective (head ts t) ≡ true → FindsArgs ts ps (head ts t) (args ts t) b
       → FindsRow ts ps t (risen b)
   unfolding grounded walkValue comesTo
   above t b off c f = record { reach = reach; truths = truths; meets = meets }
@@ -105,11 +105,11 @@ module _ (ts : List ℕ) (ps : List Premise) where
       meets (suc n) l = marks-same _ _ ps (λ p m. rw (apart p m, off)) ∙ f .meets n (omega arith)
 
   -- no argument, and one more
-  pub no-argument : (h : ℕ) → connects h ≡ true → FindsArgs ts ps h [] (noArgument h)
+  pub no-argument : (h : ℕ) → isConnective h ≡ true → FindsArgs ts ps h [] (noArgument h)
   no-argument h c =
       record { reach = λ n. sym (le-leb 0 n (omega arith)); truths = λ n l. connects-none h c; meets = λ n l. marks-never ps }
 
-  pub one-more : (h : ℕ) → connects h ≡ true → (a : ℕ) (r : Walked) → FindsRow ts ps a r → (xs : List ℕ) (b : Walked) → FindsArgs ts ps h xs b
+  pub one-more : (h : ℕ) → isConnective h ≡ true → (a : ℕ) (r : Walked) → FindsRow ts ps a r → (xs : List ℕ) (b : Walked) → FindsArgs ts ps h xs b
       → FindsArgs ts ps h (a ∷ xs) (joined h r b)
   one-more h c a r f xs b g =
       record {

@@ -17,9 +17,9 @@ use Rattle.calculus.specs.Sheets.{blank}
 use Rattle.calculus.specs.Rules.{isPremise, premiseValue}
 use Rattle.calculus.proofs.Facts.{num-le, is-or-not, both-true}
 use Rattle.rule_claims.specs.Claims.{stated}
-use Rattle.rule_deep.specs.Walks.{marked, everyOne, itself, unpacked, entry, FindsRow, Empty, Noted, Notes, told, Remembered, Knows}
+use Rattle.rule_deep.specs.Walks.{marked, everyOne, sameRow, unpacked, premised, FindsRow, Empty, Noted, Notes, recalled, Remembered, Knows}
 use Rattle.rule_deep.proofs.Bits.{off-premise}
-use Rattle.rule_deep.proofs.Numbers.{entry-none, entry-some, entry-says, entry-met, entry-zero}
+use Rattle.rule_deep.proofs.Numbers.{premised-none, premised-some, premised-says, premised-met, premised-zero}
 use Rattle.rule_deep.proofs.Finds.{at-premise}
 
 -- ---- premises noted
@@ -53,11 +53,11 @@ notes-none bit memo l h = record { long = h .long; room = room; noted = noted; c
     room : (t : ℕ) → getD memo t 0 / 64 + bit ≤ 32
     room t = omega (arith, h .zeros t)
 
-    noted : (t : ℕ) → getD memo t 0 ≡ cond (ltb t 256) (entry (bit * 0) 0) 0
+    noted : (t : ℕ) → getD memo t 0 ≡ cond (ltb t 256) (premised (bit * 0) 0) 0
     noted t = h .zeros t ∙ sym (go (ltb t 256))
       where
-        go : (b : Bool) → cond b (entry (bit * 0) 0) 0 ≡ 0
-        go true = entry-none (bit * 0) 0 (none bit)
+        go : (b : Bool) → cond b (premised (bit * 0) 0) 0 ≡ 0
+        go true = premised-none (bit * 0) 0 (none bit)
         go false = refl
 
 pub none-noted : (bit : ℕ) (memo : List ℕ) → bit ≤ 32 → Empty memo → Notes bit (stated []) memo 0
@@ -89,22 +89,22 @@ notes-more bit before after p ps m low filled h n = rw (ne-eqb (p .row) blank fi
 
     -- what is to stand at row t
     due : ℕ → ℕ
-    due t = cond (ltb t 256) (entry (bit * (num (eqb (p .row) t) + 2 * marked (itself t) qs)) (premiseValue (p ∷ qs) t)) 0
+    due t = cond (ltb t 256) (premised (bit * (num (eqb (p .row) t) + 2 * marked (sameRow t) qs)) (premiseValue (p ∷ qs) t)) 0
 
     -- at another row, or one from 256 on
     other : (t : ℕ) → (p .row ≢ t) ⊎ (256 ≤ t) → at t ≡ due t
     other t (inl d) =
         rw (ne-eqb (p .row) t d)
-        (h .noted t ∙ ap (λ k. cond (ltb t 256) (entry k (premiseValue qs t)) 0) (omega (arith, shifted bit (marked (itself t) qs) false)))
+        (h .noted t ∙ ap (λ k. cond (ltb t 256) (premised k (premiseValue qs t)) 0) (omega (arith, shifted bit (marked (sameRow t) qs) false)))
     other t (inr l) = let e = le-ltb t 256 l in h .noted t ∙ rw e
 
     -- at its own
     own : (t : ℕ) → t < 256 → p .row ≡ t → code ≡ due t
     own t l e =
-        let k = marked (itself t) qs in
-        let there : at t ≡ entry ((bit + bit) * k) (premiseValue qs t) = h .noted t ∙ rw (lt-ltb t 256 l) in
-        let old : at (p .row) / 64 ≡ (bit + bit) * k = ap (λ u. at u / 64) e ∙ ap (λ c. c / 64) there ∙ entry-met _ (premiseValue qs t) in
-        let new = entry-some (bit * (1 + 2 * k)) (p .value) (λ (z : bit * (1 + 2 * k) ≡ 0). omega (arith, shifted bit k true)) in
+        let k = marked (sameRow t) qs in
+        let there : at t ≡ premised ((bit + bit) * k) (premiseValue qs t) = h .noted t ∙ rw (lt-ltb t 256 l) in
+        let old : at (p .row) / 64 ≡ (bit + bit) * k = ap (λ u. at u / 64) e ∙ ap (λ c. c / 64) there ∙ premised-met _ (premiseValue qs t) in
+        let new = premised-some (bit * (1 + 2 * k)) (p .value) (λ (z : bit * (1 + 2 * k) ≡ 0). omega (arith, shifted bit k true)) in
         rw (lt-ltb t 256 l, eq-eqb (p .row) t e) (omega (arith, old, new, shifted bit k true))
 
     -- of each row, that it has the number, or is as it was
@@ -143,68 +143,68 @@ notes-more bit before after p ps m low filled h n = rw (ne-eqb (p .row) blank fi
 
 -- ---- what is known of a row
 
-told-near : (ps : List Premise) (memo : List ℕ) (t : ℕ) → t < 256 → told ps memo t ≡ getD memo t 0
-unfolding told
-told-near ps memo t l = rw (lt-ltb t 256 l)
+recalled-near : (ps : List Premise) (memo : List ℕ) (t : ℕ) → t < 256 → recalled ps memo t ≡ getD memo t 0
+unfolding recalled
+recalled-near ps memo t l = rw (lt-ltb t 256 l)
 
-told-far : (ps : List Premise) (memo : List ℕ) (t : ℕ) → 256 ≤ t → told ps memo t ≡ entry (marked (itself t) ps) (premiseValue ps t)
-unfolding told
-told-far ps memo t l = rw (le-ltb t 256 l)
+recalled-far : (ps : List Premise) (memo : List ℕ) (t : ℕ) → 256 ≤ t → recalled ps memo t ≡ premised (marked (sameRow t) ps) (premiseValue ps t)
+unfolding recalled
+recalled-far ps memo t l = rw (le-ltb t 256 l)
 
 -- as the code reads it
-pub told-read : (ps : List Premise) (memo : List ℕ) (t : ℕ) → t < 256 → getD memo t 0 ≡ told ps memo t
-told-read ps memo t l = sym (told-near ps memo t l)
+pub recalled-read : (ps : List Premise) (memo : List ℕ) (t : ℕ) → t < 256 → getD memo t 0 ≡ recalled ps memo t
+recalled-read ps memo t l = sym (recalled-near ps memo t l)
 
-pub told-marks : (ps : List Premise) (memo : List ℕ) (t : ℕ) {m v r : ℕ} → 256 ≤ t → m ≡ marked (itself t) ps → v ≡ premiseValue ps t → r ≡ entry m v
-    → r ≡ told ps memo t
-told-marks ps memo t l a b c = rw (told-far ps memo t l, c, a, b)
+pub recalled-marks : (ps : List Premise) (memo : List ℕ) (t : ℕ) {m v r : ℕ} → 256 ≤ t → m ≡ marked (sameRow t) ps → v ≡ premiseValue ps t → r ≡ premised m v
+    → r ≡ recalled ps memo t
+recalled-marks ps memo t l a b c = rw (recalled-far ps memo t l, c, a, b)
 
 -- the premises alone are noted
-pub told-first : (ps : List Premise) (memo : List ℕ) (all t : ℕ) → Notes 1 ps memo all → told ps memo t ≡ entry (marked (itself t) ps) (premiseValue ps t)
-told-first ps memo all t h = go (decLt t 256)
+pub recalled-first : (ps : List Premise) (memo : List ℕ) (all t : ℕ) → Notes 1 ps memo all → recalled ps memo t ≡ premised (marked (sameRow t) ps) (premiseValue ps t)
+recalled-first ps memo all t h = go (decLt t 256)
   where
-    go : Dec (t < 256) → told ps memo t ≡ entry (marked (itself t) ps) (premiseValue ps t)
+    go : Dec (t < 256) → recalled ps memo t ≡ premised (marked (sameRow t) ps) (premiseValue ps t)
     go (yes l) =
-        let e : 1 * marked (itself t) ps ≡ marked (itself t) ps = omega arith in
-        told-near ps memo t l ∙ h .noted t ∙ rw (lt-ltb t 256 l) (ap (λ k. entry k (premiseValue ps t)) e)
-    go (no l) = told-far ps memo t (omega arith)
+        let e : 1 * marked (sameRow t) ps ≡ marked (sameRow t) ps = omega arith in
+        recalled-near ps memo t l ∙ h .noted t ∙ rw (lt-ltb t 256 l) (ap (λ k. premised k (premiseValue ps t)) e)
+    go (no l) = recalled-far ps memo t (omega arith)
 
 module _ (ts : List ℕ) (ps : List Premise) where
   -- of a row on which premises are, these
-  entry-found : (t c : ℕ) → c ≡ entry (marked (itself t) ps) (premiseValue ps t) → c ≢ 0 → FindsRow ts ps t (unpacked c)
-  entry-found t c e n =
-      let some : marked (itself t) ps ≢ 0 = λ z. n (e ∙ entry-none _ (premiseValue ps t) z) in
-      subst (FindsRow ts ps t) (sym (ap unpacked e ∙ entry-says (marked (itself t) ps) (premiseValue ps t) some)) (at-premise ts ps t some)
+  premised-found : (t c : ℕ) → c ≡ premised (marked (sameRow t) ps) (premiseValue ps t) → c ≢ 0 → FindsRow ts ps t (unpacked c)
+  premised-found t c e n =
+      let some : marked (sameRow t) ps ≢ 0 = λ z. n (e ∙ premised-none _ (premiseValue ps t) z) in
+      subst (FindsRow ts ps t) (sym (ap unpacked e ∙ premised-says (marked (sameRow t) ps) (premiseValue ps t) some)) (at-premise ts ps t some)
 
-  entry-off : (t c : ℕ) → c ≡ entry (marked (itself t) ps) (premiseValue ps t) → c ≡ 0 → isPremise ps t ≡ false
-  entry-off t c e z = off-premise ps t (entry-zero _ (premiseValue ps t) (sym e ∙ z))
+  premised-off : (t c : ℕ) → c ≡ premised (marked (sameRow t) ps) (premiseValue ps t) → c ≡ 0 → isPremise ps t ≡ false
+  premised-off t c e z = off-premise ps t (premised-zero _ (premiseValue ps t) (sym e ∙ z))
 
-  pub told-found : (memo : List ℕ) → Knows ts ps memo → (t c : ℕ) → c ≡ told ps memo t → c ≢ 0 → FindsRow ts ps t (unpacked c)
-  told-found memo k t c e n = go (decLt t 256)
+  pub recalled-found : (memo : List ℕ) → Knows ts ps memo → (t c : ℕ) → c ≡ recalled ps memo t → c ≢ 0 → FindsRow ts ps t (unpacked c)
+  recalled-found memo k t c e n = go (decLt t 256)
     where
       go : Dec (t < 256) → FindsRow ts ps t (unpacked c)
       go (yes l) =
-          let q = e ∙ told-near ps memo t l in
+          let q = e ∙ recalled-near ps memo t l in
           subst (λ c. FindsRow ts ps t (unpacked c)) (sym q) (k .remembers t (λ z. n (q ∙ z)))
-      go (no l) = entry-found t c (e ∙ told-far ps memo t (omega arith)) n
+      go (no l) = premised-found t c (e ∙ recalled-far ps memo t (omega arith)) n
 
-  pub told-none : (memo : List ℕ) → Knows ts ps memo → (t c : ℕ) → c ≡ told ps memo t → c ≡ 0 → isPremise ps t ≡ false
-  told-none memo k t c e z = go (decLt t 256)
+  pub recalled-none : (memo : List ℕ) → Knows ts ps memo → (t c : ℕ) → c ≡ recalled ps memo t → c ≡ 0 → isPremise ps t ≡ false
+  recalled-none memo k t c e z = go (decLt t 256)
     where
       go : Dec (t < 256) → isPremise ps t ≡ false
-      go (yes l) = k .premises t l (sym (e ∙ told-near ps memo t l) ∙ z)
-      go (no l) = entry-off t c (e ∙ told-far ps memo t (omega arith)) z
+      go (yes l) = k .premises t l (sym (e ∙ recalled-near ps memo t l) ∙ z)
+      go (no l) = premised-off t c (e ∙ recalled-far ps memo t (omega arith)) z
 
   -- at first
   pub knows-premises : (memo : List ℕ) (all : ℕ) → Notes 1 ps memo all → Knows ts ps memo
   knows-premises memo all h =
       record {
         remembers = λ t n. near t n (decLt t 256);
-        premises = λ t l z. entry-off t _ (sym (told-near ps memo t l) ∙ told-first ps memo all t h) z;
+        premises = λ t l z. premised-off t _ (sym (recalled-near ps memo t l) ∙ recalled-first ps memo all t h) z;
       }
     where
       near : (t : ℕ) → getD memo t 0 ≢ 0 → Dec (t < 256) → FindsRow ts ps t (unpacked (getD memo t 0))
-      near t n (yes l) = entry-found t _ (sym (told-near ps memo t l) ∙ told-first ps memo all t h) n
+      near t n (yes l) = premised-found t _ (sym (recalled-near ps memo t l) ∙ recalled-first ps memo all t h) n
       near t n (no l) = let k : 256 ≤ t = omega arith in absurd (n (h .noted t ∙ rw (le-ltb t 256 k)))
 
   -- and with a row more

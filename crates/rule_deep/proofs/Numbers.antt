@@ -9,7 +9,7 @@ use borrow.Author.Tests.{eqb-true, eqb-false, eq-eqb, ne-eqb, le-leb, lt-leb}
 use Rattle.calculus.specs.Lists.{num, isTrue}
 use Rattle.calculus.proofs.Facts.{num-le, is-or-not}
 use Rattle.rule_deep.specs.declared.Walked.{Walked}
-use Rattle.rule_deep.specs.Walks.{unpacked, entry, Small, Says}
+use Rattle.rule_deep.specs.Walks.{unpacked, premised, Small, Says}
 
 pub is-true-num : (b : Bool) → isTrue (num b) ≡ b
 is-true-num true = refl
@@ -48,28 +48,28 @@ rises c l = λ i. record { height = height i; met = met i; truth = truth i }
 
 -- ---- rows with premises on them
 
-pub entry-none : (m v : ℕ) → m ≡ 0 → entry m v ≡ 0
-unfolding entry
-entry-none m v e = rw (eq-eqb m 0 e)
+pub premised-none : (m v : ℕ) → m ≡ 0 → premised m v ≡ 0
+unfolding premised
+premised-none m v e = rw (eq-eqb m 0 e)
 
-pub entry-some : (m v : ℕ) → m ≢ 0 → entry m v ≡ m * 64 + num (isTrue v) * 2 + 1
-unfolding entry
-entry-some m v n = rw (ne-eqb m 0 n)
+pub premised-some : (m v : ℕ) → m ≢ 0 → premised m v ≡ m * 64 + num (isTrue v) * 2 + 1
+unfolding premised
+premised-some m v n = rw (ne-eqb m 0 n)
 
 -- it says which these are
-pub entry-says : (m v : ℕ) → m ≢ 0 → unpacked (entry m v) ≡ record { height = 0; met = m; truth = isTrue v }
-entry-says m v n = unpacks (record { height = 0; met = m; truth = isTrue v }) (omega arith) _ (let e = entry-some m v n in omega arith)
+pub premised-says : (m v : ℕ) → m ≢ 0 → unpacked (premised m v) ≡ record { height = 0; met = m; truth = isTrue v }
+premised-says m v n = unpacks (record { height = 0; met = m; truth = isTrue v }) (omega arith) _ (let e = premised-some m v n in omega arith)
 
-pub entry-met : (m v : ℕ) → entry m v / 64 ≡ m
-entry-met m v = go (is-or-not (eqb m 0))
+pub premised-met : (m v : ℕ) → premised m v / 64 ≡ m
+premised-met m v = go (is-or-not (eqb m 0))
   where
-    go : (eqb m 0 ≡ true) ⊎ (eqb m 0 ≡ false) → entry m v / 64 ≡ m
-    go (inl e) = let z = eqb-true m 0 e in omega (arith, entry-none m v z)
-    go (inr e) = omega (arith, entry-some m v (eqb-false m 0 e), num-le (isTrue v))
+    go : (eqb m 0 ≡ true) ⊎ (eqb m 0 ≡ false) → premised m v / 64 ≡ m
+    go (inl e) = let z = eqb-true m 0 e in omega (arith, premised-none m v z)
+    go (inr e) = omega (arith, premised-some m v (eqb-false m 0 e), num-le (isTrue v))
 
 -- it is 0 where there are none, and only there
-pub entry-zero : (m v : ℕ) → entry m v ≡ 0 → m ≡ 0
-entry-zero m v e = omega (arith, entry-met m v)
+pub premised-zero : (m v : ℕ) → premised m v ≡ 0 → m ≡ 0
+premised-zero m v e = omega (arith, premised-met m v)
 
 -- ---- as the code makes them
 
@@ -92,11 +92,11 @@ pub within-no : (c n : ℕ) → n < c / 4 % 16 → 0 ≡ cond (leb (unpacked c .
 unfolding unpacked
 within-no c n l = rw (lt-leb (c / 4 % 16) n l)
 
-pub entry-zeros : (m v : ℕ) → m ≡ 0 → 0 ≡ entry m v
-entry-zeros m v e = sym (entry-none m v e)
+pub premised-zeros : (m v : ℕ) → m ≡ 0 → 0 ≡ premised m v
+premised-zeros m v e = sym (premised-none m v e)
 
-pub entry-made : (m v : ℕ) {n : ℕ} → m ≢ 0 → n ≡ num (isTrue v) → m * 64 + n * 2 + 1 ≡ entry m v
-entry-made m v d e = omega (arith, entry-some m v d)
+pub premised-made : (m v : ℕ) {n : ℕ} → m ≢ 0 → n ≡ num (isTrue v) → m * 64 + n * 2 + 1 ≡ premised m v
+premised-made m v d e = omega (arith, premised-some m v d)
 
 pub says-none : (r : Walked) (last : ℕ) → last ≡ 0 → Says r last 0
 says-none r last z = record { lost = λ e. refl; said = λ n. absurd (n z) }

@@ -6,26 +6,24 @@ use mathlib.Core.List.{List, [], _∷_}
 use Prim.Native.Nat.{ℕ, zero, suc, _+_, _-_, _/_, _≤_}
 use native.Mathlib.Omega.{arith}
 use lib.Dec.{eqb, leb}
-use lib.ListN.{length}
 use borrow.Author.Tests.{eqb-true, eqb-false, eq-eqb, ne-eqb, leb-true, not-true, not-false}
 use Rattle.calculus.specs.declared.Premise.{Premise}
 use Rattle.calculus.specs.declared.Term.{Term}
 use Rattle.calculus.specs.declared.Rule.the-variants.{Deep}
 use Rattle.calculus.specs.Lists.{all, num}
 use Rattle.calculus.specs.Sheets.{blank}
-use Rattle.calculus.specs.Terms.{head, args, cells, cellsOf, argsOf, termAt, filled}
+use Rattle.calculus.specs.Terms.{head, args, cells, argsOf, termAt, filled}
 use Rattle.calculus.specs.Rules.{layers, isPremise, premiseValue, isConnective, grounded, fits}
 use Rattle.calculus.proofs.Facts.{true-T, is-or-not, none-true}
-use Rattle.calculus.proofs.Forms.{filled-short}
 use Rattle.calculus.proofs.Deep.{value-here}
 use Rattle.rule_claims.specs.Claims.{stated}
 use Rattle.rule_deep.specs.declared.Walked.{Walked}
-use Rattle.rule_deep.specs.Walks.{marked, everyOne, itself, unpacked, Small, Says, connects, noArgument, chain, Notes, told, Remembered}
+use Rattle.rule_deep.specs.Walks.{marked, everyOne, sameRow, unpacked, Small, Says, noArgument, chain, Notes, recalled, Remembered}
 use Rattle.rule_deep.specs.Walks.{FindsRow, FindsArgs, Knows, WalksRow, WalksArgs}
 use Rattle.rule_deep.proofs.Bits.{on-premise}
-use Rattle.rule_deep.proofs.Numbers.{risen, rises, entry-none, entry-met}
+use Rattle.rule_deep.proofs.Numbers.{risen, rises, premised-none, premised-met}
 use Rattle.rule_deep.proofs.Finds.{at-premise, above, no-argument, one-more, value-num, fits-found, met-short}
-use Rattle.rule_deep.proofs.Memory.{told-first, told-found, told-none, knows-premises, knows-more}
+use Rattle.rule_deep.proofs.Memory.{recalled-first, recalled-found, recalled-none, knows-premises, knows-more}
 
 -- ---- tests passed
 
@@ -47,19 +45,16 @@ follows a x h = let e = none-true (eqb a 0) (eqb x blank) h in (eqb-false a 0 (e
 ends : (a x : ℕ) → (eqb a 0 || eqb x blank) ≡ true → a ≢ 0 → x ≡ blank
 ends a x h n = eqb-true x blank (rw (ne-eqb a 0 n) at h)
 
-pub args-short : (e : Term) → length (argsOf e) ≤ 4
-args-short e = filled-short (cellsOf e)
-
 module _ (ts : List ℕ) (ps : List Premise) where
   -- ---- the walk of a row
 
   -- one that something is known of
-  pub row-known : (memo : List ℕ) (n t : ℕ) {c a : ℕ} → Knows ts ps memo → c ≡ told ps memo t → c ≢ 0 → a ≡ cond (leb (unpacked c .height) n) c 0
+  pub row-known : (memo : List ℕ) (n t : ℕ) {c a : ℕ} → Knows ts ps memo → c ≡ recalled ps memo t → c ≢ 0 → a ≡ cond (leb (unpacked c .height) n) c 0
       → WalksRow ts ps memo n t a
   row-known memo n t {c} k c-is some a-is = subst (WalksRow ts ps memo n t) (sym a-is) (go (leb (unpacked c .height) n) refl)
     where
       f : FindsRow ts ps t (unpacked c)
-      f = told-found ts ps memo k t c c-is some
+      f = recalled-found ts ps memo k t c c-is some
 
       go : (b : Bool) → leb (unpacked c .height) n ≡ b → WalksRow ts ps memo n t (cond b c 0)
       go true e = record { lost = λ z. absurd (some z); found = λ m. (f, leb-true _ n e); knows = k }
@@ -67,16 +62,16 @@ module _ (ts : List ℕ) (ps : List Premise) where
 
   module _ (memo : List ℕ) (n t : ℕ) (e : Term) (e-is : e ≡ termAt ts t) (off : isPremise ps t ≡ false) where
     -- no connective may lie below, or the row is none
-    pub row-lost : {b : Bool} → b ≡ connects (e .head) → (eqb n 0 || not b) ≡ true → Knows ts ps memo → WalksRow ts ps memo n t 0
+    pub row-lost : {b : Bool} → b ≡ isConnective (e .head) → (eqb n 0 || not b) ≡ true → Knows ts ps memo → WalksRow ts ps memo n t 0
     unfolding grounded
     row-lost b-is h k = record { lost = λ z. go n there; found = λ m. absurd (m refl); knows = k }
       where
-        there : (eqb n 0 || not (isConnective ts t)) ≡ true
-        there = subst (λ (z : Term). (eqb n 0 || not (connects (z .head))) ≡ true) e-is (rw b-is at h)
+        there : (eqb n 0 || not (isConnective (head ts t))) ≡ true
+        there = subst (λ (z : Term). (eqb n 0 || not (isConnective (z .head))) ≡ true) e-is (rw b-is at h)
 
-        go : (n : ℕ) → (eqb n 0 || not (isConnective ts t)) ≡ true → grounded ts ps n t ≡ false
+        go : (n : ℕ) → (eqb n 0 || not (isConnective (head ts t))) ≡ true → grounded ts ps n t ≡ false
         go zero h = off
-        go (suc n) h = rw (off, not-true (isConnective ts t) (rw (ne-eqb (suc n) 0 (λ (q : suc n ≡ 0). omega arith)) at h))
+        go (suc n) h = rw (off, not-true (isConnective (head ts t)) (rw (ne-eqb (suc n) 0 (λ (q : suc n ≡ 0). omega arith)) at h))
 
     module _ (some : 1 ≤ n) {b : ℕ} (w : WalksArgs ts ps memo (n - 1) (e .head) (argsOf e) b) where
       -- an argument leads nowhere
@@ -91,10 +86,10 @@ module _ (ts : List ℕ) (ps : List Premise) where
           go zero l f = absurd (omega arith)
           go (suc n) l f =
               let q : suc n - 1 ≡ n = omega arith in
-              rw (off, rw q at f, and-false (isConnective ts t))
+              rw (off, rw q at f, and-false (isConnective (head ts t)))
 
       -- all are grounded, and what is found is remembered
-      pub row-found : n ≤ layers → connects (e .head) ≡ true → b ≢ 0 → (after : List ℕ) → Remembered memo after t (b + 4) → WalksRow ts ps after n t (b + 4)
+      pub row-found : n ≤ layers → isConnective (e .head) ≡ true → b ≢ 0 → (after : List ℕ) → Remembered memo after t (b + 4) → WalksRow ts ps after n t (b + 4)
       unfolding cells args
       row-found low c m after r =
           record { lost = λ z. absurd (some-number z); found = λ z. (f, high); knows = knows-more ts ps memo after t (b + 4) (w .knows) f some-number r }
@@ -111,12 +106,12 @@ module _ (ts : List ℕ) (ps : List Premise) where
           f : FindsRow ts ps t (unpacked (b + 4))
           f =
               subst (FindsRow ts ps t) (sym up)
-              (above ts ps t (unpacked b) off (subst (λ (z : Term). connects (z .head) ≡ true) e-is c)
+              (above ts ps t (unpacked b) off (subst (λ (z : Term). isConnective (z .head) ≡ true) e-is c)
               (subst (λ (z : Term). FindsArgs ts ps (z .head) (argsOf z) (unpacked b)) e-is (w .found m .0)))
 
   -- ---- the walks of its arguments
 
-  module _ (n h : ℕ) (h-on : connects h ≡ true) where
+  module _ (n h : ℕ) (h-on : isConnective h ≡ true) where
     -- the numbers cs say what was found of the rows xs, of which each has at most n connectives on a path
     abbrev Good : List ℕ → List ℕ → Type 0
     Good xs cs = FindsArgs ts ps h xs (chain h cs) × (chain h cs .height ≤ n)
@@ -239,24 +234,24 @@ module _ (ts : List ℕ) (ps : List Premise) (l v : ℕ) (noted : List ℕ) {all
   all-is = omega (arith, notes .counted)
 
   -- the term is a premise
-  pub deep-own : {own w : ℕ} → own ≡ told ps noted l → own ≢ 0 → w ≡ premiseValue ps l → (eqb (own / 64) all && eqb v w) ≡ fits ts Deep l v ps
+  pub deep-own : {own w : ℕ} → own ≡ recalled ps noted l → own ≢ 0 → w ≡ premiseValue ps l → (eqb (own / 64) all && eqb v w) ≡ fits ts Deep l v ps
   deep-own {own} own-is some w-is =
-      let e = own-is ∙ told-first ps noted all l notes in
-      let on : marked (itself l) ps ≢ 0 = λ z. some (e ∙ entry-none _ (premiseValue ps l) z) in
-      let met : own / 64 ≡ marked (itself l) ps = ap (λ c. c / 64) e ∙ entry-met _ (premiseValue ps l) in
+      let e = own-is ∙ recalled-first ps noted all l notes in
+      let on : marked (sameRow l) ps ≢ 0 = λ z. some (e ∙ premised-none _ (premiseValue ps l) z) in
+      let met : own / 64 ≡ marked (sameRow l) ps = ap (λ c. c / 64) e ∙ premised-met _ (premiseValue ps l) in
       let value = value-here ts ps layers l (true-T _ (on-premise ps l on)) in
       rw (met, all-is) (fits-found ts ps l v _ (at-premise ts ps l on) (omega arith) (w-is ∙ sym value))
 
   -- it is none
-  pub own-none : {own : ℕ} → own ≡ told ps noted l → own ≡ 0 → isPremise ps l ≡ false
-  own-none own-is z = told-none ts ps noted (knows-premises ts ps noted all notes) l _ own-is z
+  pub own-none : {own : ℕ} → own ≡ recalled ps noted l → own ≡ 0 → isPremise ps l ≡ false
+  own-none own-is z = recalled-none ts ps noted (knows-premises ts ps noted all notes) l _ own-is z
 
   module _ (memo : List ℕ) {c : ℕ} (w : WalksRow ts ps memo layers l c) where
     pub deep-lost : c ≡ 0 → false ≡ fits ts Deep l v ps
     unfolding fits
     deep-lost z = rw (w .lost z)
 
-    pub deep-found : {own x : ℕ} {r : Walked} → own ≡ told ps noted l → own ≡ 0 → c ≢ 0 → r ≡ unpacked c → x ≡ num (r .truth)
+    pub deep-found : {own x : ℕ} {r : Walked} → own ≡ recalled ps noted l → own ≡ 0 → c ≢ 0 → r ≡ unpacked c → x ≡ num (r .truth)
         → (eqb (r .met) all && eqb v x) ≡ fits ts Deep l v ps
     deep-found own-is z n r-is x-is =
         let f = w .found n in

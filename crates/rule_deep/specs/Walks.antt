@@ -24,8 +24,8 @@ abbrev pub everyOne : ℕ → Bool
 everyOne u = true
 
 -- the premises on t
-abbrev pub itself : ℕ → ℕ → Bool
-itself t u = eqb u t
+abbrev pub sameRow : ℕ → ℕ → Bool
+sameRow t u = eqb u t
 
 -- ---- what a walk finds
 
@@ -61,14 +61,10 @@ pub record Says (r : Walked) (before c : ℕ) : Type 0 where
   pub said : before ≢ 0 → (unpacked c ≡ r) × (c ≢ 0)
 
 -- of a row on which there are the premises m, the first with the value v
-unfoldable pub entry : ℕ → ℕ → ℕ
-entry m v = cond (eqb m 0) 0 (m * 64 + num (isTrue v) * 2 + 1)
+unfoldable pub premised : ℕ → ℕ → ℕ
+premised m v = cond (eqb m 0) 0 (m * 64 + num (isTrue v) * 2 + 1)
 
 -- ---- connectives and their arguments
-
--- the head of a connective
-abbrev pub connects : ℕ → Bool
-connects h = eqb h notHead || (eqb h andHead || eqb h orHead)
 
 -- no argument under the connective h, and one more in front
 abbrev pub noArgument : ℕ → Walked
@@ -102,12 +98,12 @@ pub record Noted (before after : List ℕ) (p : Premise) (bit : ℕ) : Type 0 wh
 pub record Notes (bit : ℕ) (ps : List Premise) (memo : List ℕ) (all : ℕ) : Type 0 where
   pub long : length memo ≡ 256
   pub room : (t : ℕ) → getD memo t 0 / 64 + bit ≤ 32
-  pub noted : (t : ℕ) → getD memo t 0 ≡ cond (ltb t 256) (entry (bit * marked (itself t) ps) (premiseValue ps t)) 0
+  pub noted : (t : ℕ) → getD memo t 0 ≡ cond (ltb t 256) (premised (bit * marked (sameRow t) ps) (premiseValue ps t)) 0
   pub counted : all ≡ bit * marked everyOne ps
 
 -- what is known of row t; of a row from 256 on, whether it is a premise
-unfoldable pub told : List Premise → List ℕ → ℕ → ℕ
-told ps memo t = cond (ltb t 256) (getD memo t 0) (entry (marked (itself t) ps) (premiseValue ps t))
+unfoldable pub recalled : List Premise → List ℕ → ℕ → ℕ
+recalled ps memo t = cond (ltb t 256) (getD memo t 0) (premised (marked (sameRow t) ps) (premiseValue ps t))
 
 -- of row t, c is remembered, and of every other row what was; or all is as it was
 abbrev pub Remembered : List ℕ → List ℕ → ℕ → ℕ → Type 0

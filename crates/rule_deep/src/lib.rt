@@ -4,15 +4,15 @@ ghost use mathlib.Core.Path.{_≡_};
 ghost use mathlib.Core.Logic.{_≢_};
 ghost use mathlib.Core.Bool.{true, false, cond};
 ghost use mathlib.Core.List.{List, [], _∷_};
-ghost use Prim.Native.Nat.{_+_, _*_, _/_, _≤_, _<_, max};
+ghost use Prim.Native.Nat.{_+_, _*_, _/_, _≤_, _<_};
 ghost use lib.Dec.{leb};
 ghost use lib.ListN.{getD};
 ghost use Rattle.calculus.specs.declared.Premise.{Premise};
 ghost use Rattle.calculus.specs.declared.Rule.the-variants.{Deep};
 ghost use Rattle.calculus.specs.Terms.{argsOf};
-ghost use Rattle.calculus.specs.Rules.{layers, isPremise, premiseValue};
+ghost use Rattle.calculus.specs.Rules.{isConnective, layers, isPremise, premiseValue};
 ghost use Rattle.rule_claims.specs.Claims.{stated, premisesOf, allows};
-ghost use Rattle.rule_deep.specs.Walks.{marked, itself, entry, unpacked, connects, noArgument, connected, joined, chain, told};
+ghost use Rattle.rule_deep.specs.Walks.{marked, sameRow, premised, unpacked, noArgument, connected, joined, chain, recalled};
 ghost use Rattle.rule_deep.specs.Walks.{Small, Says, Empty, Noted, Notes, Remembered, Knows, WalksRow, WalksArgs};
 use calculus::Premise;
 use calculus::Row;
@@ -23,6 +23,7 @@ use rule_claims::AND;
 use rule_claims::Claim;
 use rule_claims::NOT;
 use rule_claims::OR;
+use rule_claims::larger;
 use rule_claims::number;
 
 // How many connectives may lie on a path.
@@ -58,9 +59,9 @@ fn packed(r: Walked) -> u16
 }
 
 // What is found of a row on which there are the premises m, of which the first gives it the value v; 0 where there are none.
-fn entry(m: u16, v: u16) -> u16
+fn premised(m: u16, v: u16) -> u16
     requires { ⌜ m ≤ 31 ⌝ }
-    ensures { λ r. ⌜ r ≡ entry m v ⌝ }
+    ensures { λ r. ⌜ r ≡ premised m v ⌝ }
 {
     if m == 0 {
         return 0;
@@ -74,7 +75,7 @@ fn entry(m: u16, v: u16) -> u16
 fn more_marks(p: Premise, t: Row, rest: u16) -> u16
     requires { ⌜ rest ≤ 15 ⌝ }
     ensures { λ r. ⌜ (r ≤ rest * 2 + 1)
-        × ((ps : List Premise) → rest ≡ marked (itself (t .0)) (stated ps) → r ≡ marked (itself (t .0)) (stated (p ∷ ps))) ⌝ }
+        × ((ps : List Premise) → rest ≡ marked (sameRow (t .0)) (stated ps) → r ≡ marked (sameRow (t .0)) (stated (p ∷ ps))) ⌝ }
 {
     if p.row == BLANK {
         return 0;
@@ -84,7 +85,7 @@ fn more_marks(p: Premise, t: Row, rest: u16) -> u16
 
 // The premises on row t, as bits.
 fn marks(x: Claim, t: Row) -> u16
-    ensures { λ r. ⌜ r ≡ marked (itself (t .0)) (premisesOf x) ⌝ }
+    ensures { λ r. ⌜ r ≡ marked (sameRow (t .0)) (premisesOf x) ⌝ }
 {
     let e = more_marks(x.t, t, 0);
     let d = more_marks(x.s, t, e);
@@ -189,12 +190,12 @@ fn note_all(memo: &mut [u16; 256], x: Claim) -> u16
 
 // What is known of row t; of a row from 256 on, only whether it is a premise.
 fn recall(memo: &[u16; 256], x: Claim, t: Row) -> u16
-    ensures { λ r. ⌜ r ≡ told (premisesOf x) (now (memo .entry)) (t .0) ⌝ }
+    ensures { λ r. ⌜ r ≡ recalled (premisesOf x) (now (memo .entry)) (t .0) ⌝ }
 {
     if t.0 < 256 {
         return memo[t.0 as usize];
     }
-    entry(marks(x, t), value_on(x, t))
+    premised(marks(x, t), value_on(x, t))
 }
 
 // Of this row, c is remembered.
@@ -210,16 +211,9 @@ fn remember(memo: &mut [u16; 256], row: Row, c: u16)
 
 // Whether h is the head of a connective.
 fn is_connective(h: u16) -> bool
-    ensures { λ r. ⌜ r ≡ connects h ⌝ }
+    ensures { λ r. ⌜ r ≡ isConnective h ⌝ }
 {
     (h == NOT) | ((h == AND) | (h == OR))
-}
-
-// The larger of two heights.
-fn larger(a: u16, b: u16) -> u16
-    ensures { λ r. ⌜ r ≡ max a b ⌝ }
-{
-    if a < b { b } else { a }
 }
 
 // What the connective h makes of the truth of an argument and of what it makes of the rest.
@@ -319,7 +313,7 @@ fn walk(terms: &[u16], x: Claim, memo: &mut [u16; 256], t: Row, left: u16) -> u1
 
 // The walks down from the arguments of a term, each through at most `left` connectives.
 fn walk_args(terms: &[u16], x: Claim, memo: &mut [u16; 256], e: Term, left: u16) -> u16
-    requires { ⌜ (left ≤ layers) × (connects (e .head) ≡ true) × Knows (now terms) (premisesOf x) (now memo) ⌝ }
+    requires { ⌜ (left ≤ layers) × (isConnective (e .head) ≡ true) × Knows (now terms) (premisesOf x) (now memo) ⌝ }
     ensures { λ r. ⌜ WalksArgs (now (terms .entry)) (premisesOf x) (now (memo .exit)) left (e .head) (argsOf e) r ⌝ }
 {
     let h = e.head;

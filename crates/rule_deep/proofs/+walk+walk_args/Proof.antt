@@ -12,7 +12,7 @@ use Rattle.rule_deep.specs.declared.Walked.{Walked}
 use Rattle.rule_deep.specs.Walks.{Small, Says, WalksRow}
 use Rattle.rule_deep.proofs.Walks.{goes-on, follows, row-known, row-lost, row-stopped, row-found}
 use Rattle.rule_deep.proofs.Walks.{none-said, one-good, one-said, two-good, two-said, three-good, three-said, four-good, four-said, smalls, said-small}
-use Rattle.rule_deep.proofs.Memory.{told-none}
+use Rattle.rule_deep.proofs.Memory.{recalled-none}
 use Prim.Native.Nat.{ℕ, _+_, _*_, _<_}
 use borrow.Fn.Kinds.{In}
 use borrow.Fn.PlainCycle.{Measures, is, falls, and}
@@ -276,7 +276,7 @@ walk-args-walk-requires : (t : ℕ) → walk-args-lts.Need-walk-requires (walk-a
 walk-args-walk-requires t c κs =
     let start = c .before .before .before .before .before .before .before in
     let knows = start .pre .1 .2 in
-    let none = told-none _ _ _ knows _ _ (c .before .before .recall .ensures) (c .before .if2 .taken) in
+    let none = recalled-none _ _ _ knows _ _ (c .before .before .recall .ensures) (c .before .if2 .taken) in
     (omega (arith, start .pre .0), (start .pre .1 .0, none, knows))
 
 walk-args-within-requires : (t : ℕ) → walk-args-lts.Need-within-requires (walk-args-calls t) (walk-args-at t) walk-args.Post
@@ -313,7 +313,7 @@ walk-args-walk-requires-2 : (t : ℕ) → walk-args-lts.Need-walk-requires-2 (wa
 walk-args-walk-requires-2 t c κs =
     let start = begun-a t (c .before .before .before .before .before .before) in
     let knows = row-a t (c .before .before .before .before .before .before) .knows in
-    let none = told-none _ _ _ knows _ _ (c .before .before .recall2 .ensures) (c .before .if4 .taken) in
+    let none = recalled-none _ _ _ knows _ _ (c .before .before .recall2 .ensures) (c .before .if4 .taken) in
     (omega (arith, start .pre .0), (start .pre .1 .0, none, knows))
 
 walk-args-within-requires-2 : (t : ℕ) → walk-args-lts.Need-within-requires-2 (walk-args-calls t) (walk-args-at t) walk-args.Post
@@ -354,7 +354,7 @@ walk-args-walk-requires-3 : (t : ℕ) → walk-args-lts.Need-walk-requires-3 (wa
 walk-args-walk-requires-3 t c κs =
     let start = begun-b t (c .before .before .before .before .before .before) in
     let knows = row-b t (c .before .before .before .before .before .before) .knows in
-    let none = told-none _ _ _ knows _ _ (c .before .before .recall3 .ensures) (c .before .if6 .taken) in
+    let none = recalled-none _ _ _ knows _ _ (c .before .before .recall3 .ensures) (c .before .if6 .taken) in
     (omega (arith, start .pre .0), (start .pre .1 .0, none, knows))
 
 walk-args-within-requires-3 : (t : ℕ) → walk-args-lts.Need-within-requires-3 (walk-args-calls t) (walk-args-at t) walk-args.Post
@@ -399,7 +399,7 @@ walk-args-walk-requires-4 : (t : ℕ) → walk-args-lts.Need-walk-requires-4 (wa
 walk-args-walk-requires-4 t c κs =
     let start = begun-c t (c .before .before .before .before .before .before) in
     let knows = row-c t (c .before .before .before .before .before .before) .knows in
-    let none = told-none _ _ _ knows _ _ (c .before .before .recall4 .ensures) (c .before .if8 .taken) in
+    let none = recalled-none _ _ _ knows _ _ (c .before .before .recall4 .ensures) (c .before .if8 .taken) in
     (omega (arith, start .pre .0), (start .pre .1 .0, none, knows))
 
 walk-args-within-requires-4 : (t : ℕ) → walk-args-lts.Need-within-requires-4 (walk-args-calls t) (walk-args-at t) walk-args.Post

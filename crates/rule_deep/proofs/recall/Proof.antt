@@ -1,7 +1,7 @@
 -- `rule_deep::recall` meets its contract.
 use borrow.Author.Needs.{needs}
 use Rattle.rule_deep.proofs.Bits.{marks-least}
-use Rattle.rule_deep.proofs.Memory.{told-read, told-marks}
+use Rattle.rule_deep.proofs.Memory.{recalled-read, recalled-marks}
 use Rattle.rule_deep.proofs.recall.Statement.{statement}
 use Rattle.rule_deep.proofs.recall.Tie as tie
 
@@ -15,7 +15,7 @@ element-copy-out-result : tie.Need-element-copy-out-result
 element-copy-out-result c = search needs
 
 returns : tie.Need-returns
-returns c = told-read _ _ _ (c .before .before .if1 .taken)
+returns c = recalled-read _ _ _ (c .before .before .if1 .taken)
 
 marks-requires : tie.Need-marks-requires
 marks-requires c κs = search needs
@@ -23,15 +23,15 @@ marks-requires c κs = search needs
 value-on-requires : tie.Need-value-on-requires
 value-on-requires c κs = search needs
 
-entry-requires : tie.Need-entry-requires
-entry-requires c κs =
+premised-requires : tie.Need-premised-requires
+premised-requires c κs =
     let x = c .before .before .before .before .args .x in
     marks-least _ (x .p) (x .q) (x .r) (x .s) (x .t) (c .before .marks .ensures)
 
 returns-2 : tie.Need-returns-2
 returns-2 c =
     let marked = c .before .before in
-    told-marks _ _ _ (marked .before .if1 .left) (marked .marks .ensures) (c .before .value-on .ensures) (c .entry .ensures)
+    recalled-marks _ _ _ (marked .before .if1 .left) (marked .marks .ensures) (c .before .value-on .ensures) (c .premised .ensures)
 
 pub recall-spec : {M : Type 1} → statement M
 recall-spec =
@@ -43,5 +43,5 @@ recall-spec =
     returns
     marks-requires
     value-on-requires
-    entry-requires
+    premised-requires
     returns-2)
