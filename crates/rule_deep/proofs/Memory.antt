@@ -160,7 +160,8 @@ pub recalled-marks : (ps : List Premise) (memo : List ℕ) (t : ℕ) {m v r : �
 recalled-marks ps memo t l a b c = rw (recalled-far ps memo t l, c, a, b)
 
 -- the premises alone are noted
-pub recalled-first : (ps : List Premise) (memo : List ℕ) (all t : ℕ) → Notes 1 ps memo all → recalled ps memo t ≡ premised (marked (sameRow t) ps) (premiseValue ps t)
+pub recalled-first : (ps : List Premise) (memo : List ℕ) (all t : ℕ) → Notes 1 ps memo all
+    → recalled ps memo t ≡ premised (marked (sameRow t) ps) (premiseValue ps t)
 recalled-first ps memo all t h = go (decLt t 256)
   where
     go : Dec (t < 256) → recalled ps memo t ≡ premised (marked (sameRow t) ps) (premiseValue ps t)
