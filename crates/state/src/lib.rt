@@ -1,4 +1,4 @@
-// Where a run stands, what a step answers, and look-ups on the trail that any number may be asked of.
+// Where a run stands, what a step answers, and look-ups on the trail, which any number may be asked of but for a level.
 ghost use mathlib.Core.Path.{_≡_};
 ghost use mathlib.Core.Bool.{true};
 ghost use Prim.Native.Nat.{_<_};
@@ -66,7 +66,7 @@ pub fn has_value(work: &[u64], w: usize, n: usize, count: usize, t: Row, v: u16)
     false
 }
 
-// Whether term row t is of sort prop.
+// Whether t, a row of the term sheet, is of sort prop.
 pub fn is_prop(terms: &[u16], t: Row) -> bool
     requires { ⌜ t .0 < termRows (now terms) ⌝ }
     ensures { λ r. ⌜ r ≡ prop (now (terms .entry)) (t .0) ⌝ }
