@@ -23,7 +23,7 @@ use Rattle.calculus.proofs.Facts.{or-cases}
 
 -- ---- filled columns
 
-pub filled-short : (xs : List ℕ) → length (filled xs) ≤ length xs
+filled-short : (xs : List ℕ) → length (filled xs) ≤ length xs
 filled-short [] = omega arith
 filled-short (x ∷ xs) = go (filled-short xs) (eqb x blank)
   where
@@ -78,7 +78,7 @@ function-numbers (suc (suc (suc (suc (suc (suc n)))))) =
     let h = suc (suc (suc (suc (suc (suc n))))) in
     is-function-past (freeNumber h) ∙ sym (rw (lt-leb h storeHead (omega arith), and-false (leb selectHead h)))
 
--- a connective is not, and, or or
+-- a connective is a not, an and or an or: a case for each
 pub connective-case {ℓ} : (P : ℕ → Type ℓ) → P notHead → P andHead → P orHead → (h : ℕ) → T (isConnective h) → P h
 connective-case P n a o h c = go (or-cases (eqb h notHead) _ c)
   where

@@ -34,7 +34,7 @@ use Rattle.state.proofs.Tests.{told-yes}
 use Rattle.rule_claims.specs.declared.Claim.{Claim}
 use Rattle.places.specs.Tested.{Tested}
 use Rattle.premises.specs.Columns.{Premised, Claims}
-use Rattle.search_steps.specs.Searches.{Searching, Inferring, Inferred, Inference, Passed, Refuses}
+use Rattle.search_steps.specs.Searches.{Searching, Inferring, Inferred, Inference, Refuses}
 use Rattle.search_steps.proofs.Laws.{rows-on}
 use Rattle.search_steps.proofs.Tests.{deduce-first, contradiction-first, clash-first, fail-first}
 

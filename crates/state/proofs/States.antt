@@ -2,15 +2,15 @@
 use mathlib.Core.Path.{_≡_, refl, sym, ap, subst, _∙_}
 use mathlib.Core.Logic.{_⊎_, inl, inr}
 use mathlib.Core.Bool.{Bool, true, false, cond}
-use mathlib.Core.List.{List, [], _∷_}
+use mathlib.Core.List.{List}
 use Prim.Native.Nat.{ℕ, zero, suc, _≤_}
 use native.Mathlib.Omega.{arith}
-use lib.Dec.{eqb, eqb→eq}
 use Rattle.calculus.specs.Trail.{Set, Trail, on}
 use Rattle.calculus.specs.Steps as calculus
 use Rattle.calculus.specs.Steps.{answer}
 use Rattle.calculus.specs.WellFormed.{Within, Below, WellFormed, WellFormedState}
-use Rattle.calculus.proofs.Facts.{is-or-not, true-T}
+use Rattle.calculus.proofs.Facts.{is-or-not}
+use Rattle.calculus.proofs.Trails.{on-below}
 use Rattle.bitset.specs.Windows.{setAt}
 use Rattle.trail.specs.Words
 use Rattle.trail.specs.Words.{trailIn}
@@ -66,13 +66,11 @@ module _ (w n : ℕ) (ws : List ℕ) (st : Status) where
 -- ---- rows past the last stand on no trail
 
 pub below-off : (n : ℕ) (tr : Trail) (t : ℕ) → Below n tr → n ≤ t → on tr t ≡ false
-unfolding Below on
-below-off n [] t b l = refl
-below-off n (e ∷ older) t b l = go (is-or-not (eqb (e .term) t)) (below-off n older t (b .1) l)
+below-off n tr t b l = go (is-or-not (on tr t))
   where
-    go : (eqb (e .term) t ≡ true) ⊎ (eqb (e .term) t ≡ false) → on older t ≡ false → on (e ∷ older) t ≡ false
-    go (inl q) h = let z : e .term ≡ t = eqb→eq _ _ (true-T _ q) in absurd (omega (arith, b .0))
-    go (inr q) h = rw q h
+    go : (on tr t ≡ true) ⊎ (on tr t ≡ false) → on tr t ≡ false
+    go (inl h) = absurd (omega (arith, on-below n t tr b h))
+    go (inr h) = h
 
 -- ---- answers
 

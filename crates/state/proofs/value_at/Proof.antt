@@ -1,8 +1,6 @@
 -- `state::value_at` meets its contract.
-use mathlib.Core.Bool.{true≢false}
-use mathlib.Core.Path.{sym, _∙_}
 use native.Mathlib.Omega.{arith}
-use Rattle.state.proofs.States.{below-off}
+use Rattle.calculus.proofs.Trails.{on-below}
 use borrow.Author.Needs.{needs}
 use Rattle.state.proofs.value_at.Statement.{statement}
 use Rattle.state.proofs.value_at.Tie as tie
@@ -17,7 +15,7 @@ returns : tie.Need-returns
 returns c = c .value .ensures
 
 returns-2 : tie.Need-returns-2
-returns-2 c h = absurd (true≢false (sym h ∙ below-off _ _ _ (c .before .before .before .pre .below) (omega arith)))
+returns-2 c h = absurd (omega (arith, on-below _ _ _ (c .before .before .before .pre .below) h))
 
 pub value-at-spec : {M : Type 1} → statement M
 value-at-spec = tie.close (tie.spec cast-if1 value-requires returns returns-2)
