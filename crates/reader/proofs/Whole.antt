@@ -10,6 +10,7 @@ use lib.ListN.{length, take, length-append}
 use lib.Seq.{take-all, take-append-le}
 use Rattle.text_fields.specs.Split.{pick, pieces, prepend}
 use Rattle.text_fields.specs.Class.{classOf, isNewline}
+use Rattle.text_fields.proofs.Laws.{newline-is}
 use Rattle.buffers.specs.Room.{padTo}
 use Rattle.buffers.proofs.Room.{store-row, append-nil}
 use Rattle.text_position.specs.Place.{nextLine}
@@ -20,7 +21,6 @@ use Rattle.reader.specs.Text.{State, Lent, applied, lineStep, linesFold,
 use Rattle.text_lines.specs.View.{Sheets, sheetsOf, stored}
 use Rattle.text_stream.specs.Stream.{Stream, stepByte, feedAll, freshStream}
 use Rattle.text_lines.proofs.Lines.{effect-cut}
-use Rattle.text_stream.proofs.Bytes.{newline-is}
 use Rattle.reader.proofs.Sizes.{Sized, sized-step, sized-sorts, sized-terms, sized-inputs, sized-steps, step-control, start-sized}
 
 -- p goes in front of the first piece

@@ -105,7 +105,6 @@ fields-none l from n is h =
 -- where the loop stands: k fields are marked, and what is left begins at `from`
 pub record Splitting (l : List ℕ) (n : ℕ) (m : List ℕ) (from k : ℕ) : Type 0 where
   pub long : length m ≡ 18
-  pub left : k ≤ n
   pub in-line : from ≤ length l
   pub says : fieldsAre (n - k) (pieces 32 (drop from l)) ≡ fieldsAre n (pieces 32 l)
   pub those : drop k (pieces 32 l) ≡ pieces 32 (drop from l)
@@ -114,7 +113,6 @@ pub record Splitting (l : List ℕ) (n : ℕ) (m : List ℕ) (from k : ℕ) : Ty
 pub split-start : (l : List ℕ) (n : ℕ) (m : List ℕ) → length m ≡ 18 → Splitting l n m 0 0
 split-start l n m h = record {
   long = h;
-  left = omega arith;
   in-line = omega arith;
   says = let z : n - 0 ≡ n = omega arith in rw z;
   those = refl;
@@ -185,7 +183,6 @@ module _ (l : List ℕ) (n : ℕ) (m : List ℕ) (from k e : ℕ) (s : Splitting
         let f = first-filled l from e n is (s .in-line) some most in
         record {
           long = length-set (set m (k * 2) from) (k * 2 + 1) e ∙ length-set m (k * 2) from ∙ s .long;
-          left = omega arith;
           in-line = omega arith;
           says = sym (ap (fieldsAre (n - k)) c ∙ fields-cons (n - k) (n - (k + 1)) (take (e - from) (drop from l)) (pieces 32 (drop (e + 1) l)) f z) ∙ s .says;
           those = sym (drop-drop 1 k (pieces 32 l)) ∙ ap (drop 1) (s .those ∙ c);

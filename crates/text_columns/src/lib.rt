@@ -5,20 +5,22 @@ ghost use mathlib.Core.List.{[]};
 ghost use Prim.Native.Nat.{_+_, _≤_, _<_};
 ghost use lib.ListN.{length, getD};
 ghost use Rattle.text_fields.specs.Split.{pieces};
-ghost use Rattle.text_fields.specs.Class.{classOf, isSpace, isName, run, nameEnd};
+ghost use Rattle.text_fields.specs.Class.{classOf, isSpace, isName, classTable, run, nameEnd};
 ghost use Rattle.text_fields.specs.Fours.{Passes};
 ghost use Rattle.text_fields.specs.Number.{value as valueOf, isNumber};
 ghost use Rattle.text_fields.specs.Shape.{wellFormed, firstMalformed, fieldsAre, shapeOf};
 ghost use Rattle.text_fields.specs.Marks.{FieldAt, Marked};
 use text_fields::ByteClass;
+use text_fields::Classes;
 use text_fields::Shape;
 use text_fields::Value;
 
 // Whether a byte parts fields.
-fn is_space(b: u8) -> bool
+fn is_space(classes: &Classes, b: u8) -> bool
+    requires { ⌜ now classes ≡ classTable ⌝ }
     ensures { λ r. ⌜ r ≡ isSpace (classOf b) ⌝ }
 {
-    match text_fields::byte_class(b) {
+    match text_fields::class_in(classes, b) {
         ByteClass::Space => true,
         ByteClass::Newline => false,
         ByteClass::Name => false,
@@ -27,10 +29,11 @@ fn is_space(b: u8) -> bool
 }
 
 // Whether a byte is part of a name.
-fn is_name_byte(b: u8) -> bool
+fn is_name_byte(classes: &Classes, b: u8) -> bool
+    requires { ⌜ now classes ≡ classTable ⌝ }
     ensures { λ r. ⌜ r ≡ isName (classOf b) ⌝ }
 {
-    match text_fields::byte_class(b) {
+    match text_fields::class_in(classes, b) {
         ByteClass::Name => true,
         ByteClass::Space => false,
         ByteClass::Newline => false,
@@ -59,34 +62,36 @@ fn is_well_formed(valued: bool, f: &[u8]) -> bool
 }
 
 // How many of the four bytes from i on are parts of a name, up to the first that is not.
-fn names_of_four(line: &[u8], i: usize) -> usize
+fn names_of_four(classes: &Classes, line: &[u8], i: usize) -> usize
+    requires { ⌜ now classes ≡ classTable ⌝ }
     requires { ⌜ i + 4 ≤ length (now line) ⌝ }
     ensures { λ r. ⌜ Passes run (now (line .entry)) i r ⌝ }
 {
-    if !is_name_byte(line[i]) {
+    if !is_name_byte(classes, line[i]) {
         return 0;
     }
-    if !is_name_byte(line[i + 1]) {
+    if !is_name_byte(classes, line[i + 1]) {
         return 1;
     }
-    if !is_name_byte(line[i + 2]) {
+    if !is_name_byte(classes, line[i + 2]) {
         return 2;
     }
-    if !is_name_byte(line[i + 3]) {
+    if !is_name_byte(classes, line[i + 3]) {
         return 3;
     }
     4
 }
 
 // The end of the bytes of names that stand from `from` on, one byte at a time.
-fn name_rest(line: &[u8], from: usize) -> usize
+fn name_rest(classes: &Classes, line: &[u8], from: usize) -> usize
+    requires { ⌜ now classes ≡ classTable ⌝ }
     requires { ⌜ from ≤ length (now line) ⌝ }
     ensures { λ r. ⌜ r ≡ nameEnd (now (line .entry)) from ⌝ }
     ensures { λ r. ⌜ r ≤ length (now (line .entry)) ⌝ }
 {
     let mut i = from;
     while i < line.len() {
-        if !is_name_byte(line[i]) {
+        if !is_name_byte(classes, line[i]) {
             return i;
         }
         i += 1;
@@ -95,20 +100,25 @@ fn name_rest(line: &[u8], from: usize) -> usize
 }
 
 // The end of the bytes of names that stand from `from` on: four bytes at a time, then one.
-fn name_end(line: &[u8], from: usize) -> usize
+fn name_end(classes: &Classes, line: &[u8], from: usize) -> usize
+    requires { ⌜ now classes ≡ classTable ⌝ }
     requires { ⌜ from ≤ length (now line) ⌝ }
     ensures { λ r. ⌜ r ≡ nameEnd (now (line .entry)) from ⌝ }
     ensures { λ r. ⌜ r ≤ length (now (line .entry)) ⌝ }
 {
+    if line.len() < 4 {
+        return name_rest(classes, line, from);
+    }
+    let last = line.len() - 4;
     let mut i = from;
-    while line.len() - i >= 4 {
-        let k = names_of_four(line, i);
+    while i <= last {
+        let k = names_of_four(classes, line, i);
         if k < 4 {
             return i + k;
         }
         i += 4;
     }
-    name_rest(line, i)
+    name_rest(classes, line, i)
 }
 
 // Whether a line has so many fields, all filled; then `marks` tells where each starts and ends.
@@ -118,10 +128,11 @@ fn split(line: &[u8], columns: usize, marks: &mut [usize; 18]) -> bool
     ensures { λ r. ⌜ r ≡ fieldsAre columns (pieces 32 (now (line .entry))) ⌝ }
     ensures { λ r. ⌜ (r ≡ true → Marked (now (line .entry)) (now (marks .exit)) columns) ⌝ }
 {
+    let classes = text_fields::classes();
     let mut from = 0;
     let mut k = 0;
     while k < columns {
-        let end = name_end(line, from);
+        let end = name_end(&classes, line, from);
         if end == from {
             return false;
         }
@@ -131,7 +142,7 @@ fn split(line: &[u8], columns: usize, marks: &mut [usize; 18]) -> bool
         if end == line.len() {
             return k == columns;
         }
-        if !is_space(line[end]) {
+        if !is_space(&classes, line[end]) {
             return false;
         }
         from = end + 1;

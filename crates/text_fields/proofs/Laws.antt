@@ -5,45 +5,37 @@ use mathlib.Core.Bool.{Bool, true, false, _&&_, _||_, true≢false}
 use mathlib.Core.List.{List, [], _∷_}
 use native.Mathlib.Omega.{arith}
 use native.Mathlib.Numerals.{add-one}
-use borrow.Author.Tests.{eq-eqb, ne-eqb, eqb-true, eqb-false, le-leb, lt-leb}
+use borrow.Author.Tests.{eq-eqb, ne-eqb, eqb-true, eqb-false}
 use lib.Dec.{eqb, leb}
 use lib.ListN.{length, take, drop, getD, length-drop, drop-of-length-le}
 use lib.Seq.{drop-cons, drop-drop}
 use Rattle.text_fields.specs.Split.{pick, before, same}
-use Rattle.text_fields.specs.Class.{classOf, isSpace}
+use Rattle.text_fields.specs.Class.{classOf, isSpace, isNewline}
+use Rattle.text_fields.specs.declared.ByteClass.{ByteClass}
 use Rattle.text_fields.specs.declared.ByteClass.the-variants.{Space, Newline, Name, Other}
 
--- the class of a byte, test after test
-module _ (b : ℕ) where
-  pub class-name : 32 < b → b < 127 → Name ≡ classOf b
-  class-name h k = rw (ne-eqb b 32 (λ q. omega arith), ne-eqb b 10 (λ q. omega arith), le-leb 33 b (omega arith), le-leb b 126 (omega arith))
-
-  pub class-high : 32 < b → 127 ≤ b → Other ≡ classOf b
-  class-high h k = rw (ne-eqb b 32 (λ q. omega arith), ne-eqb b 10 (λ q. omega arith), le-leb 33 b (omega arith), lt-leb b 126 (omega arith))
-
-  module _ (low : b ≤ 32) where
-    pub class-space : b ≡ 32 → Space ≡ classOf b
-    class-space h = rw (eq-eqb b 32 h)
-
-    module _ (other : b ≡ 32 → ⊥) where
-      pub class-newline : b ≡ 10 → Newline ≡ classOf b
-      class-newline h = rw (ne-eqb b 32 other, eq-eqb b 10 h)
-
-      pub class-low : (b ≡ 10 → ⊥) → Other ≡ classOf b
-      class-low h = rw (ne-eqb b 32 other, ne-eqb b 10 h, lt-leb 33 b (omega arith))
+-- what holds neither of names nor of other bytes holds of no byte that is neither a space nor a newline
+neither : (f : ByteClass → Bool) → f Name ≡ false → f Other ≡ false → (x y : Bool) → f (pick x (pick y Name Other) Other) ≡ false
+neither f n o true true = n
+neither f n o true false = o
+neither f n o false y = o
 
 -- a byte is of the class of spaces just when it is 32
 pub space-is : (b : ℕ) → isSpace (classOf b) ≡ eqb b 32
-space-is b = one (eqb b 32) refl where
-  other : (x y z : Bool) → isSpace (pick x Newline (pick y (pick z Name Other) Other)) ≡ false
-  other true y z = refl
-  other false true true = refl
-  other false true false = refl
-  other false false z = refl
+space-is b = go (eqb b 32) (eqb b 10) refl where
+  go : (s l : Bool) → eqb b 32 ≡ s → isSpace (pick s Space (pick l Newline (pick (leb 33 b) (pick (leb b 126) Name Other) Other))) ≡ eqb b 32
+  go true l e = sym e
+  go false true e = sym e
+  go false false e = neither isSpace refl refl (leb 33 b) (leb b 126) ∙ sym e
 
-  one : (t : Bool) → eqb b 32 ≡ t → isSpace (pick t Space (pick (eqb b 10) Newline (pick (leb 33 b) (pick (leb b 126) Name Other) Other))) ≡ eqb b 32
-  one true e = sym e
-  one false e = other (eqb b 10) (leb 33 b) (leb b 126) ∙ sym e
+-- a byte ends a line just when it is 10
+pub newline-is : (b : ℕ) → isNewline (classOf b) ≡ eqb b 10
+newline-is b = go (eqb b 32) (eqb b 10) refl refl where
+  go : (s l : Bool) → eqb b 32 ≡ s → eqb b 10 ≡ l
+      → isNewline (pick s Space (pick l Newline (pick (leb 33 b) (pick (leb b 126) Name Other) Other))) ≡ eqb b 10
+  go true l d e = let z : b ≡ 32 = eqb-true b 32 d in rw z
+  go false true d e = sym e
+  go false false d e = neither isNewline refl refl (leb 33 b) (leb b 126) ∙ sym e
 
 module _ (c : ℕ) (l : List ℕ) (i : ℕ) where
   pub before-hit : i < length l → getD l i 0 ≡ c → before c (drop i l) ≡ 0

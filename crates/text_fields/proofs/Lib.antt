@@ -1,4 +1,5 @@
 pub mod Laws
+pub mod Table
 pub mod Fours
 pub mod Lines
 pub mod Words

@@ -1,5 +1,6 @@
 -- The class of a byte: a space, a newline, part of a name, or none of these.
-use Prim.Native.Nat.{ℕ, suc, _+_}
+use Prim.Native.Nat.{ℕ, zero, suc, _+_}
+use Prim.Native.Char.{code}
 use mathlib.Core.Bool.{Bool, true, false}
 use mathlib.Core.List.{List, [], _∷_}
 use lib.Dec.{eqb, leb}
@@ -12,6 +13,22 @@ use Rattle.text_fields.specs.declared.ByteClass.the-variants.{Space, New
 abbrev pub classOf : ℕ → ByteClass
 classOf b =
     pick (eqb b 32) Space (pick (eqb b 10) Newline (pick (leb 33 b) (pick (leb b 126) Name Other) Other))
+
+-- the letter of a class in the table of the bytes
+abbrev pub letter : ByteClass → ℕ
+letter Space = code "S"
+letter Newline = code "L"
+letter Name = code "N"
+letter Other = code "."
+
+-- the letters of n bytes from b on
+abbrev pub lettersFrom : ℕ → ℕ → List ℕ
+lettersFrom b zero = []
+lettersFrom b (suc n) = letter (classOf b) ∷ lettersFrom (suc b) n
+
+-- the table: the letter of every byte
+unfoldable pub classTable : List ℕ
+classTable = lettersFrom 0 256
 
 abbrev pub isSpace : ByteClass → Bool
 isSpace Space = true

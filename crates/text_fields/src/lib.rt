@@ -4,7 +4,7 @@ ghost use mathlib.Core.Bool.{false};
 ghost use Prim.Native.Nat.{_+_, _≤_};
 ghost use lib.ListN.{length, drop};
 ghost use Rattle.text_fields.specs.Split.{before, same as sameBytes};
-ghost use Rattle.text_fields.specs.Class.{classOf, isNewline};
+ghost use Rattle.text_fields.specs.Class.{classOf, isNewline, classTable};
 ghost use Rattle.text_fields.specs.Fours.{Passes};
 
 // The class of a byte.
@@ -14,6 +14,9 @@ pub enum ByteClass {
     Name,
     Other,
 }
+
+// A letter for each byte.
+pub type Classes = [u8; 256];
 
 pub enum Value {
     Number(u16),
@@ -31,23 +34,51 @@ pub enum Shape {
     Faulty(usize),
 }
 
-// The class of a byte. Every question about a byte's class is asked here.
+// The classes of the bytes, sixteen to a row: `S` a space, `L` a newline, `N` part of a name, `.` none of these.
+const CLASSES: Classes = *b"\
+    ..........L.....\
+    ................\
+    SNNNNNNNNNNNNNNN\
+    NNNNNNNNNNNNNNNN\
+    NNNNNNNNNNNNNNNN\
+    NNNNNNNNNNNNNNNN\
+    NNNNNNNNNNNNNNNN\
+    NNNNNNNNNNNNNNN.\
+    ................\
+    ................\
+    ................\
+    ................\
+    ................\
+    ................\
+    ................\
+    ................\
+";
+
+// The table of the classes. It is written where it is asked for: whoever asks about many bytes has it once and lends it.
+pub fn classes() -> Classes
+    ensures { λ r. ⌜ r ≡ classTable ⌝ }
+{
+    CLASSES
+}
+
+// The class of a byte, by the table. Every question about a byte's class is asked here.
+pub fn class_in(classes: &Classes, b: u8) -> ByteClass
+    requires { ⌜ now classes ≡ classTable ⌝ }
+    ensures { λ r. ⌜ r ≡ classOf b ⌝ }
+{
+    match classes[b as usize] {
+        b'S' => ByteClass::Space,
+        b'L' => ByteClass::Newline,
+        b'N' => ByteClass::Name,
+        _ => ByteClass::Other,
+    }
+}
+
+// The class of a single byte.
 pub fn byte_class(b: u8) -> ByteClass
     ensures { λ r. ⌜ r ≡ classOf b ⌝ }
 {
-    if b > 32 {
-        if b < 127 {
-            return ByteClass::Name;
-        }
-        return ByteClass::Other;
-    }
-    if b == 32 {
-        return ByteClass::Space;
-    }
-    if b == 10 {
-        return ByteClass::Newline;
-    }
-    ByteClass::Other
+    class_in(&classes(), b)
 }
 
 // Whether `c` stands among some bytes. All bytes are asked, with no way out: so several are asked at once.

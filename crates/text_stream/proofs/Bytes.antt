@@ -5,13 +5,13 @@ use mathlib.Core.Bool.{Bool, true, false}
 use mathlib.Core.List.{List, [], _∷_, _++_}
 use native.Mathlib.Omega.{arith}
 use native.Mathlib.Numerals.{add-one}
-use borrow.Author.Tests.{ltb-true, ltb-false, eqb-true}
-use lib.Dec.{eqb, leb, ltb}
+use borrow.Author.Tests.{ltb-true, ltb-false}
+use lib.Dec.{eqb, ltb}
 use lib.ListN.{length, take, drop, getD, set, drop-of-length-le}
 use lib.Seq.{drop-cons, take-suc-set, set-out}
 use Rattle.text_fields.specs.Split.{pick, before}
 use Rattle.text_fields.specs.Class.{classOf, isNewline}
-use Rattle.text_fields.specs.declared.ByteClass.the-variants.{Space, Newline, Name, Other}
+use Rattle.text_fields.proofs.Laws.{newline-is}
 use Rattle.text_position.specs.declared.Position.{Position}
 use Rattle.text_position.specs.Place.{advanced}
 use Rattle.text_lines.specs.Lines.{Control}
@@ -30,22 +30,6 @@ module _ (s : Stream) (l : List ℕ) (i : ℕ) where
 pub feed-append : (s : Stream) (xs ys : List ℕ) → feedAll s (xs ++ ys) ≡ feedAll (feedAll s xs) ys
 feed-append s [] ys = refl
 feed-append s (x ∷ xs) ys = feed-append (stepByte s x) xs ys
-
--- a byte ends a line just when it is 10
-pub newline-is : (b : ℕ) → isNewline (classOf b) ≡ eqb b 10
-newline-is b = one (eqb b 32) refl where
-  three : (x y : Bool) → eqb b 10 ≡ false → isNewline (pick x (pick y Name Other) Other) ≡ eqb b 10
-  three true true e = sym e
-  three true false e = sym e
-  three false y e = sym e
-
-  two : (t : Bool) → eqb b 10 ≡ t → isNewline (pick t Newline (pick (leb 33 b) (pick (leb b 126) Name Other) Other)) ≡ eqb b 10
-  two true e = sym e
-  two false e = three (leb 33 b) (leb b 126) e
-
-  one : (t : Bool) → eqb b 32 ≡ t → isNewline (pick t Space (pick (eqb b 10) Newline (pick (leb 33 b) (pick (leb b 126) Name Other) Other))) ≡ eqb b 10
-  one true e = let z : b ≡ 32 = eqb-true b 32 e in rw z
-  one false e = two (eqb b 10) refl
 
 -- a byte of an unfinished line is held, as far as the buffer reaches
 module _ (pos : Position) (line : List ℕ) (b : ℕ) where

@@ -10,6 +10,7 @@ use lib.Dec.{eqb, ltb}
 use lib.ListN.{length, take, drop, getD, length-append, length-drop, take-append-drop, drop-of-length-le}
 use lib.Seq.{take-all, take-at, take-suc, drop-drop}
 use Rattle.text_fields.specs.Split.{pick, before}
+use Rattle.text_fields.proofs.Laws.{newline-is}
 use Rattle.text_position.specs.declared.Position.{Position}
 use Rattle.text_position.specs.Place.{nextStart}
 use Rattle.text_lines.specs.Lines.{Control, Effect, quiet, lineEffect}
@@ -18,7 +19,7 @@ use Rattle.text_lines.proofs.Lines.{effect-late, effect-cut}
 use Rattle.buffers.proofs.Room.{append-nil}
 use Rattle.text_lines.proofs.Sheets.{stored-none}
 use Rattle.text_stream.specs.Stream.{Stream, stepByte, feedAll, holding}
-use Rattle.text_stream.proofs.Bytes.{newline-is, feed-append}
+use Rattle.text_stream.proofs.Bytes.{feed-append}
 
 -- the bytes before the first c have none, and then comes a c
 before-taken : (c : ℕ) (l : List ℕ) → before c (take (before c l) l) ≡ length (take (before c l) l)

@@ -10,10 +10,10 @@ use Rattle.text_columns.proofs.name_rest.Statement.{statement}
 use Rattle.text_columns.proofs.name_rest.Tie as tie
 
 abbrev Inv-loop : tie.InvT-loop
-Inv-loop line from i₀ i = (i ≤ length line) × (i + run (drop i line) ≡ nameEnd line from)
+Inv-loop classes line from i₀ i = (i ≤ length line) × (i + run (drop i line) ≡ nameEnd line from)
 
 abbrev μ-loop : tie.MeasureT-loop
-μ-loop line from i₀ i = length line - i
+μ-loop classes line from i₀ i = length line - i
 
 loop-holds : tie.Need-loop-holds Inv-loop μ-loop
 loop-holds c = (omega arith, refl)
@@ -22,7 +22,7 @@ shared-slice-read-is-name-byte : tie.Need-shared-slice-read-is-name-byte Inv-loo
 shared-slice-read-is-name-byte c = omega arith
 
 is-name-byte-requires : tie.Need-is-name-byte-requires Inv-loop μ-loop
-is-name-byte-requires c κs = tt
+is-name-byte-requires c κs = c .before .before .before .before .pre .0
 
 returns : tie.Need-returns Inv-loop μ-loop
 returns c =

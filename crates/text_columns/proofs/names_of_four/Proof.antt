@@ -14,7 +14,7 @@ is-name-byte-requires c κs = search needs
 returns : tie.Need-returns
 returns c =
     let asked = c .before in
-    ends-first (name-ends _) _ (asked .before .before .before .pre) (no-name (asked .is-name-byte .ensures) (c .if1 .taken))
+    ends-first (name-ends _) _ (asked .before .before .before .pre .1) (no-name (asked .is-name-byte .ensures) (c .if1 .taken))
 
 add-is-name-byte : tie.Need-add-is-name-byte
 add-is-name-byte c = search needs
@@ -29,7 +29,7 @@ returns-2 : tie.Need-returns-2
 returns-2 c =
     let one = c .before .before .before in
     let at-one = one .before in
-    let long = at-one .before .before .before .pre in
+    let long = at-one .before .before .before .pre .1 in
     let first = a-name (at-one .is-name-byte .ensures) (one .if1 .left) in
     ends-second (name-ends _) _ long first (no-name (c .before .is-name-byte2 .ensures) (c .if2 .taken))
 
@@ -47,7 +47,7 @@ returns-3 c =
     let two = c .before .before .before in
     let one = two .before .before .before in
     let at-one = one .before in
-    let long = at-one .before .before .before .pre in
+    let long = at-one .before .before .before .pre .1 in
     let first = a-name (at-one .is-name-byte .ensures) (one .if1 .left) in
     let second = a-name (two .before .is-name-byte2 .ensures) (two .if2 .left) in
     ends-third (name-ends _) _ long first second (no-name (c .before .is-name-byte3 .ensures) (c .if3 .taken))
@@ -67,7 +67,7 @@ returns-4 c =
     let two = three .before .before .before in
     let one = two .before .before .before in
     let at-one = one .before in
-    let long = at-one .before .before .before .pre in
+    let long = at-one .before .before .before .pre .1 in
     let first = a-name (at-one .is-name-byte .ensures) (one .if1 .left) in
     let second = a-name (two .before .is-name-byte2 .ensures) (two .if2 .left) in
     let third = a-name (three .before .is-name-byte3 .ensures) (three .if3 .left) in
@@ -79,7 +79,7 @@ returns-5 c =
     let two = three .before .before .before in
     let one = two .before .before .before in
     let at-one = one .before in
-    let long = at-one .before .before .before .pre in
+    let long = at-one .before .before .before .pre .1 in
     let first = a-name (at-one .is-name-byte .ensures) (one .if1 .left) in
     let second = a-name (two .before .is-name-byte2 .ensures) (two .if2 .left) in
     let third = a-name (three .before .is-name-byte3 .ensures) (three .if3 .left) in

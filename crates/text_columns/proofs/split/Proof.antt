@@ -1,7 +1,8 @@
 -- A line is split: what is left of it says the same as the whole, and the fields so far are marked.
-use Prim.Native.Nat.{_-_, _<_}
+use Prim.Native.Nat.{_-_, _≤_, _<_}
 use mathlib.Core.Path.{_≡_, sym, _∙_}
 use native.Mathlib.Omega.{arith}
+use borrow.Author.Needs.{needs}
 use borrow.Author.Tests.{not-true, not-false, eqb-true}
 use lib.ListN.{length, getD}
 use Rattle.text_fields.specs.Class.{nameEnd}
@@ -11,95 +12,97 @@ use Rattle.text_columns.proofs.split.Statement.{statement}
 use Rattle.text_columns.proofs.split.Tie as tie
 
 abbrev Inv-loop : tie.InvT-loop
-Inv-loop line columns marks₀ from₀ k₀ marks from k = Splitting line columns marks from k
+Inv-loop line columns marks₀ classes from₀ k₀ marks from k = (k ≤ columns) × Splitting line columns marks from k
 
 abbrev μ-loop : tie.MeasureT-loop
-μ-loop line columns marks₀ from₀ k₀ marks from k = columns - k
+μ-loop line columns marks₀ classes from₀ k₀ marks from k = columns - k
+
+classes-requires : tie.Need-classes-requires Inv-loop μ-loop
+classes-requires c κs = tt
 
 loop-holds : tie.Need-loop-holds Inv-loop μ-loop
-loop-holds c = split-start _ _ _ (c .before .pre .1)
+loop-holds c = (omega arith, split-start _ _ _ (c .before .before .pre .1))
 
 name-end-requires : tie.Need-name-end-requires Inv-loop μ-loop
-name-end-requires c κs = c .before .loop .inv .in-line
+name-end-requires c κs = let l = c .before .before in (l .before .classes .ensures, l .loop .inv .1 .in-line)
 
 returns : tie.Need-returns Inv-loop μ-loop
 returns c =
     let end = c .before in
-    let l = end .before .before in
-    let t = l .before .before .args .line .now in
-    (split-none t _ (l .loop .marks) (l .loop .from) (l .loop .k) _ (l .loop .inv) (end .name-end .ensures .0) (omega arith) (c .if1 .taken), no-marks _ _ _)
+    let l = end .before .before .before in
+    let t = l .before .before .before .args .line .now in
+    (split-none t _ (l .loop .marks) (l .loop .from) (l .loop .k) _ (l .loop .inv .1) (end .name-end .ensures .0) (omega arith) (c .if1 .taken), no-marks _ _ _)
 
 mul-marks : tie.Need-mul-marks Inv-loop μ-loop
-mul-marks c = omega (arith, c .before .before .before .loop .inv .left)
+mul-marks c = omega arith
 
 mul-marks-2 : tie.Need-mul-marks-2 Inv-loop μ-loop
-mul-marks-2 c = omega (arith, c .before .before .before .loop .inv .left)
+mul-marks-2 c = omega arith
 
 element-write-marks : tie.Need-element-write-marks Inv-loop μ-loop
-element-write-marks c = omega (arith, c .before .before .before .loop .inv .left)
+element-write-marks c = omega arith
 
 mul-marks-3 : tie.Need-mul-marks-3 Inv-loop μ-loop
-mul-marks-3 c = omega (arith, c .before .before .before .loop .inv .left)
+mul-marks-3 c = omega arith
 
 add-marks : tie.Need-add-marks Inv-loop μ-loop
-add-marks c = omega (arith, c .before .before .before .loop .inv .left)
+add-marks c = omega arith
 
 mul-marks-4 : tie.Need-mul-marks-4 Inv-loop μ-loop
-mul-marks-4 c = omega (arith, c .before .before .before .loop .inv .left)
+mul-marks-4 c = omega arith
 
 element-write-marks-2 : tie.Need-element-write-marks-2 Inv-loop μ-loop
-element-write-marks-2 c = omega (arith, c .before .before .before .loop .inv .left)
+element-write-marks-2 c = omega arith
 
 add-k : tie.Need-add-k Inv-loop μ-loop
-add-k c = omega (arith, c .before .before .before .loop .inv .left)
+add-k c = omega arith
 
 returns-2 : tie.Need-returns-2 Inv-loop μ-loop
 returns-2 c =
     let at-if1 = c .before in
-    let p2 = at-if1 .before in
-    let end = p2 in
-    let l = end .before .before in
-    let start = l .before .before in
+    let end = at-if1 .before in
+    let l = end .before .before .before in
+    let start = l .before .before .before in
     let t = start .args .line .now in
     let n = start .args .columns in
     let is = end .name-end .ensures in
     let ends : end .name-end .result ≡ nameEnd t (l .loop .from) = is .0 in
     let w : l .loop .from < end .name-end .result = omega (arith, at-if1 .if1 .left) in (
-      split-last t n _ (l .loop .from) (l .loop .k) _ (l .loop .inv) (is .0) (omega arith) (start .pre .0) w (is .1) (c .if2 .taken),
-      last-marked t n _ (l .loop .from) (l .loop .k) _ (l .loop .inv) (is .0) (omega arith) (start .pre .0) w (is .1) (c .if2 .taken),
+      split-last t n _ (l .loop .from) (l .loop .k) _ (l .loop .inv .1) (is .0) (omega arith) (start .pre .0) w (is .1) (c .if2 .taken),
+      last-marked t n _ (l .loop .from) (l .loop .k) _ (l .loop .inv .1) (is .0) (omega arith) (start .pre .0) w (is .1) (c .if2 .taken),
     )
 
 shared-slice-read-is-space : tie.Need-shared-slice-read-is-space Inv-loop μ-loop
-shared-slice-read-is-space c = omega (arith, c .before .before .before .name-end .ensures .1)
+shared-slice-read-is-space c = omega (arith, c .before .before .before .before .name-end .ensures .1)
 
 is-space-requires : tie.Need-is-space-requires Inv-loop μ-loop
-is-space-requires c κs = tt
+is-space-requires c κs = search needs
 
 returns-3 : tie.Need-returns-3 Inv-loop μ-loop
 returns-3 c =
     let told = c .before in
-    let last = told .before .before in
+    let last = told .before .before .before in
     let end = last .before .before in
-    let l = end .before .before in
-    let t = l .before .before .args .line .now in
+    let l = end .before .before .before in
+    let t = l .before .before .before .args .line .now in
     let is = end .name-end .ensures in
     let more : end .name-end .result < length t = omega (arith, is .1, last .if2 .left) in
     let stop = sym (told .is-space .ensures) ∙ not-true _ (c .if3 .taken) in
-    (split-stop t _ (l .loop .marks) (l .loop .from) (l .loop .k) _ (l .loop .inv) (is .0) (omega arith) more stop, no-marks _ _ _)
+    (split-stop t _ (l .loop .marks) (l .loop .from) (l .loop .k) _ (l .loop .inv .1) (is .0) (omega arith) more stop, no-marks _ _ _)
 
 add-from : tie.Need-add-from Inv-loop μ-loop
-add-from c = omega (arith, c .before .before .before .before .before .name-end .ensures .1)
+add-from c = omega (arith, c .before .before .before .before .before .before .name-end .ensures .1)
 
 loop-less : tie.Need-loop-less Inv-loop μ-loop
-loop-less c = omega (arith, c .before .before .before .before .before .before .before .loop .inv .left)
+loop-less c = omega arith
 
 loop-again : tie.Need-loop-again Inv-loop μ-loop
 loop-again c =
     let told = c .before in
-    let last = told .before .before in
+    let last = told .before .before .before in
     let end = last .before .before in
-    let l = end .before .before in
-    let start = l .before .before in
+    let l = end .before .before .before in
+    let start = l .before .before .before in
     let t = start .args .line .now in
     let e = end .name-end .result in
     let is = end .name-end .ensures in
@@ -107,12 +110,12 @@ loop-again c =
     let w : l .loop .from < e = omega (arith, last .before .if1 .left) in
     let more : e < length t = omega (arith, is .1, last .if2 .left) in
     let space = eqb-true (getD t e 0) 32 (sym (space-is (getD t e 0)) ∙ sym (told .is-space .ensures) ∙ not-false _ (c .if3 .left)) in
-    split-more t _ (l .loop .marks) (l .loop .from) (l .loop .k) e (l .loop .inv) (is .0) (omega arith) (start .pre .0) w (is .1) more space
+    (omega arith, split-more t _ (l .loop .marks) (l .loop .from) (l .loop .k) e (l .loop .inv .1) (is .0) (omega arith) (start .pre .0) w (is .1) more space)
 
 returns-4 : tie.Need-returns-4 Inv-loop μ-loop
 returns-4 c =
     let l = c .before in
-    (split-over (l .before .before .args .line .now) _ (l .loop .marks) (l .loop .from) (l .loop .k) (l .loop .inv) (omega arith), no-marks _ _ _)
+    (split-over (l .before .before .before .args .line .now) _ (l .loop .marks) (l .loop .from) (l .loop .k) (l .loop .inv .1) (omega arith), no-marks _ _ _)
 
 pub split-spec : {M : Type 1} → statement M
 split-spec =
@@ -120,6 +123,7 @@ split-spec =
     (tie.spec
     Inv-loop
     μ-loop
+    classes-requires
     loop-holds
     name-end-requires
     returns
