@@ -5,7 +5,7 @@ use mathlib.Core.Bool.{Bool, true, false}
 use mathlib.Core.List.{List, [], _∷_, _++_}
 use native.Mathlib.Omega.{arith}
 use native.Mathlib.Numerals.{add-one}
-use borrow.Author.Tests.{ltb-true, ltb-false}
+use borrow.Author.Tests.{ltb-true, ltb-false, le-ltb}
 use lib.Dec.{eqb, ltb}
 use lib.ListN.{length, take, drop, getD, set, drop-of-length-le}
 use lib.Seq.{drop-cons, take-suc-set, set-out}
@@ -47,14 +47,28 @@ module _ (pos : Position) (line : List ℕ) (b : ℕ) where
   step-plain next line′ c s is e h g = rw (is, g, e, grown (pos .at) h)
 
 -- no byte is a newline
+clear-rest : (b : ℕ) (bs : List ℕ) → before 10 (b ∷ bs) ≡ suc (length bs) → (eqb b 10 ≡ false) × (before 10 bs ≡ length bs)
+clear-rest b bs h = go (eqb b 10) refl h where
+  go : (t : Bool) → eqb b 10 ≡ t → pick t 0 (suc (before 10 bs)) ≡ suc (length bs) → (eqb b 10 ≡ false) × (before 10 bs ≡ length bs)
+  go true e q = absurd (omega arith)
+  go false e q = (e, omega arith)
+
 clear-at : (l : List ℕ) (i : ℕ) → before 10 l ≡ length l → i < length l → eqb (getD l i 0) 10 ≡ false
 clear-at [] i h k = absurd (omega arith)
-clear-at (b ∷ bs) i h k = go (clear-at bs) i (eqb b 10) refl h k where
-  go : ((j : ℕ) → before 10 bs ≡ length bs → j < length bs → eqb (getD bs j 0) 10 ≡ false)
-      → (j : ℕ) (t : Bool) → eqb b 10 ≡ t → pick t 0 (suc (before 10 bs)) ≡ suc (length bs) → j < suc (length bs) → eqb (getD (b ∷ bs) j 0) 10 ≡ false
-  go ih j true e q m = absurd (omega arith)
-  go ih zero false e q m = e
-  go ih (suc j) false e q m = ih j (omega arith) (omega arith)
+clear-at (b ∷ bs) zero h k = clear-rest b bs h .0
+clear-at (b ∷ bs) (suc i) h k = clear-at bs i (clear-rest b bs h .1) (omega arith)
+
+-- a line that is too long is held as far as it will be
+module _ (pos : Position) (line : List ℕ) (c : Control) (s : Sheets) (full : 526 ≤ pos .at) where
+  step-full : (b : ℕ) → eqb b 10 ≡ false → stepByte (holding pos line c s) b ≡ holding pos line c s
+  unfolding stepByte
+  step-full b e = rw (newline-is b ∙ e, le-ltb (pos .at) 526 full)
+
+  pub feed-full : (l : List ℕ) (i : ℕ) → before 10 l ≡ length l → feedAll (holding pos line c s) (drop i l) ≡ holding pos line c s
+  feed-full [] i h = feed-end (holding pos line c s) [] i (omega arith)
+  feed-full (b ∷ bs) zero h =
+      ap (λ (x : Stream). feedAll x bs) (step-full b (clear-rest b bs h .0)) ∙ feed-full bs 0 (clear-rest b bs h .1)
+  feed-full (b ∷ bs) (suc i) h = feed-full bs i (clear-rest b bs h .1)
 
 pub hold-more : (pos : Position) (line l : List ℕ) (i : ℕ) {next : Position} {line′ : List ℕ} (c : Control) (s : Sheets)
     → before 10 l ≡ length l → i < length l → length line ≡ 526

@@ -19,7 +19,7 @@ pub struct Progress {
     pub core: Core,
 }
 
-// Holds the bytes of an unfinished line, as many as tell that it is too long.
+// Holds the bytes of an unfinished line, as many as tell that it is too long. No byte behind those is asked.
 fn hold(start: Position, l: &[u8], line: &mut [u8]) -> Position
     requires { ⌜ before 10 (now l) ≡ length (now l) ⌝ }
     requires { ⌜ length (now line) ≡ 526 ⌝ }
@@ -29,6 +29,9 @@ fn hold(start: Position, l: &[u8], line: &mut [u8]) -> Position
     let mut pos = start;
     let mut i = 0;
     while i < l.len() {
+        if pos.at >= 526 {
+            return pos;
+        }
         let b = l[i];
         buffers::put_byte(line, pos.at, b);
         pos = text_position::advanced_by(pos.line, pos.at, b);

@@ -6,7 +6,7 @@ use lib.ListN.{length, drop}
 use Rattle.text_lines.specs.Lines.{Control}
 use Rattle.text_lines.specs.View.{Sheets}
 use Rattle.text_stream.specs.Stream.{holding, feedAll}
-use Rattle.text_stream.proofs.Bytes.{feed-end, hold-more}
+use Rattle.text_stream.proofs.Bytes.{feed-end, hold-more, feed-full}
 use Rattle.text_stream.proofs.hold.Statement.{statement}
 use Rattle.text_stream.proofs.hold.Tie as tie
 
@@ -21,6 +21,15 @@ abbrev μ-loop : tie.MeasureT-loop
 
 loop-holds : tie.Need-loop-holds Inv-loop μ-loop
 loop-holds c = (omega arith, refl, λ c s. refl)
+
+same-length : tie.Need-same-length Inv-loop μ-loop
+same-length c = omega arith
+
+returns : tie.Need-returns Inv-loop μ-loop
+returns c =
+    let at = c .before .before .before in
+    let start = at .before .before .before in
+    λ k s. sym (feed-full (at .loop .pos) (at .loop .line) k s (c .if1 .taken) (start .args .l .now) (at .loop .i) (start .pre .0)) ∙ at .loop .inv .2 k s
 
 shared-slice-read-b : tie.Need-shared-slice-read-b Inv-loop μ-loop
 shared-slice-read-b c = omega arith
@@ -40,7 +49,7 @@ loop-less c = omega arith
 loop-again : tie.Need-loop-again Inv-loop μ-loop
 loop-again c =
     let put = c .before .before .before in
-    let at = put .before .before .before .before in
+    let at = put .before .before .before .before .before .before in
     let start = at .before .before .before in (
       omega arith,
       omega arith,
@@ -48,11 +57,11 @@ loop-again c =
           (put .put-byte .ensures) (c .advanced-by .ensures) ∙ at .loop .inv .2 k s,
     )
 
-same-length : tie.Need-same-length Inv-loop μ-loop
-same-length c = omega arith
+same-length-2 : tie.Need-same-length-2 Inv-loop μ-loop
+same-length-2 c = omega arith
 
-returns : tie.Need-returns Inv-loop μ-loop
-returns c =
+returns-2 : tie.Need-returns-2 Inv-loop μ-loop
+returns-2 c =
     let at = c .before .loop in
     λ k s. sym (feed-end (holding (at .pos) (at .line) k s) (c .before .before .before .before .args .l .now) (at .i) (omega arith)) ∙ at .inv .2 k s
 
@@ -63,11 +72,13 @@ hold-spec =
     Inv-loop
     μ-loop
     loop-holds
+    same-length
+    returns
     shared-slice-read-b
     put-byte-requires
     advanced-by-requires
     add-i
     loop-less
     loop-again
-    same-length
-    returns)
+    same-length-2
+    returns-2)
