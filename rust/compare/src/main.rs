@@ -7,9 +7,11 @@
 //! whole workspace have to be the same. Many cases are also printed as text,
 //! damaged or not, and read by all readers there are, and checked at once: the
 //! outcome and the line for a person have to be the same. With a program, some of
-//! the texts of every kind go through it too. The counts of everything that has to
-//! occur are printed, and a zero fails.
+//! the texts of every kind go through it too. In one small text every byte is put in
+//! the place of each byte. The counts of everything that has to occur are printed, and
+//! a zero fails.
 
+mod bytes;
 mod case;
 mod deep;
 mod grow;
@@ -112,10 +114,14 @@ fn main() -> ExitCode {
         texts: 0,
         programs: BTreeMap::new(),
     };
-    if let Err(difference) = texts::compare_words() {
-        println!("{difference}");
-        return ExitCode::FAILURE;
-    }
+    let words = texts::compare_words();
+    let swept = match words.and_then(|()| bytes::compare_bytes(&mut Rng::new(options.seed))) {
+        Ok(swept) => swept,
+        Err(difference) => {
+            println!("{difference}");
+            return ExitCode::FAILURE;
+        }
+    };
     let numbers = match options.only {
         Some(only) => only..only + 1,
         None => 0..options.cases,
@@ -137,7 +143,7 @@ fn main() -> ExitCode {
     names.extend(runners().iter().map(|runner| runner.0));
     let readers: Vec<&str> = texts::readers().iter().map(|reader| reader.0).collect();
     println!(
-        "{} cases and {} probes of seed {} agree with plain: {}; {} texts: {}; {} through the program",
+        "{} cases and {} probes of seed {} agree with plain: {}; {} texts: {}; {} through the program; {swept} with each byte in each place",
         options.cases,
         session.probes,
         options.seed,

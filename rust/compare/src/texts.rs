@@ -24,10 +24,10 @@ pub type Kind = (u16, u16, u16, &'static str);
 const PROGRAM_TEXTS: u64 = 12;
 
 /// The length of a buffer that holds every line for a person.
-const SAID: usize = 256;
+pub const SAID: usize = 256;
 
 /// The lengths of sheets that hold every text.
-const ROOM: [usize; 4] = [64, 1_536, 512, 9_216];
+pub const ROOM: [usize; 4] = [64, 1_536, 512, 9_216];
 
 fn read_plain(text: &[u8], sheets: &mut [Vec<u16>; 4]) -> Read {
     let [sorts, terms, inputs, steps] = sheets;
@@ -224,7 +224,7 @@ fn read_case(read: &Read, sheets: [Vec<u16>; 4]) -> Case {
 
 /// Reads the text with everyone into sheets of the lengths, full of old contents;
 /// the result, if all agree.
-fn compare_read(
+pub fn compare_read(
     text: &[u8],
     lengths: [usize; 4],
     old: u16,
@@ -364,7 +364,7 @@ fn slow_check(text: &[u8]) -> [u16; 4] {
 
 /// Checks the text at once with everyone, the line in a buffer of the length full
 /// of old contents: the line is cut where the buffer is short, and zeros follow.
-fn compare_check(
+pub fn compare_check(
     rng: &mut Rng,
     text: &[u8],
     checked: &Checked,
