@@ -122,17 +122,17 @@ fn name_end(classes: &Classes, line: &[u8], from: usize) -> usize
 }
 
 // Whether a line has so many fields, all filled; then `marks` tells where each starts and ends.
-fn split(line: &[u8], columns: usize, marks: &mut [usize; 18]) -> bool
+fn split(classes: &Classes, line: &[u8], columns: usize, marks: &mut [usize; 18]) -> bool
     requires { ⌜ columns ≤ 9 ⌝ }
     requires { ⌜ length (now marks) ≡ 18 ⌝ }
+    requires { ⌜ now classes ≡ classTable ⌝ }
     ensures { λ r. ⌜ r ≡ fieldsAre columns (pieces 32 (now (line .entry))) ⌝ }
     ensures { λ r. ⌜ (r ≡ true → Marked (now (line .entry)) (now (marks .exit)) columns) ⌝ }
 {
-    let classes = text_fields::classes();
     let mut from = 0;
     let mut k = 0;
     while k < columns {
-        let end = name_end(&classes, line, from);
+        let end = name_end(classes, line, from);
         if end == from {
             return false;
         }
@@ -142,7 +142,7 @@ fn split(line: &[u8], columns: usize, marks: &mut [usize; 18]) -> bool
         if end == line.len() {
             return k == columns;
         }
-        if !is_space(&classes, line[end]) {
+        if !is_space(classes, line[end]) {
             return false;
         }
         from = end + 1;
@@ -213,13 +213,20 @@ fn malformed_field(line: &[u8], columns: usize, column: usize, marks: &[usize; 1
 }
 
 // Whether a line of values is well formed; then `marks` tells where its fields are. `column` is the number of the value column, 0 where there is none.
-pub fn check_line(line: &[u8], columns: usize, column: usize, marks: &mut [usize; 18]) -> Shape
+pub fn check_line(
+    classes: &Classes,
+    line: &[u8],
+    columns: usize,
+    column: usize,
+    marks: &mut [usize; 18],
+) -> Shape
     requires { ⌜ columns ≤ 9 ⌝ }
     requires { ⌜ length (now marks) ≡ 18 ⌝ }
+    requires { ⌜ now classes ≡ classTable ⌝ }
     ensures { λ r. ⌜ r ≡ shapeOf columns column (pieces 32 (now (line .entry))) ⌝ }
     ensures { λ r. ⌜ (r ≡ Shape.Good → Marked (now (line .entry)) (now (marks .exit)) columns) ⌝ }
 {
-    if !split(line, columns, marks) {
+    if !split(classes, line, columns, marks) {
         return Shape::Faulty(0);
     }
     let place = malformed_field(line, columns, column, marks);

@@ -5,10 +5,12 @@ ghost use Prim.Native.Nat.{ℕ, _+_, _≤_, _<_, _^_};
 ghost use lib.ListN.{length, set};
 ghost use lib.Seq.{sets};
 ghost use Rattle.text_fields.specs.Split.{pieces, same};
+ghost use Rattle.text_fields.specs.Class.{classTable};
 ghost use Rattle.text_rows.specs.View.{keptOf, takenOf, Bounded, Within};
 ghost use Rattle.text_lines.specs.Lines.{quiet, bad, enter, headerOf, header, nextSheet, rowOf, valueColumn, whyRow, row, readLine, numbered, lineEffect};
 ghost use Rattle.text_lines.specs.View.{controlOf, effectOf, StepBounded, sheetsOf, stored, LineEnded};
 use text_faults::Why;
+use text_fields::Classes;
 use text_rows::Counts;
 use text_rows::Row;
 
@@ -130,16 +132,23 @@ fn empty_line(core: Core) -> Step
 }
 
 // A row of a sheet.
-fn sheet_row(sheet: Sheet, counts: Counts, line: &[u8], names: &mut [u8; 55392]) -> Row
+fn sheet_row(
+    classes: &Classes,
+    sheet: Sheet,
+    counts: Counts,
+    line: &[u8],
+    names: &mut [u8; 55392],
+) -> Row
     requires { ⌜ Bounded counts ⌝ }
+    requires { ⌜ now classes ≡ classTable ⌝ }
     ensures { λ r. ⌜ takenOf r (now (names .exit)) ≡ rowOf sheet (keptOf counts (now (names .entry))) (pieces 32 (now (line .entry))) ⌝ }
     ensures { λ r. ⌜ Within r ⌝ }
 {
     match sheet {
-        Sheet::Sorts => text_sorts::sort_row(counts, line, names),
-        Sheet::Terms => text_terms::term_row(counts, line, names),
-        Sheet::Inputs => text_steps::input_row(counts, line, names),
-        Sheet::Steps => text_steps::step_row(counts, line, names),
+        Sheet::Sorts => text_sorts::sort_row(classes, counts, line, names),
+        Sheet::Terms => text_terms::term_row(classes, counts, line, names),
+        Sheet::Inputs => text_steps::input_row(classes, counts, line, names),
+        Sheet::Steps => text_steps::step_row(classes, counts, line, names),
     }
 }
 
@@ -191,8 +200,9 @@ fn row_line(core: Core, taken: Row, line: &[u8]) -> Step
 }
 
 // A line that is not too long, after good ones.
-fn read_line(core: Core, line: &[u8], names: &mut [u8; 55392]) -> Step
+fn read_line(classes: &Classes, core: Core, line: &[u8], names: &mut [u8; 55392]) -> Step
     requires { ⌜ Bounded (core .counts) ⌝ }
+    requires { ⌜ now classes ≡ classTable ⌝ }
     ensures { λ r. ⌜ effectOf r (now (names .exit)) ≡ readLine (controlOf core (now (names .entry))) (now (line .entry)) ⌝ }
     ensures { λ r. ⌜ StepBounded r ⌝ }
 {
@@ -204,7 +214,7 @@ fn read_line(core: Core, line: &[u8], names: &mut [u8; 55392]) -> Step
     }
     let sheet = core.sheet;
     let counts = core.counts;
-    let taken = sheet_row(sheet, counts, line, names);
+    let taken = sheet_row(classes, sheet, counts, line, names);
     row_line(core, taken, line)
 }
 
@@ -228,9 +238,10 @@ fn number_line(core: Core, n: usize) -> Core
 }
 
 // What line n does, after good lines.
-fn line_step(core: Core, n: usize, l: &[u8], names: &mut [u8; 55392]) -> Step
+fn line_step(classes: &Classes, core: Core, n: usize, l: &[u8], names: &mut [u8; 55392]) -> Step
     requires { ⌜ Bounded (core .counts) ⌝ }
     requires { ⌜ core .number ≡ 0 ⌝ }
+    requires { ⌜ now classes ≡ classTable ⌝ }
     ensures { λ r. ⌜ effectOf r (now (names .exit)) ≡ lineEffect (controlOf core (now (names .entry))) n (now (l .entry)) ⌝ }
     ensures { λ r. ⌜ StepBounded r ⌝ }
 {
@@ -238,7 +249,7 @@ fn line_step(core: Core, n: usize, l: &[u8], names: &mut [u8; 55392]) -> Step
     if l.len() > 525 {
         return bad_line(here, Why::Long);
     }
-    read_line(here, l, names)
+    read_line(classes, here, l, names)
 }
 
 // Stores a number where there is room for it.
@@ -311,6 +322,7 @@ fn store_row(
 
 // Line n, after good lines: it is read, and its row stored.
 pub fn end_line(
+    classes: &Classes,
     core: Core,
     n: usize,
     l: &[u8],
@@ -322,13 +334,14 @@ pub fn end_line(
 ) -> Core
     requires { ⌜ Bounded (core .counts) ⌝ }
     requires { ⌜ core .number ≡ 0 ⌝ }
+    requires { ⌜ now classes ≡ classTable ⌝ }
     ensures { λ r. ⌜ LineEnded (controlOf core (now (names .entry))) n (now (l .entry))
         (sheetsOf (now (sorts .entry)) (now (terms .entry)) (now (inputs .entry)) (now (steps .entry)))
         (controlOf r (now (names .exit)))
         (sheetsOf (now (sorts .exit)) (now (terms .exit)) (now (inputs .exit)) (now (steps .exit))) ⌝ }
     ensures { λ r. ⌜ Bounded (r .counts) ⌝ }
 {
-    let step = line_step(core, n, l, names);
+    let step = line_step(classes, core, n, l, names);
     let sheet = core.sheet;
     let counts = core.counts;
     let cells = step.cells;

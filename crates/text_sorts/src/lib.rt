@@ -5,11 +5,13 @@ ghost use mathlib.Core.List.{[]};
 ghost use Prim.Native.Nat.{_<_};
 ghost use lib.ListN.{getD};
 ghost use Rattle.text_fields.specs.Split.{pieces};
+ghost use Rattle.text_fields.specs.Class.{classTable};
 ghost use Rattle.text_fields.specs.Shape.{shapeOf};
 ghost use Rattle.text_fields.specs.Marks.{Marked};
 ghost use Rattle.text_names.specs.Table.{namesFrom};
 ghost use Rattle.text_rows.specs.Rows.{isTaken, sortAdded, sortRow};
 ghost use Rattle.text_rows.specs.View.{keptOf, takenOf, Bounded, Within};
+use text_fields::Classes;
 use text_fields::Shape;
 use text_rows::Counts;
 use text_rows::Row;
@@ -62,13 +64,14 @@ fn add_sort(counts: Counts, line: &[u8], marks: &[usize; 18], names: &mut [u8; 5
 }
 
 // A line of the sort sheet.
-pub fn sort_row(counts: Counts, line: &[u8], names: &mut [u8; 55392]) -> Row
+pub fn sort_row(classes: &Classes, counts: Counts, line: &[u8], names: &mut [u8; 55392]) -> Row
     requires { ⌜ Bounded counts ⌝ }
+    requires { ⌜ now classes ≡ classTable ⌝ }
     ensures { λ r. ⌜ takenOf r (now (names .exit)) ≡ sortRow (keptOf counts (now (names .entry))) (pieces 32 (now (line .entry))) ⌝ }
     ensures { λ r. ⌜ Within r ⌝ }
 {
     let mut marks = [0usize; 18];
-    match text_columns::check_line(line, 3, 0, &mut marks) {
+    match text_columns::check_line(classes, line, 3, 0, &mut marks) {
         Shape::Faulty(place) => text_rows::refuse(counts, 31, place),
         Shape::Good => add_sort(counts, line, &marks, names),
     }

@@ -5,11 +5,13 @@ ghost use mathlib.Core.List.{[]};
 ghost use Prim.Native.Nat.{_≤_, _<_};
 ghost use lib.ListN.{getD};
 ghost use Rattle.text_fields.specs.Split.{pieces};
+ghost use Rattle.text_fields.specs.Class.{classTable};
 ghost use Rattle.text_fields.specs.Number.{value, isNumber, numberOr};
 ghost use Rattle.text_fields.specs.Shape.{shapeOf};
 ghost use Rattle.text_fields.specs.Marks.{FieldAt, Marked};
 ghost use Rattle.text_rows.specs.Rows.{below, inputAdded, inputRow, stepCells, stepAdded, stepRow};
 ghost use Rattle.text_rows.specs.View.{keptOf, takenOf, Bounded, Within};
+use text_fields::Classes;
 use text_fields::Shape;
 use text_rows::Counts;
 use text_rows::Row;
@@ -55,13 +57,14 @@ fn good_input(counts: Counts, line: &[u8], marks: &[usize; 18], names: &[u8; 553
 }
 
 // A line of the input sheet: a term and a value.
-pub fn input_row(counts: Counts, line: &[u8], names: &[u8; 55392]) -> Row
+pub fn input_row(classes: &Classes, counts: Counts, line: &[u8], names: &[u8; 55392]) -> Row
     requires { ⌜ Bounded counts ⌝ }
+    requires { ⌜ now classes ≡ classTable ⌝ }
     ensures { λ r. ⌜ takenOf r (now (names .entry)) ≡ inputRow (keptOf counts (now (names .entry))) (pieces 32 (now (line .entry))) ⌝ }
     ensures { λ r. ⌜ Within r ⌝ }
 {
     let mut marks = [0usize; 18];
-    match text_columns::check_line(line, 2, 2, &mut marks) {
+    match text_columns::check_line(classes, line, 2, 2, &mut marks) {
         Shape::Faulty(place) => text_rows::refuse(counts, 31, place),
         Shape::Good => good_input(counts, line, &marks, names),
     }
@@ -118,13 +121,14 @@ fn good_step(counts: Counts, line: &[u8], marks: &[usize; 18], names: &[u8; 5539
 }
 
 // A line of the step sheet: a step, a rule, a term, a value, five premises.
-pub fn step_row(counts: Counts, line: &[u8], names: &[u8; 55392]) -> Row
+pub fn step_row(classes: &Classes, counts: Counts, line: &[u8], names: &[u8; 55392]) -> Row
     requires { ⌜ Bounded counts ⌝ }
+    requires { ⌜ now classes ≡ classTable ⌝ }
     ensures { λ r. ⌜ takenOf r (now (names .entry)) ≡ stepRow (keptOf counts (now (names .entry))) (pieces 32 (now (line .entry))) ⌝ }
     ensures { λ r. ⌜ Within r ⌝ }
 {
     let mut marks = [0usize; 18];
-    match text_columns::check_line(line, 9, 4, &mut marks) {
+    match text_columns::check_line(classes, line, 9, 4, &mut marks) {
         Shape::Faulty(place) => text_rows::refuse(counts, 31, place),
         Shape::Good => good_step(counts, line, &marks, names),
     }

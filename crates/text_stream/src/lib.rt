@@ -6,10 +6,12 @@ ghost use Prim.Native.Nat.{_+_, _≤_};
 ghost use lib.Dec.{eqb, ltb};
 ghost use lib.ListN.{length, take};
 ghost use Rattle.text_fields.specs.Split.{pick, before};
+ghost use Rattle.text_fields.specs.Class.{classTable};
 ghost use Rattle.text_rows.specs.View.{Bounded};
 ghost use Rattle.text_lines.specs.Lines.{Control};
 ghost use Rattle.text_lines.specs.View.{Sheets};
 ghost use Rattle.text_stream.specs.Stream.{holding, streamOf, feedAll};
+use text_fields::Classes;
 use text_lines::Core;
 use text_position::Position;
 
@@ -69,6 +71,7 @@ fn line_of<'a>(whole: bool, l: &'a [u8], line: &'a [u8], at: usize) -> &'a [u8]
 
 // The bytes up to the next newline, n bytes before it: a line that stands whole is read there, else they are held.
 fn feed_part(
+    classes: &Classes,
     f: Progress,
     rest: &[u8],
     n: usize,
@@ -82,6 +85,7 @@ fn feed_part(
     requires { ⌜ Bounded (f .core .counts) ⌝ }
     requires { ⌜ n ≡ before 10 (now rest) ⌝ }
     requires { ⌜ n ≤ length (now rest) ⌝ }
+    requires { ⌜ now classes ≡ classTable ⌝ }
     ensures { λ r. ⌜ streamOf r
         (now (line .exit)) (now (names .exit)) (now (sorts .exit)) (now (terms .exit)) (now (inputs .exit)) (now (steps .exit))
         ≡ feedAll (streamOf f
@@ -102,7 +106,17 @@ fn feed_part(
         return Progress { pos: next, core };
     }
     let l = line_of(whole, &rest[..n], line, held.at);
-    let after = text_lines::end_line(core, held.line, l, names, sorts, terms, inputs, steps);
+    let after = text_lines::end_line(
+        classes,
+        core,
+        held.line,
+        l,
+        names,
+        sorts,
+        terms,
+        inputs,
+        steps,
+    );
     Progress {
         pos: next,
         core: after,
@@ -138,11 +152,23 @@ pub fn feed(
         (now (piece .entry)) ⌝ }
     ensures { λ r. ⌜ Bounded (r .core .counts) ⌝ }
 {
+    let classes = text_fields::classes();
     let mut f = start;
     let mut i = 0;
     while i < piece.len() {
         let n = text_fields::scan(&piece[i..], 10);
-        f = feed_part(f, &piece[i..], n, line, names, sorts, terms, inputs, steps);
+        f = feed_part(
+            &classes,
+            f,
+            &piece[i..],
+            n,
+            line,
+            names,
+            sorts,
+            terms,
+            inputs,
+            steps,
+        );
         i = place_after(i + n, piece.len());
     }
     f

@@ -5,7 +5,7 @@ ghost use mathlib.Core.List.{[]};
 ghost use Prim.Native.Nat.{_≤_, _<_};
 ghost use lib.ListN.{length, getD};
 ghost use Rattle.text_fields.specs.Split.{pieces};
-ghost use Rattle.text_fields.specs.Class.{named};
+ghost use Rattle.text_fields.specs.Class.{classTable, named};
 ghost use Rattle.text_fields.specs.Words.{indexFrom};
 ghost use Rattle.text_fields.specs.Shape.{shapeOf};
 ghost use Rattle.text_fields.specs.Marks.{Marked};
@@ -13,6 +13,7 @@ ghost use Rattle.text_names.specs.Table.{namesFrom};
 ghost use Rattle.text_rows.specs.Rows.{isTaken, freeHead, headOf, termAdded, termRow};
 ghost use Rattle.text_rows.specs.View.{keptOf, takenOf, Bounded, Within};
 ghost use Rattle.text_terms.specs.Heads.{HeadIs};
+use text_fields::Classes;
 use text_fields::Found;
 use text_fields::Shape;
 use text_rows::Counts;
@@ -123,13 +124,14 @@ fn add_term(counts: Counts, line: &[u8], marks: &[usize; 18], names: &mut [u8; 5
 }
 
 // A line of the term sheet.
-pub fn term_row(counts: Counts, line: &[u8], names: &mut [u8; 55392]) -> Row
+pub fn term_row(classes: &Classes, counts: Counts, line: &[u8], names: &mut [u8; 55392]) -> Row
     requires { ⌜ Bounded counts ⌝ }
+    requires { ⌜ now classes ≡ classTable ⌝ }
     ensures { λ r. ⌜ takenOf r (now (names .exit)) ≡ termRow (keptOf counts (now (names .entry))) (pieces 32 (now (line .entry))) ⌝ }
     ensures { λ r. ⌜ Within r ⌝ }
 {
     let mut marks = [0usize; 18];
-    match text_columns::check_line(line, 7, 0, &mut marks) {
+    match text_columns::check_line(classes, line, 7, 0, &mut marks) {
         Shape::Faulty(place) => text_rows::refuse(counts, 31, place),
         Shape::Good => add_term(counts, line, &marks, names),
     }

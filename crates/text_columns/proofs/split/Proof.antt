@@ -12,25 +12,22 @@ use Rattle.text_columns.proofs.split.Statement.{statement}
 use Rattle.text_columns.proofs.split.Tie as tie
 
 abbrev Inv-loop : tie.InvT-loop
-Inv-loop line columns marks₀ classes from₀ k₀ marks from k = (k ≤ columns) × Splitting line columns marks from k
+Inv-loop classes line columns marks₀ from₀ k₀ marks from k = (k ≤ columns) × Splitting line columns marks from k
 
 abbrev μ-loop : tie.MeasureT-loop
-μ-loop line columns marks₀ classes from₀ k₀ marks from k = columns - k
-
-classes-requires : tie.Need-classes-requires Inv-loop μ-loop
-classes-requires c κs = tt
+μ-loop classes line columns marks₀ from₀ k₀ marks from k = columns - k
 
 loop-holds : tie.Need-loop-holds Inv-loop μ-loop
-loop-holds c = (omega arith, split-start _ _ _ (c .before .before .pre .1))
+loop-holds c = (omega arith, split-start _ _ _ (c .before .pre .1 .0))
 
 name-end-requires : tie.Need-name-end-requires Inv-loop μ-loop
-name-end-requires c κs = let l = c .before .before in (l .before .classes .ensures, l .loop .inv .1 .in-line)
+name-end-requires c κs = let l = c .before in (l .before .before .pre .1 .1, l .loop .inv .1 .in-line)
 
 returns : tie.Need-returns Inv-loop μ-loop
 returns c =
     let end = c .before in
-    let l = end .before .before .before in
-    let t = l .before .before .before .args .line .now in
+    let l = end .before .before in
+    let t = l .before .before .args .line .now in
     (split-none t _ (l .loop .marks) (l .loop .from) (l .loop .k) _ (l .loop .inv .1) (end .name-end .ensures .0) (omega arith) (c .if1 .taken), no-marks _ _ _)
 
 mul-marks : tie.Need-mul-marks Inv-loop μ-loop
@@ -61,8 +58,8 @@ returns-2 : tie.Need-returns-2 Inv-loop μ-loop
 returns-2 c =
     let at-if1 = c .before in
     let end = at-if1 .before in
-    let l = end .before .before .before in
-    let start = l .before .before .before in
+    let l = end .before .before in
+    let start = l .before .before in
     let t = start .args .line .now in
     let n = start .args .columns in
     let is = end .name-end .ensures in
@@ -73,7 +70,7 @@ returns-2 c =
     )
 
 shared-slice-read-is-space : tie.Need-shared-slice-read-is-space Inv-loop μ-loop
-shared-slice-read-is-space c = omega (arith, c .before .before .before .before .name-end .ensures .1)
+shared-slice-read-is-space c = omega (arith, c .before .before .before .name-end .ensures .1)
 
 is-space-requires : tie.Need-is-space-requires Inv-loop μ-loop
 is-space-requires c κs = search needs
@@ -81,17 +78,17 @@ is-space-requires c κs = search needs
 returns-3 : tie.Need-returns-3 Inv-loop μ-loop
 returns-3 c =
     let told = c .before in
-    let last = told .before .before .before in
+    let last = told .before .before in
     let end = last .before .before in
-    let l = end .before .before .before in
-    let t = l .before .before .before .args .line .now in
+    let l = end .before .before in
+    let t = l .before .before .args .line .now in
     let is = end .name-end .ensures in
     let more : end .name-end .result < length t = omega (arith, is .1, last .if2 .left) in
     let stop = sym (told .is-space .ensures) ∙ not-true _ (c .if3 .taken) in
     (split-stop t _ (l .loop .marks) (l .loop .from) (l .loop .k) _ (l .loop .inv .1) (is .0) (omega arith) more stop, no-marks _ _ _)
 
 add-from : tie.Need-add-from Inv-loop μ-loop
-add-from c = omega (arith, c .before .before .before .before .before .before .name-end .ensures .1)
+add-from c = omega (arith, c .before .before .before .before .before .name-end .ensures .1)
 
 loop-less : tie.Need-loop-less Inv-loop μ-loop
 loop-less c = omega arith
@@ -99,10 +96,10 @@ loop-less c = omega arith
 loop-again : tie.Need-loop-again Inv-loop μ-loop
 loop-again c =
     let told = c .before in
-    let last = told .before .before .before in
+    let last = told .before .before in
     let end = last .before .before in
-    let l = end .before .before .before in
-    let start = l .before .before .before in
+    let l = end .before .before in
+    let start = l .before .before in
     let t = start .args .line .now in
     let e = end .name-end .result in
     let is = end .name-end .ensures in
@@ -115,7 +112,7 @@ loop-again c =
 returns-4 : tie.Need-returns-4 Inv-loop μ-loop
 returns-4 c =
     let l = c .before in
-    (split-over (l .before .before .before .args .line .now) _ (l .loop .marks) (l .loop .from) (l .loop .k) (l .loop .inv .1) (omega arith), no-marks _ _ _)
+    (split-over (l .before .before .args .line .now) _ (l .loop .marks) (l .loop .from) (l .loop .k) (l .loop .inv .1) (omega arith), no-marks _ _ _)
 
 pub split-spec : {M : Type 1} → statement M
 split-spec =
@@ -123,7 +120,6 @@ split-spec =
     (tie.spec
     Inv-loop
     μ-loop
-    classes-requires
     loop-holds
     name-end-requires
     returns
