@@ -22,14 +22,15 @@ returns c =
     let control = controlOf (start .args .core) (start .args .names .now) in
     let here = numbered .number-line .ensures .0 (start .args .names .now) in (
       c .bad-line .ensures .0 (start .args .names .now) ∙ ap (λ (k : Control). bad k Long) here
-          ∙ effect-long control (start .args .n) (start .args .l .now) (start .pre .1) (c .before .if1 .taken),
+          ∙ effect-long control (start .args .n) (start .args .l .now) (start .pre .1 .0) (c .before .if1 .taken),
       c .bad-line .ensures .1,
     )
 
 read-line-requires : tie.Need-read-line-requires
 read-line-requires c κs =
     let numbered = c .before .before in
-    rw (numbered .number-line .ensures .1) (numbered .before .before .pre .0)
+    let start = numbered .before .before in
+    (rw (numbered .number-line .ensures .1) (start .pre .0), start .pre .1 .1)
 
 returns-2 : tie.Need-returns-2
 returns-2 c =
@@ -38,7 +39,7 @@ returns-2 c =
     let control = controlOf (start .args .core) (start .args .names .now) in
     let here = tested .before .number-line .ensures .0 (start .args .names .now) in (
       c .read-line .ensures .0 ∙ ap (λ (k : Control). readLine k (start .args .l .now)) here
-          ∙ effect-read control (start .args .n) (start .args .l .now) (start .pre .1) (omega (arith, tested .if1 .left)),
+          ∙ effect-read control (start .args .n) (start .args .l .now) (start .pre .1 .0) (omega (arith, tested .if1 .left)),
       c .read-line .ensures .1,
     )
 

@@ -11,7 +11,7 @@ use Rattle.text_stream.proofs.feed.Statement.{statement}
 use Rattle.text_stream.proofs.feed.Tie as tie
 
 abbrev Inv-loop : tie.InvT-loop
-Inv-loop piece line₀ names₀ sorts₀ terms₀ inputs₀ steps₀ f₀ i₀ line names sorts terms inputs steps f i =
+Inv-loop piece line₀ names₀ sorts₀ terms₀ inputs₀ steps₀ classes f₀ i₀ line names sorts terms inputs steps f i =
     (i ≤ length piece)
     × (length sorts ≡ length sorts₀)
     × (length terms ≡ length terms₀)
@@ -21,23 +21,26 @@ Inv-loop piece line₀ names₀ sorts₀ terms₀ inputs₀ steps₀ f₀ i₀ l
     × (feedAll (streamOf f line names sorts terms inputs steps) (drop i piece) ≡ feedAll (streamOf f₀ line₀ names₀ sorts₀ terms₀ inputs₀ steps₀) piece)
 
 abbrev μ-loop : tie.MeasureT-loop
-μ-loop piece line₀ names₀ sorts₀ terms₀ inputs₀ steps₀ f₀ i₀ line names sorts terms inputs steps f i = length piece - i
+μ-loop piece line₀ names₀ sorts₀ terms₀ inputs₀ steps₀ classes f₀ i₀ line names sorts terms inputs steps f i = length piece - i
 
 -- the places that the answers look back to: the entry, the loop's head, the newline found, the part fed
 abbrev entry : tie.At-loop Inv-loop μ-loop → tie.Start Inv-loop μ-loop
-entry c = c .before .before .before .before .before .before
+entry c = c .before .before .before .before .before .before .before
 
 abbrev head : tie.After-scan Inv-loop μ-loop → tie.At-loop Inv-loop μ-loop
 head c = c .before .before .before
 
 abbrev scanned : tie.After-feed-part Inv-loop μ-loop → tie.After-scan Inv-loop μ-loop
-scanned c = c .before .before .before .before .before .before .before .before
+scanned c = c .before .before .before .before .before .before .before .before .before
 
 abbrev fed : tie.After-slice-known8 Inv-loop μ-loop → tie.After-feed-part Inv-loop μ-loop
 fed c = c .before .before .before .before .before .before .before .before
 
+classes-requires : tie.Need-classes-requires Inv-loop μ-loop
+classes-requires c κs = tt
+
 loop-holds : tie.Need-loop-holds Inv-loop μ-loop
-loop-holds c = (omega arith, refl, refl, refl, refl, c .before .before .before .before .before .pre, refl)
+loop-holds c = (omega arith, refl, refl, refl, refl, c .before .before .before .before .before .before .pre, refl)
 
 sub-scan : tie.Need-sub-scan Inv-loop μ-loop
 sub-scan c = omega (arith, c .before .loop .inv .0)
@@ -52,18 +55,19 @@ scan-requires : tie.Need-scan-requires Inv-loop μ-loop
 scan-requires c κs = tt
 
 sub-feed-part : tie.Need-sub-feed-part Inv-loop μ-loop
-sub-feed-part c = omega (arith, c .before .before .before .loop .inv .0)
+sub-feed-part c = omega (arith, head (c .before) .loop .inv .0)
 
 part-feed-part-start : tie.Need-part-feed-part-start Inv-loop μ-loop
-part-feed-part-start c = omega (arith, c .before .before .before .loop .inv .0)
+part-feed-part-start c = omega (arith, head (c .before) .loop .inv .0)
 
 part-feed-part-end : tie.Need-part-feed-part-end Inv-loop μ-loop
-part-feed-part-end c = omega (arith, c .before .before .before .loop .inv .0)
+part-feed-part-end c = omega (arith, head (c .before) .loop .inv .0)
 
 feed-part-requires : tie.Need-feed-part-requires Inv-loop μ-loop
 feed-part-requires c κs =
-    let s = c .before .before .before .before .before .before .before in
-    (head s .loop .inv .5, (s .scan .ensures .0, s .scan .ensures .1))
+    let s = c .before .before .before .before .before .before .before .before in
+    let h = head s in
+    (h .loop .inv .5, (s .scan .ensures .0, (s .scan .ensures .1, h .before .classes .ensures)))
 
 add-place-after : tie.Need-add-place-after Inv-loop μ-loop
 add-place-after c =
@@ -96,7 +100,7 @@ loop-again c =
     let piece = entry h .args .piece .now in
     let n = s .scan .result in
     let e = c .place-after .ensures in
-    let same = g .kept .1 .1 .1 .1 .1 in
+    let same = g .kept .1 .1 .1 .1 .1 .1 in
     let on = feed-on _ _ piece (l .i) n _ (l .inv .0) (s .scan .ensures .1) (g .ensures .0) e in (
       omega (arith, e, place-most (l .i + n) (length piece)),
       same .0 ∙ l .inv .1,
@@ -131,6 +135,7 @@ feed-spec =
     (tie.spec
     Inv-loop
     μ-loop
+    classes-requires
     loop-holds
     sub-scan
     part-scan-start

@@ -6,6 +6,13 @@ use borrow.Author.Needs.{needs}
 use Rattle.text_stream.proofs.feed_part.Statement.{statement}
 use Rattle.text_stream.proofs.feed_part.Tie as tie
 
+-- the places that the answers look back to: the entry, and where it was asked whether the line stands whole
+abbrev entry : tie.After-stands-whole → tie.Start
+entry c = c .before .before .before .before .before .before .before .before
+
+abbrev whole-asked : tie.After-next-line → tie.After-stands-whole
+whole-asked c = c .before .before .before .before .before .before
+
 stands-whole-requires : tie.Need-stands-whole-requires
 stands-whole-requires c κs = search needs
 
@@ -25,10 +32,10 @@ next-line-requires : tie.Need-next-line-requires
 next-line-requires c κs = search needs
 
 returns-2 : tie.Need-returns-2
-returns-2 c = search part-late
+returns-2 c = search (part-late, entry (whole-asked (c .before .before)) .pre)
 
 slice-aggregate-line-of : tie.Need-slice-aggregate-line-of
-slice-aggregate-line-of c = simp length-take (omega (arith))
+slice-aggregate-line-of c = simp length-take (omega (arith, entry (whole-asked (c .before .before .before)) .pre .1 .1 .0))
 
 line-of-requires : tie.Need-line-of-requires
 line-of-requires c κs = search needs
@@ -36,8 +43,8 @@ line-of-requires c κs = search needs
 end-line-requires : tie.Need-end-line-requires
 end-line-requires c κs =
     let tested = c .before .before .before .before .before .before .before .before .before in
-    let start = tested .before .before .before .before .before .before .before .before .before .before .before .before .before .before .before .before in
-    (start .pre .0, tested .if2 .left)
+    let start = entry (whole-asked (tested .before .before)) in
+    (start .pre .0, (tested .if2 .left, start .pre .1 .1 .1))
 
 same-length : tie.Need-same-length
 same-length c = search needs
@@ -58,10 +65,10 @@ returns-3 c =
     let moved = lined .before .before .before .before .before .before in
     let past = moved .before in
     let asked = past .before .before .before in
-    let whole = asked .before .before in
-    let start = whole .before .before .before .before .before .before .before .before in (
+    let whole = whole-asked moved in
+    let start = entry whole in (
       part-ended _ _ _ _ (start .pre .1 .0) _ (whole .stands-whole .ensures) _ (asked .to-hold .ensures) _ _ (past .before .hold .ensures) _ _ _ _ _ _
-          (start .pre .1 .1) (past .if1 .left) (moved .next-line .ensures) (lined .line-of .ensures) (ended .end-line .ensures .0),
+          (start .pre .1 .1 .0) (past .if1 .left) (moved .next-line .ensures) (lined .line-of .ensures) (ended .end-line .ensures .0),
       ended .end-line .ensures .1,
     )
 
