@@ -58,17 +58,35 @@ clear-at [] i h k = absurd (omega arith)
 clear-at (b ∷ bs) zero h k = clear-rest b bs h .0
 clear-at (b ∷ bs) (suc i) h k = clear-at bs i (clear-rest b bs h .1) (omega arith)
 
--- a line that is too long is held as far as it will be
-module _ (pos : Position) (line : List ℕ) (c : Control) (s : Sheets) (full : 526 ≤ pos .at) where
-  step-full : (b : ℕ) → eqb b 10 ≡ false → stepByte (holding pos line c s) b ≡ holding pos line c s
-  unfolding stepByte
-  step-full b e = rw (newline-is b ∙ e, le-ltb (pos .at) 526 full)
+pub clear-take : (l : List ℕ) (n : ℕ) → before 10 l ≡ length l → before 10 (take n l) ≡ length (take n l)
+clear-take l zero h = refl
+clear-take [] (suc n) h = refl
+clear-take (b ∷ bs) (suc n) h = let k = clear-rest b bs h in rw (k .0) (ap suc (clear-take bs n (k .1)))
 
-  pub feed-full : (l : List ℕ) (i : ℕ) → before 10 l ≡ length l → feedAll (holding pos line c s) (drop i l) ≡ holding pos line c s
-  feed-full [] i h = feed-end (holding pos line c s) [] i (omega arith)
-  feed-full (b ∷ bs) zero h =
-      ap (λ (x : Stream). feedAll x bs) (step-full b (clear-rest b bs h .0)) ∙ feed-full bs 0 (clear-rest b bs h .1)
-  feed-full (b ∷ bs) (suc i) h = feed-full bs i (clear-rest b bs h .1)
+-- a line that is too long is held as far as it will be
+module _ (s : Stream) where
+  step-full : (b : ℕ) → 526 ≤ s .pos .at → eqb b 10 ≡ false → stepByte s b ≡ s
+  unfolding stepByte
+  step-full b h e = rw (newline-is b ∙ e, le-ltb (s .pos .at) 526 h)
+
+  feed-full : (l : List ℕ) → 526 ≤ s .pos .at → before 10 l ≡ length l → feedAll s l ≡ s
+  feed-full [] h k = refl
+  feed-full (b ∷ bs) h k =
+      let c = clear-rest b bs k in
+      ap (λ (x : Stream). feedAll x bs) (step-full b h (c .0)) ∙ feed-full bs h (c .1)
+
+  step-at : (b n : ℕ) → eqb b 10 ≡ false → 526 ≤ s .pos .at + suc n → 526 ≤ stepByte s b .pos .at + n
+  unfolding stepByte
+  step-at b n e h = rw (newline-is b ∙ e) (go (ltb (s .pos .at) 526) refl) where
+    go : (x : Bool) → ltb (s .pos .at) 526 ≡ x → 526 ≤ pick x (s .pos .at + 1) (s .pos .at) + n
+    go true x = omega arith
+    go false x = let k = ltb-false (s .pos .at) 526 x in omega arith
+
+-- as many bytes as fill the line do what all of them do
+pub feed-most : (s : Stream) (l : List ℕ) (n : ℕ) → before 10 l ≡ length l → 526 ≤ s .pos .at + n → feedAll s (take n l) ≡ feedAll s l
+feed-most s l zero k h = sym (feed-full s l (omega arith) k)
+feed-most s [] (suc n) k h = refl
+feed-most s (b ∷ bs) (suc n) k h = let c = clear-rest b bs k in feed-most (stepByte s b) bs n (c .1) (step-at s b n (c .0) h)
 
 pub hold-more : (pos : Position) (line l : List ℕ) (i : ℕ) {next : Position} {line′ : List ℕ} (c : Control) (s : Sheets)
     → before 10 l ≡ length l → i < length l → length line ≡ 526

@@ -21,8 +21,8 @@ pub struct Progress {
     pub core: Core,
 }
 
-// Holds the bytes of an unfinished line, as many as tell that it is too long. No byte behind those is asked.
-fn hold(start: Position, l: &[u8], line: &mut [u8]) -> Position
+// Holds the bytes of an unfinished line.
+fn hold_bytes(start: Position, l: &[u8], line: &mut [u8]) -> Position
     requires { ⌜ before 10 (now l) ≡ length (now l) ⌝ }
     requires { ⌜ length (now line) ≡ 526 ⌝ }
     ensures { λ r. ⌜ ((c : Control) (s : Sheets) → holding r (now (line .exit)) c s
@@ -31,15 +31,28 @@ fn hold(start: Position, l: &[u8], line: &mut [u8]) -> Position
     let mut pos = start;
     let mut i = 0;
     while i < l.len() {
-        if pos.at >= 526 {
-            return pos;
-        }
         let b = l[i];
         buffers::put_byte(line, pos.at, b);
         pos = text_position::advanced_by(pos.line, pos.at, b);
         i += 1;
     }
     pos
+}
+
+// The same of as many bytes as tell that the line is too long: no byte behind those is asked.
+fn hold(start: Position, l: &[u8], line: &mut [u8]) -> Position
+    requires { ⌜ before 10 (now l) ≡ length (now l) ⌝ }
+    requires { ⌜ length (now line) ≡ 526 ⌝ }
+    ensures { λ r. ⌜ ((c : Control) (s : Sheets) → holding r (now (line .exit)) c s
+        ≡ feedAll (holding start (now (line .entry)) c s) (now (l .entry))) ⌝ }
+{
+    if l.len() == 0 {
+        return start;
+    }
+    if l.len() > 526 {
+        return hold_bytes(start, &l[..526], line);
+    }
+    hold_bytes(start, l, line)
 }
 
 // Whether a line whose newline is at place n of a piece stands whole in it, `at` bytes having come before.

@@ -1,84 +1,52 @@
--- The bytes of an unfinished line: those from i on are held as all of them are.
-use Prim.Native.Nat.{_≤_, _-_}
-use mathlib.Core.Path.{_≡_, refl, sym, _∙_}
+-- The bytes of an unfinished line, and of one that is too long as many as fill it: those do what all of them do.
+use mathlib.Core.Path.{sym, _∙_}
 use native.Mathlib.Omega.{arith}
-use lib.ListN.{length, drop}
-use Rattle.text_lines.specs.Lines.{Control}
-use Rattle.text_lines.specs.View.{Sheets}
-use Rattle.text_stream.specs.Stream.{holding, feedAll}
-use Rattle.text_stream.proofs.Bytes.{feed-end, hold-more, feed-full}
+use lib.ListN.{length-take}
+use Rattle.text_stream.specs.Stream.{holding}
+use Rattle.text_stream.proofs.Bytes.{feed-end, clear-take, feed-most}
+use borrow.Author.Needs.{needs}
 use Rattle.text_stream.proofs.hold.Statement.{statement}
 use Rattle.text_stream.proofs.hold.Tie as tie
 
-abbrev Inv-loop : tie.InvT-loop
-Inv-loop l line₀ pos₀ i₀ line pos i =
-    (i ≤ length l)
-    × (length line ≡ length line₀)
-    × ((c : Control) (s : Sheets) → feedAll (holding pos line c s) (drop i l) ≡ feedAll (holding pos₀ line₀ c s) l)
-
-abbrev μ-loop : tie.MeasureT-loop
-μ-loop l line₀ pos₀ i₀ line pos i = length l - i
-
-loop-holds : tie.Need-loop-holds Inv-loop μ-loop
-loop-holds c = (omega arith, refl, λ c s. refl)
-
-same-length : tie.Need-same-length Inv-loop μ-loop
-same-length c = omega arith
-
-returns : tie.Need-returns Inv-loop μ-loop
+returns : tie.Need-returns
 returns c =
-    let at = c .before .before .before in
-    let start = at .before .before .before in
-    λ k s. sym (feed-full (at .loop .pos) (at .loop .line) k s (c .if1 .taken) (start .args .l .now) (at .loop .i) (start .pre .0)) ∙ at .loop .inv .2 k s
+    let a = c .before .before .before .args in
+    λ k s. sym (feed-end (holding (a .start) (a .line .now) k s) (a .l .now) 0 (omega arith))
 
-shared-slice-read-b : tie.Need-shared-slice-read-b Inv-loop μ-loop
-shared-slice-read-b c = omega arith
+slice-aggregate-hold-bytes : tie.Need-slice-aggregate-hold-bytes
+slice-aggregate-hold-bytes c = simp length-take (omega arith)
 
-put-byte-requires : tie.Need-put-byte-requires Inv-loop μ-loop
-put-byte-requires c κs = tt
+hold-bytes-requires : tie.Need-hold-bytes-requires
+hold-bytes-requires c κs = (search clear-take, search needs)
 
-advanced-by-requires : tie.Need-advanced-by-requires Inv-loop μ-loop
-advanced-by-requires c κs = tt
+same-length : tie.Need-same-length
+same-length c = search needs
 
-add-i : tie.Need-add-i Inv-loop μ-loop
-add-i c = omega arith
-
-loop-less : tie.Need-loop-less Inv-loop μ-loop
-loop-less c = omega arith
-
-loop-again : tie.Need-loop-again Inv-loop μ-loop
-loop-again c =
-    let put = c .before .before .before in
-    let at = put .before .before .before .before .before .before in
-    let start = at .before .before .before in (
-      omega arith,
-      omega arith,
-      λ k s. hold-more (at .loop .pos) (at .loop .line) (start .args .l .now) (at .loop .i) k s (start .pre .0) (omega arith) (omega arith)
-          (put .put-byte .ensures) (c .advanced-by .ensures) ∙ at .loop .inv .2 k s,
-    )
-
-same-length-2 : tie.Need-same-length-2 Inv-loop μ-loop
-same-length-2 c = omega arith
-
-returns-2 : tie.Need-returns-2 Inv-loop μ-loop
+returns-2 : tie.Need-returns-2
 returns-2 c =
-    let at = c .before .loop in
-    λ k s. sym (feed-end (holding (at .pos) (at .line) k s) (c .before .before .before .before .args .l .now) (at .i) (omega arith)) ∙ at .inv .2 k s
+    let held = c .before .before in
+    let start = held .before .before .before .before .before .before .before in
+    let a = start .args in
+    λ k s. held .hold-bytes .ensures k s ∙ feed-most (holding (a .start) (a .line .now) k s) (a .l .now) 526 (start .pre .0) (omega arith)
+
+hold-bytes-requires-2 : tie.Need-hold-bytes-requires-2
+hold-bytes-requires-2 c κs = search needs
+
+same-length-2 : tie.Need-same-length-2
+same-length-2 c = search needs
+
+returns-3 : tie.Need-returns-3
+returns-3 c = search needs
 
 pub hold-spec : {M : Type 1} → statement M
 hold-spec =
     tie.close
     (tie.spec
-    Inv-loop
-    μ-loop
-    loop-holds
-    same-length
     returns
-    shared-slice-read-b
-    put-byte-requires
-    advanced-by-requires
-    add-i
-    loop-less
-    loop-again
+    slice-aggregate-hold-bytes
+    hold-bytes-requires
+    same-length
+    returns-2
+    hold-bytes-requires-2
     same-length-2
-    returns-2)
+    returns-3)
