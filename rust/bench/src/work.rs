@@ -782,3 +782,8 @@ pub fn one_tag_long() -> (String, Vec<u8>) {
 pub fn newlines() -> (String, Vec<u8>) {
     ("100,000 newlines".into(), vec![b'\n'; 100_000])
 }
+
+/// One line that is too long, with no newline behind it.
+pub fn one_line() -> (String, Vec<u8>) {
+    ("a line of 100,000 bytes".into(), vec![b'a'; 100_000])
+}
