@@ -99,7 +99,7 @@ fn name_rest(classes: &Classes, line: &[u8], from: usize) -> usize
     i
 }
 
-// The end of the bytes of names that stand from `from` on: four bytes at a time, then one.
+// The end of the bytes of names that stand from `from` on: four bytes at a time, as far as there are four, then one.
 fn name_end(classes: &Classes, line: &[u8], from: usize) -> usize
     requires { ⌜ now classes ≡ classTable ⌝ }
     requires { ⌜ from ≤ length (now line) ⌝ }
