@@ -94,7 +94,7 @@ module _ (k : Kind) where
 module _ (ts : List ℕ) where
   by-blame : (k : Kind) (s : State) (x : Step) → StepBlame k (stepBy ts k s x)
   unfolding stepBy Steps.decide Steps.decideRefusal Steps.inferenceRefusal Steps.deduce Steps.deduceRefusal Steps.contradictionRefusal Steps.clash Steps.clashRefusal Steps.fail Steps.failRefusal Steps.resolve Steps.resolveRefusal Steps.clear Steps.clearRefusal Steps.jump Steps.jumpRefusal Steps.flip Steps.flipRefusal Steps.learn Steps.learnRefusal
-  by-blame Decide s x = answered Decide _ _ (ask Decide _ 22 tt (ask Decide _ 14 tt (no-trouble Decide))) tt
+  by-blame Decide s x = answered Decide _ _ (ask Decide _ 22 tt (ask Decide _ 14 tt (ask Decide _ 27 tt (no-trouble Decide)))) tt
   by-blame Deduce s x =
       answered Deduce _ _
       (ask Deduce _ 22 tt (ask Deduce _ 12 tt (ask Deduce _ 13 tt (ask Deduce _ 14 tt (ask Deduce _ 15 tt (no-trouble Deduce)))))) tt

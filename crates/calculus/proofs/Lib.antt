@@ -9,6 +9,7 @@ pub mod WellSorted
 pub mod Rows
 pub mod WellFormed
 pub mod Clauses
+pub mod Acceptable
 pub mod Deep
 pub mod Truths
 pub mod Running

@@ -16,7 +16,7 @@ use Rattle.calculus.specs.Run.{callRefusal, ending, outcome}
 
 -- the numbers of a step's own tests, in their order
 abbrev pub ownNumbers : Kind → List ℕ
-ownNumbers Decide = 22 ∷ 14 ∷ []
+ownNumbers Decide = 22 ∷ 14 ∷ 27 ∷ []
 ownNumbers Deduce = 22 ∷ 12 ∷ 13 ∷ 14 ∷ 15 ∷ []
 ownNumbers Clash = 22 ∷ 12 ∷ 13 ∷ 16 ∷ 26 ∷ []
 ownNumbers Resolve = 17 ∷ 18 ∷ 19 ∷ []

@@ -1,6 +1,6 @@
--- The nine steps: the numbers 9 to 23, 25 and 26 in their order, and what an allowed step makes of trail and conflict.
+-- The nine steps: the numbers 9 to 23 and 25 to 27 in their order, and what an allowed step makes of trail and conflict.
 -- Beside each step stands the name of its transition: learn's is from figure 1 of the journal article, the others' from figure 3 of the CADE 2017 paper.
-use mathlib.Core.Bool.{Bool, true, false, not, _&&_, cond}
+use mathlib.Core.Bool.{Bool, true, false, not, _&&_, _||_, cond}
 use mathlib.Core.List.{List, [], _∷_}
 use Prim.Native.Nat.{ℕ, zero, suc, _+_, _-_, _*_}
 use lib.ListN.{getD}
@@ -8,13 +8,13 @@ use lib.Dec.{eqb, leb, ltb}
 use Rattle.calculus.specs.declared.Step.{Step}
 use Rattle.calculus.specs.declared.Kind.{Kind}
 use Rattle.calculus.specs.declared.Kind.the-variants.{Decide, Deduce, Clash, Resolve, Clear, Jump, Flip, Fail, Learn, Unlisted}
-use Rattle.calculus.specs.Lists.{all, has, opposite}
+use Rattle.calculus.specs.Lists.{all, has, num, opposite}
 use Rattle.calculus.specs.Numbers.{unless}
 use Rattle.calculus.specs.Sheets.{blank, termRows}
-use Rattle.calculus.specs.Terms.{prop, filled, leftFilled}
-use Rattle.calculus.specs.Trail.{Set, Trail, empty, remove, without, union, intersection, on, valueAt, levelAt, decidedAt, whyAt, assigned, premisesAt, holds, firstOrder, levelOf, keptTo, decision, justified}
+use Rattle.calculus.specs.Terms.{arg, prop, filled, leftFilled, eqHead}
+use Rattle.calculus.specs.Trail.{Set, Entry, Trail, empty, everything, remove, without, union, intersection, on, valueAt, levelAt, decidedAt, whyAt, assigned, premisesAt, holds, firstOrder, levelOf, keptTo, decision, justified}
 use Rattle.calculus.specs.Inputs.{valueSuits}
-use Rattle.calculus.specs.Rules.{fits, ruleOf, ruleListed}
+use Rattle.calculus.specs.Rules.{isHead, fits, ruleOf, ruleListed}
 use Rattle.calculus.specs.Clauses.{different, isClause, clauseValue, clausal}
 
 -- ---- states and answers
@@ -171,11 +171,27 @@ module _ (ts : List ℕ) where
 
   -- ---- steps of the search
 
+  -- an entry t = u or u = t, where u has a value, t itself included, whose value is not what same or differ would give it
+  abbrev pub opposes : Trail → ℕ → Entry → Bool
+  opposes tr t e =
+      let a = arg ts (e .term) 0 in
+      let b = arg ts (e .term) 1 in
+      isHead ts (e .term) eqHead
+      && ((eqb a t || eqb b t)
+      && (on tr a && (on tr b && not (eqb (e .value) (num (eqb (valueAt tr a) (valueAt tr b)))))))
+
+  -- t with the value v is acceptable (Definition 3 of the CADE 2017 paper): t is a prop, or the trail with the decision added has no such entry
+  unfoldable pub acceptable : Trail → ℕ → ℕ → Bool
+  acceptable tr t v =
+      let added = decision tr t v ∷ tr in
+      prop ts t || not (holds added everything (opposes added t))
+
   -- decide (Decide): the term with its value as a decision
   unfoldable pub decideRefusal : Trail → ℕ → ℕ → ℕ
   decideRefusal tr t v =
       unless (valueSuits ts t v) 22 (
-      unless (not (on tr t)) 14 0)
+      unless (not (on tr t)) 14 (
+      unless (acceptable tr t v) 27 0))
 
   unfoldable pub decide : Trail → ℕ → ℕ → Answer
   decide tr t v = answer (decideRefusal tr t v) (allowed (searching (decision tr t v ∷ tr)))
