@@ -1,7 +1,7 @@
 //! The trail, the conflict and the steps.
 
 use crate::place::{FIRST_PREMISE, TERM};
-use crate::problem::{self, BadRow, Terms, AND, NOT, OR, PROP};
+use crate::problem::{self, BadRow, Terms, AND, EQ, NOT, OR, PROP};
 use crate::rules::{Premises, View, RULES};
 use crate::set::Set;
 use crate::{
@@ -259,8 +259,39 @@ impl State {
         if self.is_assigned(row) {
             return Err(14);
         }
+        if !self.is_acceptable(row, value) {
+            return Err(27);
+        }
         self.open(row, value);
         Ok(())
+    }
+
+    /// Whether a decision is acceptable: the term is a prop, or no entry of the trail
+    /// opposes its value.
+    fn is_acceptable(&self, row: u8, value: u16) -> bool {
+        let entries = &self.order[..self.len];
+        self.sort(row) == PROP || !entries.iter().any(|&at| self.opposes(at, row, value))
+    }
+
+    /// Whether an entry equates the term with one that has a value, or with itself,
+    /// and has not the value that same or differ would give it.
+    #[inline]
+    fn opposes(&self, at: u8, row: u8, value: u16) -> bool {
+        let entry = self.view().term(at);
+        if entry.head != EQ {
+            return false;
+        }
+        let [left, right, ..] = entry.args;
+        if left != row && right != row {
+            return false;
+        }
+        let other = if left == row { right } else { left };
+        let others = if other == row {
+            value
+        } else {
+            self.entry(other).value
+        };
+        others != BLANK && (self.entry(at).value == 1) != (others == value)
     }
 
     /// What deduce, clash and fail share: the numbers 11, 22, 12 and 13.
