@@ -163,6 +163,10 @@ jumped tr s l m = backjumped tr s l (opposite (valueAt tr l)) m
 abbrev pub flipped : Trail → ℕ → ℕ → Trail
 flipped tr l m = decision (keptTo m tr) l (opposite (valueAt tr l)) ∷ keptTo m tr
 
+-- a and b have values, but v is not what same or differ would give a = b: 1 where the values are equal, else 0
+abbrev pub misfits : Trail → ℕ → ℕ → ℕ → Bool
+misfits tr a b v = on tr a && (on tr b && not (eqb v (num (eqb (valueAt tr a) (valueAt tr b)))))
+
 module _ (ts : List ℕ) where
   -- ---- number 11: the term and the premises are rows
 
@@ -176,9 +180,7 @@ module _ (ts : List ℕ) where
   opposes tr t e =
       let a = arg ts (e .term) 0 in
       let b = arg ts (e .term) 1 in
-      isHead ts (e .term) eqHead
-      && ((eqb a t || eqb b t)
-      && (on tr a && (on tr b && not (eqb (e .value) (num (eqb (valueAt tr a) (valueAt tr b)))))))
+      isHead ts (e .term) eqHead && ((eqb a t || eqb b t) && misfits tr a b (e .value))
 
   -- t with the value v is acceptable (Definition 3 of the CADE 2017 paper): t is a prop, or the trail with the decision added has no such entry
   unfoldable pub acceptable : Trail → ℕ → ℕ → Bool

@@ -16,6 +16,9 @@ use Rattle.calculus.specs.Terms.{termsRefusal}
 use Rattle.calculus.specs.Trail.{trailNumbersOf}
 use Rattle.calculus.specs.Steps.{trailOf}
 use Rattle.calculus.specs.Run.{Ending, run, turnedAway, outcomeOf, written}
+use Rattle.calculus.proofs.Facts.{orElse-ok}
+use Rattle.calculus.proofs.WellSorted.{well-sorted}
+use Rattle.calculus.proofs.Rows.{prop-equations}
 use Rattle.term_sheet.specs.Found.{mostNumbers}
 use Rattle.inputs.specs.Loaded.{Loaded}
 use Rattle.sheets.proofs.Laws.{passed-zero}
@@ -73,13 +76,15 @@ module _ (sorts terms inputs steps work trail : List ℕ) where
 
   -- ---- the run
 
-  pub log-fits : (w n : ℕ) (ws : List ℕ) {l : Check} → lengthRefusal the-call ≡ 0 → n ≡ termRows terms → Loaded w n terms inputs ws l → l ≡ Passed
+  pub log-fits : (w n : ℕ) (ws : List ℕ) {s l : Check} → lengthRefusal the-call ≡ 0 → SheetsSaid s → s ≡ Passed
+      → n ≡ termRows terms → Loaded w n terms inputs ws l → l ≡ Passed
       → Standing w n terms ws begun × (stepRows steps ≤ 65535) × (n ≤ 65535) × (4 * n ≤ length trail)
   unfolding Loaded
-  log-fits w n ws z e k q =
+  log-fits w n ws z s p e k q =
       let f = fitting z in
+      let sorted = well-sorted sorts terms (orElse-ok _ _ (passed-zero _ (sym s ∙ p)) .1) in
       let l = subst (Loaded w n terms inputs ws) q k in (
-        input-standing w n terms inputs ws e (l .0) (l .1),
+        input-standing w n terms inputs ws e (prop-equations sorted) (l .0) (l .1),
         omega (arith, f .steps-low),
         omega (arith, f .terms-low),
         omega (arith, f .trail-room),

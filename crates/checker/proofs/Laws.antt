@@ -26,7 +26,7 @@ use Rattle.calculus.proofs.Trails.{room}
 use Rattle.trail.proofs.Laws.{trail-length}
 use Rattle.moves.specs.Post.{Stands}
 use Rattle.state.specs.declared.Status.{Status}
-use Rattle.state.specs.States.{stateIn, Standing}
+use Rattle.state.specs.States.{stateIn, PropEquations, Standing}
 use Rattle.state.proofs.States.{in-search, trail-there, trail-well-formed}
 use Rattle.run.specs.declared.Ended.{Ended}
 use Rattle.run.specs.Ends.{Ends}
@@ -121,10 +121,11 @@ ran-trail x s z e =
 
 -- ---- where the run starts
 
-pub input-standing : (w n : ℕ) (ts is ws : List ℕ) → n ≡ termRows ts → inputsRefusal ts is ≡ 0 → Stands w n ws (inputRows is) 0 (inputTrail is (inputRows is))
+pub input-standing : (w n : ℕ) (ts is ws : List ℕ) → n ≡ termRows ts → PropEquations ts → inputsRefusal ts is ≡ 0
+    → Stands w n ws (inputRows is) 0 (inputTrail is (inputRows is))
     → Standing w n ts ws (record { count = inputRows is; top = record { 0 = 0 }; conflict = false })
 unfolding WellFormedState inputsRefusal
-input-standing w n ts is ws e z s =
+input-standing w n ts is ws e h z s =
     let r : WellFormed (termRows ts) (inputTrail is (inputRows is)) =
     input-well-formed ts is (inputRows is) (λ k l. first-ok (inputRows is) (inputRefusal ts is) k z l) in
     record {
@@ -132,6 +133,7 @@ input-standing w n ts is ws e z s =
       wellFormed =
           subst (WellFormedState n) (sym (in-search w n ws (record { count = inputRows is; top = record { 0 = 0 }; conflict = false }) refl))
           (subst (WellFormed n) (sym (s .trail)) (subst (λ m. WellFormed m (inputTrail is (inputRows is))) (sym e) r));
+      equations = h;
     }
 
 -- the input's trail in the words is the state that the definition starts in

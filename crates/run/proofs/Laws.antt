@@ -76,7 +76,12 @@ module _ (w n : ℕ) (ts log : List ℕ) (e : Ending) where
           let after = step-well-formed ts before (stateIn w n vs next) (stepAt log k) good (the-step (a .0)) in
           record {
             same = sym (run-allowed ts log before k (stepRows log) (stateIn w n vs next) h (the-step (a .0))) ∙ r .same;
-            standing = record { held = a .1; wellFormed = subst (λ m. WellFormedState m (stateIn w n vs next)) (sym n-is) after };
+            standing =
+                record {
+                  held = a .1;
+                  wellFormed = subst (λ m. WellFormedState m (stateIn w n vs next)) (sym n-is) after;
+                  equations = r .standing .equations;
+                };
           }
 
       -- the words are as they were

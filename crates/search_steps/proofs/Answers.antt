@@ -34,6 +34,7 @@ use Rattle.state.proofs.Tests.{told-yes}
 use Rattle.rule_claims.specs.declared.Claim.{Claim}
 use Rattle.places.specs.Tested.{Tested}
 use Rattle.premises.specs.Columns.{Premised, Claims}
+use Rattle.acceptance.specs.Added.{Decidable}
 use Rattle.search_steps.specs.Searches.{Searching, Inferring, Inferred, Inference, Refuses}
 use Rattle.search_steps.proofs.Laws.{rows-on}
 use Rattle.search_steps.proofs.Tests.{deduce-first, contradiction-first, clash-first, fail-first}
@@ -108,6 +109,12 @@ module _ (w n : ℕ) (ts ws : List ℕ) (st : Status) where
       let c = trail-length w n ws (st .count) in
       let b = room-more n t here (d .distinct) (d .below) (g .row) h in
       omega (arith, g .standing .held .top, d .wide, d .narrow)
+
+  -- what the test of a decision asks
+  pub decidable : {t : ℕ} → Searching w n ts ws st t → Decidable w n ts ws (st .count) t
+  decidable g =
+      let s = g .standing in
+      record { laid = s .held .laid; rows = s .held .rows; equations = s .equations; row = g .row }
 
   module _ (t v : ℕ) {c : ℕ} (c-is : c ≡ decideRefusal ts here t v) where
     pub decide-refused : (c ≡ 0 → ⊥) → Answers w n ts ws ws nowhere (calculus.decide ts here t v) (Refused (unplaced c))

@@ -16,7 +16,7 @@ use Rattle.calculus.specs.Terms.{prop}
 use Rattle.calculus.specs.Trail.{Trail, on, assigned, premisesAt, levelOf}
 use Rattle.calculus.specs.Inputs.{valueSuits}
 use Rattle.calculus.specs.Rules.{fits, fitOf, ruleOf}
-use Rattle.calculus.specs.Steps.{premises, clashSet, atBase, decideRefusal, inferenceRefusal, deduceRefusal, contradictionRefusal, clashRefusal, failRefusal}
+use Rattle.calculus.specs.Steps.{premises, clashSet, atBase, acceptable, decideRefusal, inferenceRefusal, deduceRefusal, contradictionRefusal, clashRefusal, failRefusal}
 use Rattle.calculus.specs.Place.{absentPlace, unfitPlace, placeOf}
 use Rattle.rule_claims.specs.declared.Claim.{Claim}
 use Rattle.rule_claims.specs.Claims.{premisesOf}
@@ -39,9 +39,14 @@ module _ (ts : List ℕ) (tr : Trail) (t v : ℕ) where
       unfolding decideRefusal
       decide-14 h = past _ _ (told-yes a-is a-in) (stops _ _ (ap not (told b-is h)))
 
-      pub decide-0 : b ≡ false → 0 ≡ decideRefusal ts tr t v
-      unfolding decideRefusal
-      decide-0 h = past _ _ (told-yes a-is a-in) (past _ _ (ap not (told b-is h)) refl)
+      module _ (b-in : b ≡ false) {d : Bool} (d-is : d ≡ acceptable ts tr t v) where
+        pub decide-27 : not d ≡ true → 27 ≡ decideRefusal ts tr t v
+        unfolding decideRefusal
+        decide-27 h = past _ _ (told-yes a-is a-in) (past _ _ (ap not (told b-is b-in)) (stops _ _ (told-not d-is h)))
+
+        pub decide-0 : not d ≡ false → 0 ≡ decideRefusal ts tr t v
+        unfolding decideRefusal
+        decide-0 h = past _ _ (told-yes a-is a-in) (past _ _ (ap not (told b-is b-in)) (past _ _ (told-yes d-is h) refl))
 
 -- ---- numbers and places
 

@@ -11,6 +11,7 @@ ghost use Rattle.trail.specs.Words.{trailIn, Laid};
 ghost use Rattle.calculus.specs.Place.{placeOf};
 ghost use Rattle.state.specs.States.{nowhere, Answers};
 ghost use Rattle.premises.specs.Columns.{Premised};
+ghost use Rattle.acceptance.specs.Added.{Decidable};
 ghost use Rattle.search_steps.specs.Searches.{Searching, Inferring, Inferred, Inference, Passed, Refuses};
 use calculus::Fit;
 use calculus::Kind;
@@ -44,7 +45,7 @@ fn clash_level(work: &[u64], w: usize, n: usize, count: usize, x: Step) -> Level
 
 // ---- the numbers
 
-// Numbers 22 and 14.
+// Numbers 22, 14 and 27.
 fn decide_refusal(
     terms: &[u16],
     work: &[u64],
@@ -54,7 +55,7 @@ fn decide_refusal(
     t: Row,
     v: u16,
 ) -> u16
-    requires { ⌜ Laid w n (now work) count × (t .0 < termRows (now terms)) ⌝ }
+    requires { ⌜ Decidable w n (now terms) (now work) count (t .0) ⌝ }
     ensures { λ r. ⌜ r ≡ decideRefusal (now (terms .entry)) (trailIn w n (now (work .entry)) count) (t .0) v ⌝ }
 {
     if !value_suits(terms, t, v) {
@@ -62,6 +63,9 @@ fn decide_refusal(
     }
     if state::stands(work, w, n, count, t) {
         return 14;
+    }
+    if !acceptance::acceptable(terms, work, w, n, count, t, v) {
+        return 27;
     }
     0
 }

@@ -2,10 +2,13 @@
 use mathlib.Core.Path.{_≡_}
 use mathlib.Core.Bool.{cond}
 use mathlib.Core.List.{List}
-use Prim.Native.Nat.{ℕ}
+use Prim.Native.Nat.{ℕ, _<_}
+use lib.Dec.{T}
 use Rattle.calculus.specs.declared.Refusal.{Refusal}
 use Rattle.calculus.specs.Sheets.{termRows}
+use Rattle.calculus.specs.Terms.{prop, eqHead}
 use Rattle.calculus.specs.Trail.{topLevel}
+use Rattle.calculus.specs.Rules.{isHead}
 use Rattle.calculus.specs.Steps as calculus
 use Rattle.calculus.specs.WellFormed.{WellFormedState}
 use Rattle.bitset.specs.Windows.{setAt}
@@ -28,10 +31,15 @@ pub record Held (w n : ℕ) (ts ws : List ℕ) (st : Status) : Type 0 where
   pub laid : Laid w n ws (st .count)
   pub top : st .top .0 ≡ topLevel (trailIn w n ws (st .count))
 
--- and the state is one that steps can reach
+-- every equation of the sheet is of sort prop, as number 4 asks
+abbrev pub PropEquations : List ℕ → Type 0
+PropEquations ts = (t : ℕ) → t < termRows ts → T (isHead ts t eqHead) → T (prop ts t)
+
+-- and the state is one that steps can reach, over a sheet whose equations are props
 pub record Standing (w n : ℕ) (ts ws : List ℕ) (st : Status) : Type 0 where
   pub held : Held w n ts ws st
   pub wellFormed : WellFormedState n (stateIn w n ws st)
+  pub equations : PropEquations ts
 
 -- no number has a place
 abbrev pub nowhere : ℕ → ℕ

@@ -41,7 +41,7 @@ run-log-requires : tie.Need-run-log-requires
 run-log-requires c κs =
     let loaded = c .before .before .before .before .before .before in
     let start = loaded .before .before .before .before .before .before .before .before .before .before .before .before in
-    log-fits _ _ _ _ _ _ _ _ _ (start .pre) refl (loaded .load .ensures) (c .before .before .enum-told2 .given .1)
+    log-fits _ _ _ _ _ _ _ _ _ (start .pre) CHECKED refl (loaded .load .ensures) (c .before .before .enum-told2 .given .1)
 
 returns : tie.Need-returns
 returns c = search sheets-away

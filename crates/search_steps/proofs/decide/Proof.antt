@@ -1,11 +1,11 @@
 -- `search_steps::decide` meets its contract.
-use Rattle.search_steps.proofs.Answers.{decide-refused, decide-off, decide-small, decide-done}
+use Rattle.search_steps.proofs.Answers.{decidable, decide-refused, decide-off, decide-small, decide-done}
 use borrow.Author.Needs.{needs}
 use Rattle.search_steps.proofs.decide.Statement.{statement}
 use Rattle.search_steps.proofs.decide.Tie as tie
 
 decide-refusal-requires : tie.Need-decide-refusal-requires
-decide-refusal-requires c κs = search needs
+decide-refusal-requires c κs = search decidable
 
 same-length : tie.Need-same-length
 same-length c = search needs

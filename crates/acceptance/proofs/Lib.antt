@@ -1,0 +1,2 @@
+-- Laws of a decision's test.
+pub mod Laws
