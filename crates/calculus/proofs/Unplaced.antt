@@ -50,7 +50,7 @@ module _ (ts : List ℕ) (tr : Trail) (x : Step) where
   module _ (t : ℕ) where
     pub decide-nowhere : (v : ℕ) → Unplaced (Steps.decide ts tr t v)
     unfolding Steps.decide Steps.decideRefusal
-    decide-nowhere v = answered _ _ (test _ 22 refl (test _ 14 refl last)) tt
+    decide-nowhere v = answered _ _ (test _ 22 refl (test _ 14 refl (test _ 27 refl last))) tt
 
     module _ (E : Set) where
       pub resolve-nowhere : Unplaced (Steps.resolve ts tr E t)
