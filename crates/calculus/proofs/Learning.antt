@@ -183,10 +183,11 @@ of-p v w log result left =
 abbrev of-three : List ℕ → List ℕ → List ℕ → Example
 of-three log result left = example [] (decide both 0 ++ decide q 1 ++ decide r 1 ++ clash eval both 1 (r ∷ q ∷ []) ++ log) result left
 
--- a = b true, by input; a and b have different values
+-- a and b have different values, and then a = b is decided true
 abbrev of-terms : List ℕ → ℕ → Example
 of-terms log n =
-    example (e ∷ 1 ∷ []) (decide a 7 ++ decide b 8 ++ clash differ e 0 (a ∷ b ∷ []) ++ log) (refuses 3 n 3) (entry e 1 0 0 ++ entry a 7 1 1 ++ entry b 8 2 1)
+    example [] (decide a 7 ++ decide b 8 ++ decide e 1 ++ clash differ e 0 (a ∷ b ∷ []) ++ log) (refuses 4 n 3)
+    (entry a 7 1 1 ++ entry b 8 2 1 ++ entry e 1 3 1)
 
 -- the clause t has the value v before the conflict, at level 5 above the others
 abbrev with-clause : ℕ → ℕ → List ℕ → ℕ → Example
@@ -302,5 +303,5 @@ abbrev table : List Example
 table = allowed ++ turned-away
 
 pub learning : map seen table ≡ map expected table
-unfolding Lists.firstWhere Numbers.unless Numbers.orElse Numbers.firstRefusal Sheets.lengthRefusal Sorts.isArray Sorts.isPlain Sorts.sortRefusal Sorts.sortsRefusal Terms.cells Terms.args Terms.arg Terms.earlier Terms.sameUse Terms.firstUse Terms.suits Terms.twins Terms.fresh Terms.termRefusal Terms.termsRefusal Trail.on Trail.entry Trail.holds Trail.levelOf Trail.keptTo Trail.trailNumbersOf Inputs.inputTrail Inputs.inputRefusal Inputs.inputsRefusal Rules.ruleOf Rules.bare Rules.single Rules.double Rules.leading Rules.unitAt Rules.fits Clauses.literal Clauses.paired Steps.answer Steps.premises Steps.kindOf Steps.shaped Steps.ready Steps.known Steps.decideRefusal Steps.decide Steps.inferenceRefusal Steps.deduceRefusal Steps.deduce Steps.contradictionRefusal Steps.clashRefusal Steps.clash Steps.failRefusal Steps.fail Steps.resolveRefusal Steps.resolve Steps.clearRefusal Steps.clear Steps.jumpRefusal Steps.jump Steps.flipRefusal Steps.flip Steps.learnRefusal Steps.learn Steps.rowRefusal Steps.stepBy Steps.step Run.follow Run.run Run.sheetsRefusal Run.callRefusal Run.endingOf Run.ending Run.outcome
+unfolding Lists.firstWhere Numbers.unless Numbers.orElse Numbers.firstRefusal Sheets.lengthRefusal Sorts.isArray Sorts.isPlain Sorts.sortRefusal Sorts.sortsRefusal Terms.cells Terms.args Terms.arg Terms.earlier Terms.sameUse Terms.firstUse Terms.suits Terms.twins Terms.fresh Terms.termRefusal Terms.termsRefusal Trail.on Trail.entry Trail.holds Trail.levelOf Trail.keptTo Trail.trailNumbersOf Inputs.inputTrail Inputs.inputRefusal Inputs.inputsRefusal Rules.ruleOf Rules.bare Rules.single Rules.double Rules.leading Rules.unitAt Rules.fits Clauses.literal Clauses.paired Steps.answer Steps.premises Steps.kindOf Steps.shaped Steps.ready Steps.known Steps.acceptable Steps.decideRefusal Steps.decide Steps.inferenceRefusal Steps.deduceRefusal Steps.deduce Steps.contradictionRefusal Steps.clashRefusal Steps.clash Steps.failRefusal Steps.fail Steps.resolveRefusal Steps.resolve Steps.clearRefusal Steps.clear Steps.jumpRefusal Steps.jump Steps.flipRefusal Steps.flip Steps.learnRefusal Steps.learn Steps.rowRefusal Steps.stepBy Steps.step Run.follow Run.run Run.sheetsRefusal Run.callRefusal Run.endingOf Run.ending Run.outcome
 learning = refl

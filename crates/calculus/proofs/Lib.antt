@@ -18,6 +18,7 @@ pub mod Boards
 pub mod Runs
 pub mod Slips
 pub mod Order
+pub mod Accepting
 pub mod Learning
 pub mod Walking
 pub mod Places

@@ -216,12 +216,16 @@ no-row = 9
 abbrev steps : List ℕ → List ℕ → List ℕ → Case
 steps is log r = sheets plain few is log r
 
--- e true, three decisions, and the conflict e, a, b, whose level is b's
+-- e has the value v, at level 0, since not(e) has the other one there
+abbrev neg-e : ℕ → List ℕ
+neg-e v = deduce neg e v (not-e ∷ [])
+
+-- three decisions, then e true, and the conflict e, a, b, whose level is b's
 abbrev unlike : List ℕ
-unlike = decide a 7 ++ decide b 8 ++ decide c 9 ++ clash differ e 0 (a ∷ b ∷ [])
+unlike = decide a 7 ++ decide b 8 ++ decide c 9 ++ neg-e 1 ++ clash differ e 0 (a ∷ b ∷ [])
 
 abbrev in-conflict : List ℕ → ℕ → Case
-in-conflict log n = steps (e ∷ 1 ∷ []) (unlike ++ log) (refuses 4 n 4)
+in-conflict log n = steps (not-e ∷ 0 ∷ []) (unlike ++ log) (refuses 5 n 5)
 
 abbrev columns : List Case
 columns =
@@ -262,7 +266,7 @@ columns =
     ∷ steps [] (clear a) (away 10)
     ∷ steps [] (jump e) (away 10)
     ∷ steps [] (flip e d) (away 10)
-    ∷ in-conflict (decide not-e 1) 10
+    ∷ in-conflict (decide e-or-d 1) 10
     ∷ in-conflict (deduce neg e 1 (not-e ∷ [])) 10
     ∷ in-conflict (clash neg e 1 (not-e ∷ [])) 10
     ∷ in-conflict (fail neg e 1 (not-e ∷ [])) 10
@@ -279,7 +283,7 @@ columns =
     ∷ in-conflict (flip e no-row) 11
     ∷ []
 
--- ---- decide 22, 14; deduce 22, 12, 13, 14, 15; clash and fail 22, 12, 13, 16, 26
+-- ---- decide 22, 14, 27 (it has a table of its own); deduce 22, 12, 13, 14, 15; clash and fail 22, 12, 13, 16, 26
 
 abbrev equal : List ℕ
 equal = a ∷ 7 ∷ b ∷ 7 ∷ []
@@ -306,6 +310,8 @@ search-steps =
     ∷ steps (e ∷ 1 ∷ []) (decide e 2) (refuses 0 22 1)
     ∷ steps (e ∷ 1 ∷ []) (decide e 0) (refuses 0 14 1)
     ∷ steps (a ∷ 7 ∷ []) (decide a 8) (refuses 0 14 1)
+    ∷ steps (equal ++ (e ∷ 0 ∷ [])) (decide a 7) (refuses 0 14 3)
+    ∷ steps (e ∷ 0 ∷ []) (decided 7 7) (refuses 1 27 2)
     -- deduce
     ∷ steps [] (deduce same a 1 (b ∷ c ∷ [])) (away 22)
     ∷ steps [] (deduce same e 1 (b ∷ c ∷ [])) (away 12)
@@ -326,7 +332,7 @@ search-steps =
     ∷ steps equal clash-e (refuses 0 16 2)
     ∷ steps (equal ++ (e ∷ 1 ∷ [])) clash-e (refuses 0 16 3)
     ∷ steps (equal ++ (e ∷ 0 ∷ [])) clash-e (refuses 0 26 3)
-    ∷ steps (e ∷ 0 ∷ []) (decided 7 7 ++ clash-e) (remains 3 3)
+    ∷ steps (not-e ∷ 1 ∷ []) (decided 7 7 ++ neg-e 0 ++ clash-e) (remains 4 4)
     -- fail; before 26, above level 0
     ∷ steps [] (fail same a 1 (b ∷ c ∷ [])) (away 22)
     ∷ steps [] (fail same e 1 (b ∷ c ∷ [])) (away 12)
@@ -334,9 +340,9 @@ search-steps =
     ∷ steps (e ∷ 0 ∷ []) (decided 7 8 ++ fail-e) (refuses 2 13 3)
     ∷ steps [] (decided 7 7 ++ fail-e) (refuses 2 16 2)
     ∷ steps (e ∷ 1 ∷ []) (decided 7 7 ++ fail-e) (refuses 2 16 3)
-    ∷ steps (e ∷ 0 ∷ []) (decided 7 7 ++ fail-e) (refuses 2 26 3)
+    ∷ steps (not-e ∷ 1 ∷ []) (decided 7 7 ++ neg-e 0 ++ fail-e) (refuses 3 26 4)
     -- one premise above level 0, the opposite alone, and none of them with a decision beside
-    ∷ steps (e ∷ 0 ∷ a ∷ 7 ∷ []) (decide b 7 ++ fail-e) (refuses 1 26 3)
+    ∷ steps (not-e ∷ 1 ∷ a ∷ 7 ∷ []) (decide b 7 ++ neg-e 0 ++ fail-e) (refuses 2 26 4)
     ∷ steps equal (decide e 0 ++ fail-e) (refuses 1 26 3)
     ∷ steps equal (decide e 0 ++ clash-e) (remains 2 3)
     ∷ steps (equal ++ (e ∷ 0 ∷ [])) (decide c 9 ++ clash-e) (refuses 1 26 4)
@@ -392,9 +398,9 @@ conflict-steps =
     ∷ of-e (clear not-e) (refuses 6 20 6)
     ∷ decided-d (clear d) (refuses 5 20 5)
     ∷ in-conflict (clear a) 21
-    ∷ steps (e ∷ 1 ∷ []) (unlike ++ clear b) (remains 5 2)
+    ∷ steps (not-e ∷ 0 ∷ []) (unlike ++ clear b) (remains 6 3)
     -- what is below its level stays, c too
-    ∷ steps (e ∷ 1 ∷ []) (decide a 7 ++ decide c 9 ++ decide b 8 ++ clash differ e 0 (a ∷ b ∷ []) ++ clear b) (remains 5 3)
+    ∷ steps (not-e ∷ 0 ∷ []) (decide a 7 ++ decide c 9 ++ decide b 8 ++ neg-e 1 ++ clash differ e 0 (a ∷ b ∷ []) ++ clear b) (remains 6 4)
     -- jump: c is outside and no prop; a no prop, and not above the rest
     ∷ in-conflict (jump c) 17
     ∷ in-conflict (jump a) 22
@@ -517,7 +523,7 @@ table =
     lengths ++ sort-rows ++ term-rows ++ input-rows ++ columns ++ search-steps ++ conflict-steps ++ units ++ congs
 
 pub ordered : map given table ≡ map asked table
-unfolding Lists.firstWhere Numbers.unless Numbers.orElse Numbers.firstRefusal Sheets.lengthRefusal Sorts.isArray Sorts.isPlain Sorts.sortRefusal Sorts.sortsRefusal Terms.cells Terms.args Terms.arg Terms.earlier Terms.sameUse Terms.firstUse Terms.suits Terms.twins Terms.fresh Terms.termRefusal Terms.termsRefusal Trail.on Trail.entry Trail.holds Trail.levelOf Trail.keptTo Inputs.inputTrail Inputs.inputRefusal Inputs.inputsRefusal Rules.ruleOf Rules.bare Rules.single Rules.double Rules.leading Rules.unitAt Rules.fits Steps.answer Steps.premises Steps.kindOf Steps.shaped Steps.ready Steps.known Steps.decideRefusal Steps.decide Steps.inferenceRefusal Steps.deduceRefusal Steps.deduce Steps.contradictionRefusal Steps.clashRefusal Steps.clash Steps.failRefusal Steps.fail Steps.resolveRefusal Steps.resolve Steps.clearRefusal Steps.clear Steps.jumpRefusal Steps.jump Steps.flipRefusal Steps.flip Steps.rowRefusal Steps.stepBy Steps.step Run.follow Run.run Run.sheetsRefusal Run.callRefusal Run.endingOf Run.ending Run.outcome
+unfolding Lists.firstWhere Numbers.unless Numbers.orElse Numbers.firstRefusal Sheets.lengthRefusal Sorts.isArray Sorts.isPlain Sorts.sortRefusal Sorts.sortsRefusal Terms.cells Terms.args Terms.arg Terms.earlier Terms.sameUse Terms.firstUse Terms.suits Terms.twins Terms.fresh Terms.termRefusal Terms.termsRefusal Trail.on Trail.entry Trail.holds Trail.levelOf Trail.keptTo Inputs.inputTrail Inputs.inputRefusal Inputs.inputsRefusal Rules.ruleOf Rules.bare Rules.single Rules.double Rules.leading Rules.unitAt Rules.fits Steps.answer Steps.premises Steps.kindOf Steps.shaped Steps.ready Steps.known Steps.acceptable Steps.decideRefusal Steps.decide Steps.inferenceRefusal Steps.deduceRefusal Steps.deduce Steps.contradictionRefusal Steps.clashRefusal Steps.clash Steps.failRefusal Steps.fail Steps.resolveRefusal Steps.resolve Steps.clearRefusal Steps.clear Steps.jumpRefusal Steps.jump Steps.flipRefusal Steps.flip Steps.rowRefusal Steps.stepBy Steps.step Run.follow Run.run Run.sheetsRefusal Run.callRefusal Run.endingOf Run.ending Run.outcome
 ordered = refl
 
 -- ---- the ceiling of the step sheet: 65,535 rows pass, and get the number of the sort row; one more is too many

@@ -82,12 +82,13 @@ absent =
 
 abbrev others : List Case
 others =
-    -- no refusal; 9, 10, 22, 14, 16, 26, 17, 20
+    -- no refusal; 9, 10, 22, 14, 27, 16, 26, 17, 20
     searching [] 0 0
     ∷ searching (deduce cong g 2 (no-row ∷ [])) 9 0
     ∷ searching (resolve no-row) 10 0
     ∷ searching (deduce cong a 1 (not-e ∷ [])) 22 0
     ∷ searching (decide e 1) 14 0
+    ∷ searching (decide a 7 ++ decide b 8) 27 0
     ∷ searching (clash cong g 1 (e ∷ [])) 16 0
     ∷ sheets plain terms (e ∷ 1 ∷ g ∷ 0 ∷ []) clash-g (26 ∷ 0 ∷ [])
     ∷ conflicting (resolve a) 17 0
@@ -101,5 +102,5 @@ abbrev table : List Case
 table = strange ++ absent ++ others
 
 pub places : map placed table ≡ map asked table
-unfolding Lists.firstWhere Numbers.unless Numbers.orElse Numbers.firstRefusal Sheets.lengthRefusal Sorts.isArray Sorts.isPlain Sorts.sortRefusal Sorts.sortsRefusal Terms.cells Terms.args Terms.arg Terms.earlier Terms.sameUse Terms.firstUse Terms.suits Terms.twins Terms.fresh Terms.termRefusal Terms.termsRefusal Trail.on Trail.entry Trail.holds Trail.levelOf Trail.keptTo Trail.trailNumbersOf Inputs.inputTrail Inputs.inputRefusal Inputs.inputsRefusal Rules.ruleOf Rules.bare Rules.single Rules.double Rules.leading Rules.unitAt Rules.fits Clauses.literal Clauses.paired Steps.answer Steps.premises Steps.kindOf Steps.shaped Steps.ready Steps.known Steps.decideRefusal Steps.decide Steps.inferenceRefusal Steps.deduceRefusal Steps.deduce Steps.contradictionRefusal Steps.clashRefusal Steps.clash Steps.failRefusal Steps.fail Steps.resolveRefusal Steps.resolve Steps.clearRefusal Steps.clear Steps.jumpRefusal Steps.jump Steps.flipRefusal Steps.flip Steps.learnRefusal Steps.learn Steps.rowRefusal Steps.stepBy Steps.step Place.strangePlace Place.absentPlace Place.placeOf Run.follow Run.run Run.sheetsRefusal Run.callRefusal Run.endingOf Run.ending Run.outcome
+unfolding Lists.firstWhere Numbers.unless Numbers.orElse Numbers.firstRefusal Sheets.lengthRefusal Sorts.isArray Sorts.isPlain Sorts.sortRefusal Sorts.sortsRefusal Terms.cells Terms.args Terms.arg Terms.earlier Terms.sameUse Terms.firstUse Terms.suits Terms.twins Terms.fresh Terms.termRefusal Terms.termsRefusal Trail.on Trail.entry Trail.holds Trail.levelOf Trail.keptTo Trail.trailNumbersOf Inputs.inputTrail Inputs.inputRefusal Inputs.inputsRefusal Rules.ruleOf Rules.bare Rules.single Rules.double Rules.leading Rules.unitAt Rules.fits Clauses.literal Clauses.paired Steps.answer Steps.premises Steps.kindOf Steps.shaped Steps.ready Steps.known Steps.acceptable Steps.decideRefusal Steps.decide Steps.inferenceRefusal Steps.deduceRefusal Steps.deduce Steps.contradictionRefusal Steps.clashRefusal Steps.clash Steps.failRefusal Steps.fail Steps.resolveRefusal Steps.resolve Steps.clearRefusal Steps.clear Steps.jumpRefusal Steps.jump Steps.flipRefusal Steps.flip Steps.learnRefusal Steps.learn Steps.rowRefusal Steps.stepBy Steps.step Place.strangePlace Place.absentPlace Place.placeOf Run.follow Run.run Run.sheetsRefusal Run.callRefusal Run.endingOf Run.ending Run.outcome
 places = refl

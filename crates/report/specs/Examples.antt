@@ -52,6 +52,8 @@ table =
     -- the line that was meant
     ∷ caused 18 0 26 failMeant "line 18: 26 fail is the line at level 0, clash the one above it: fail was meant\n"
     ∷ caused 18 0 26 clashMeant "line 18: 26 fail is the line at level 0, clash the one above it: clash was meant\n"
+    -- the last of the numbers of steps
+    ∷ complaint 17 0 27 Fine "line 17: 27 the value contradicts an equation on the trail\n"
     -- no line, and then no field either
     ∷ complaint 0 0 32 Fine "32 a lent buffer is short\n"
     ∷ complaint 0 7 30 Fine "30 above a ceiling\n"

@@ -183,7 +183,8 @@ fn put_meaning(n: u16, at: usize, out: &mut [u8]) -> usize
         \n\
         the clause does not match the members, or one is named twice\n\
         fail is the line at level 0, clash the one above it\n\
-        \n\n\n\
+        the value contradicts an equation on the trail\n\
+        \n\n\
         above a ceiling\n\
         malformed\n\
         a lent buffer is short";

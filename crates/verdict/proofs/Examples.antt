@@ -94,6 +94,10 @@ table =
     "line 17: 26 fail is the line at level 0, clash the one above it: fail was meant\n"
     ∷ example (log "g false\n" "decide - e true - - - - -\nfail cong g true e - - - -\n") "refused 1 26 2 0\n"
     "line 17: 26 fail is the line at level 0, clash the one above it: clash was meant\n"
+    -- e is false, and b is to have the value of a
+    ∷ example (log "e false\n" "decide - a 7 - - - - -\ndecide - b 7 - - - - -\n") "refused 1 27 2 0\n"
+    "line 17: 27 the value contradicts an equation on the trail\n"
+    ∷ example (log "e false\n" "decide - a 7 - - - - -\ndecide - b 8 - - - - -\n") "open 2 0 3 0\n" ""
     -- learn, with its level as a number and as a word; the clause is used
     ∷ example (learned "learn - clause 2 q r - - -\n" "deduce eval no-q false q - - - -\ndeduce unit no-r true clause no-q - - -\n") "open 7 0 6 0\n" ""
     ∷ example (learned "learn - clause true q r - - -\n" "") "open 5 0 3 0\n" ""
@@ -122,5 +126,5 @@ table =
     ∷ []
 
 pub answers : map (λ (e : Example). seen (e .text)) table ≡ map (λ (e : Example). e .seen) table
-unfolding table example board props steps log learned Lists.firstWhere Numbers.unless Numbers.orElse Numbers.firstRefusal Sheets.lengthRefusal Sorts.isArray Sorts.isPlain Sorts.sortRefusal Sorts.sortsRefusal Terms.cells Terms.args Terms.arg Terms.earlier Terms.sameUse Terms.firstUse Terms.suits Terms.twins Terms.fresh Terms.termRefusal Terms.termsRefusal Trail.on Trail.entry Trail.holds Trail.levelOf Trail.keptTo Trail.trailNumbersOf Inputs.inputTrail Inputs.inputRefusal Inputs.inputsRefusal Rules.ruleOf Rules.bare Rules.single Rules.double Rules.leading Rules.unitAt Rules.fits Clauses.literal Clauses.paired Steps.answer Steps.premises Steps.kindOf Steps.shaped Steps.ready Steps.known Steps.decideRefusal Steps.decide Steps.inferenceRefusal Steps.deduceRefusal Steps.deduce Steps.contradictionRefusal Steps.clashRefusal Steps.clash Steps.failRefusal Steps.fail Steps.resolveRefusal Steps.resolve Steps.clearRefusal Steps.clear Steps.jumpRefusal Steps.jump Steps.flipRefusal Steps.flip Steps.learnRefusal Steps.learn Steps.rowRefusal Steps.stepBy Steps.step Place.strangePlace Place.absentPlace Place.placeOf Run.follow Run.run Run.sheetsRefusal Run.callRefusal Run.endingOf Run.ending Run.outcome refOf shapeOf isTaken headOf sortRow termRow inputRow stepRow headerWhy rowWhy readLine lineEffect lineStep textState textFault digitsOf decimal verdictWord numberField Printed.printed meaning cause fieldPart wherePart whatPart whyPart complained verdictOf cutRefused refusedRow lineOf lineMeant complaintOf
+unfolding table example board props steps log learned Lists.firstWhere Numbers.unless Numbers.orElse Numbers.firstRefusal Sheets.lengthRefusal Sorts.isArray Sorts.isPlain Sorts.sortRefusal Sorts.sortsRefusal Terms.cells Terms.args Terms.arg Terms.earlier Terms.sameUse Terms.firstUse Terms.suits Terms.twins Terms.fresh Terms.termRefusal Terms.termsRefusal Trail.on Trail.entry Trail.holds Trail.levelOf Trail.keptTo Trail.trailNumbersOf Inputs.inputTrail Inputs.inputRefusal Inputs.inputsRefusal Rules.ruleOf Rules.bare Rules.single Rules.double Rules.leading Rules.unitAt Rules.fits Clauses.literal Clauses.paired Steps.answer Steps.premises Steps.kindOf Steps.shaped Steps.ready Steps.known Steps.acceptable Steps.decideRefusal Steps.decide Steps.inferenceRefusal Steps.deduceRefusal Steps.deduce Steps.contradictionRefusal Steps.clashRefusal Steps.clash Steps.failRefusal Steps.fail Steps.resolveRefusal Steps.resolve Steps.clearRefusal Steps.clear Steps.jumpRefusal Steps.jump Steps.flipRefusal Steps.flip Steps.learnRefusal Steps.learn Steps.rowRefusal Steps.stepBy Steps.step Place.strangePlace Place.absentPlace Place.placeOf Run.follow Run.run Run.sheetsRefusal Run.callRefusal Run.endingOf Run.ending Run.outcome refOf shapeOf isTaken headOf sortRow termRow inputRow stepRow headerWhy rowWhy readLine lineEffect lineStep textState textFault digitsOf decimal verdictWord numberField Printed.printed meaning cause fieldPart wherePart whatPart whyPart complained verdictOf cutRefused refusedRow lineOf lineMeant complaintOf
 answers = refl
