@@ -1,5 +1,5 @@
--- The transitions of Figure 3 of the CADE 2017 paper as a relation between states, one constructor for each rule as document 01 states it,
--- and LearnBackjump of the journal article's Figure 1 as document 02 does.
+-- The transitions of Figure 3 of the CADE 2017 paper, and LearnBackjump of the journal article's Figure 1, as a relation between states: one constructor
+-- for each rule, as documents 01 and 02 state it.
 use mathlib.Core.Path.{_≡_}
 use mathlib.Core.Logic.{_≢_, _⊎_}
 use mathlib.Core.Bool.{true, false}
@@ -82,7 +82,7 @@ pub data Restricted (m : ℕ) : Trail → Trail → Type 0 where
 
 -- ---- acceptable decisions, as Definition 3 of the CADE 2017 paper has them
 
--- an inference from J, which is t with the value v beside assignments on the trail, gives the Boolean l the value w; the trail gives l the other value u
+-- what opposes t with the value v: from it and from assignments on the trail, J, an inference gives the Boolean l the value w; the trail has its opposite u
 pub record Opposed (ts : List ℕ) (tr : Trail) (t v : ℕ) : Type 0 where
   pub r : Rule
   pub J : List Premise
@@ -96,7 +96,7 @@ pub record Opposed (ts : List ℕ) (tr : Trail) (t v : ℕ) : Type 0 where
   pub other : Opposite w u
   pub there : Assigned tr l u
 
--- t with the value v is acceptable: the trail gives t no value, and t is Boolean or nothing opposes it
+-- t with the value v is acceptable: the trail gives t no value, and t is Boolean or nothing opposes it there
 pub record Acceptable (ts : List ℕ) (tr : Trail) (t v : ℕ) : Type 0 where
   pub new : Absent tr t
   pub unopposed : Boolean ts t ⊎ ¬ Opposed ts tr t v
