@@ -37,8 +37,9 @@ use Rattle.calculus.proofs.WellSorted.{WellSorted}
 use Rattle.figure.proofs.Connectives.{opposite-there}
 use Rattle.figure.proofs.Walks.{Truths}
 use Rattle.figure.proofs.Rules.{Known, fits-infers}
-use Rattle.figure.proofs.Trails.{level-is, restricted-is, off-is, below-row, entry-of, assigned-is, one-value}
+use Rattle.figure.proofs.Trails.{level-is, restricted-is, off-is, entry-of, assigned-is, assigned-row, one-value}
 use Rattle.figure.proofs.Trails.{premises-rows, premises-is, first-order-is, first-order-of, holds-of}
+use Rattle.figure.proofs.Acceptable.{acceptable-is}
 use Rattle.figure.proofs.Spelling.{from-left, no-premise}
 use Rattle.figure.proofs.Clauses.{different-is, clausal-is}
 
@@ -75,8 +76,8 @@ module _ (ts : List ℕ) where
         let a = answer-ok _ _ r h in
         let b = unless-ok _ 22 _ (omega arith) (a .0) in
         let c = unless-ok _ 14 _ (omega arith) (b .1) in
-        let off = off-is tr t (c .0) in
-        settle _ r (a .1) (Decide l (value-suits ts t v (b .0)) (search) (level-is tr everything))
+        let d = unless-ok _ 27 _ (omega arith) (c .1) in
+        settle _ r (a .1) (Decide l (value-suits ts t v (b .0)) (acceptable-is W R N t v l (c .0) (d .0)) (level-is tr everything))
 
     -- a rule's guards
     inferred-is : (n l v : ℕ) (ps : List ℕ) (rest : ℕ) → l < termRows ts → v ≤ 1 → inferenceRefusal ts tr n l v ps rest ≡ 0
@@ -87,7 +88,7 @@ module _ (ts : List ℕ) where
         let b = unless-ok _ 12 _ (omega arith) (a .1) in
         let c = unless-ok _ 13 _ (omega arith) (b .1) in
         let on-trail = premises-is tr ps (b .0) in
-        let rows : Known ts (premisesAt tr ps) = λ p m. (let y = on-trail p m in subst (λ t. t < termRows ts) (y .2) (below-row tr (y .0) R (y .1))) in
+        let rows : Known ts (premisesAt tr ps) = λ p m. assigned-row R (on-trail p m) in
         let truths : Truths ts (premisesAt tr ps) = λ p m z.
         (let y = on-trail p m in subst (λ u. u ≤ 1) (y .3) (N (y .0) (y .1) (ap (sort ts) (y .2) ∙ z))) in (
           λ new. record {

@@ -28,8 +28,10 @@ use Rattle.calculus.specs.Steps.{inferenceShaped, termShaped, pairShaped, learn
 use Rattle.calculus.specs.Steps.{inferenceRefusal, contradictionRefusal, rowRefusal, stepBy, step}
 use Rattle.calculus.proofs.Facts.{eqb-of, neqb-of, and-both, T-true, true-T, false-T, all-of}
 use Rattle.calculus.proofs.Entries.{level-kept, holds-at}
+use Rattle.calculus.proofs.WellSorted.{WellSorted}
 use Rattle.figure.specs.Inferences.{Opposite, oppositeOfTrue, oppositeOfFalse}
-use Rattle.figure.specs.Transitions.{Boolean, Suits, Among, Assigned, Absent, FirstOrder, decisionAt, justifiedAt, Level, Restricted, Inferred, Members}
+use Rattle.figure.specs.Transitions.{Boolean, Suits, Among, Assigned, Absent, FirstOrder, decisionAt, justifiedAt, Level, Restricted}
+use Rattle.figure.specs.Transitions.{Acceptable, Inferred, Members}
 use Rattle.figure.specs.Transitions.{Action, Result, Transition, Decide, Deduce, Fail, Conflict, Resolve, Undo, Backjump, UndoDecide, LearnBackjump}
 use Rattle.figure.specs.Clauses.{ClausalForm}
 use Rattle.figure.specs.Spelling.{Filled, Blank, FromLeft, noColumn, blankColumn, filledColumn, Columns, Spells}
@@ -37,7 +39,8 @@ use Rattle.figure.specs.Faithful.{answerOf}
 use Rattle.figure.proofs.Connectives.{opposite-sum}
 use Rattle.figure.proofs.Rules.{infers-fits, infers-listed}
 use Rattle.figure.proofs.Trails.{level-of, restricted-of, off-of, below-row, entry-of, assigned-of}
-use Rattle.figure.proofs.Trails.{assigned-is, premises-of, first-order-is, first-order-of, holds-of}
+use Rattle.figure.proofs.Trails.{assigned-is, assigned-row, premises-of, first-order-is, first-order-of, holds-of}
+use Rattle.figure.proofs.Acceptable.{acceptable-of}
 use Rattle.figure.proofs.Spelling.{blanks-of, filled-of, left-of, listed}
 use Rattle.figure.proofs.Clauses.{different-of, clausal-test}
 
@@ -143,11 +146,15 @@ module _ (ts : List ℕ) where
   module _ {tr : Trail} (R : WellFormed (termRows ts) tr) (N : Truthful ts tr) where
     -- ---- search rules
 
-    decide-answer : {t v m : ℕ} → Suits ts t v → Absent tr t → Level tr everything m
+    decide-answer : {ss : List ℕ} {t v m : ℕ} → WellSorted ss ts → t < termRows ts → Suits ts t v → Acceptable ts tr t v → Level tr everything m
         → steps.decide ts tr t v ≡ allowed (searching (decisionAt t v (1 + m) ∷ tr))
     unfolding steps.decide steps.decideRefusal
-    decide-answer {t} {v} s a l =
-        answer-of _ _ (unless-of _ 22 _ (suits s) (unless-of _ 14 _ (off-of tr t a) refl))
+    decide-answer {t = t} {v} W b s a l =
+        let off = off-of tr t (a .new) in
+        answer-of _ _
+        (unless-of _ 22 _ (suits s)
+        (unless-of _ 14 _ off
+        (unless-of _ 27 _ (acceptable-of W R N t v b off a) refl)))
         ∙ (λ i. allowed (searching (decisionAt t v (1 + level-of l i) ∷ tr)))
       where
         suits : Suits ts t v → T (valueSuits ts t v)
@@ -319,9 +326,6 @@ module _ (ts : List ℕ) where
 
   -- ---- rows of the sheet
 
-  pub assigned-row : {tr : Trail} {t v : ℕ} → WellFormed (termRows ts) tr → Assigned tr t v → t < termRows ts
-  assigned-row {tr} R a = subst (λ t. t < termRows ts) (a .2) (below-row tr (a .0) R (a .1))
-
   pub premise-rows : {tr : Trail} {r : Rule} {J : List Premise} {l v w : ℕ} → WellFormed (termRows ts) tr → Inferred ts tr r J l v w
       → (p : ℕ) → List·Memᴰ p (map rowOf J) → p < termRows ts
   premise-rows {J = ps} R i p m =
@@ -338,66 +342,70 @@ module _ (ts : List ℕ) where
       (and-both (isFilled (x .term)) _ (filled-test (c .subject))
       (and-both (leb (x .value) 1) _ (le→leb _ _ (subst (λ n. n ≤ 1) (sym (f .0)) (opposite-small (i .other)))) (left-of (c .rows))))
 
-  pub forth : {s : State} {a : Action} {r : Result} → Coherent ts s → Transition ts s a r → (x : Step) → Spells x a → step ts s x ≡ answerOf r
-  unfolding WellFormedState shaped ready stepBy
-  forth h (Decide {tr} {t} {v} b s a l) x (p) =
-      let c = p .0 in
-      step-of (searching tr) x kinds.Decide (c .kind)
-      (and-both (isBlank (x .rule)) _ (eqb-of (p .1))
-      (and-both (isFilled (x .term)) _ (filled-test (c .subject))
-      (and-both (isFilled (x .value)) _ (filled-test (p .2)) (blanks-of (c .rows))))) tt (known-of c b no-rows)
-      ∙ (λ i. steps.decide ts tr (c .subject .0 i) (p .2 .0 i))
-      ∙ decide-answer (h .wellFormed) (h .truths) (search) (search) (search)
-  forth h (Deduce {tr} {l = l} {v} b i n z) x (p) =
-      let c = p .0 in
-      step-of (searching tr) x kinds.Deduce (c .kind) (inference-shaped x i c (p .1) (p .2)) tt (known-of c b (premise-rows (h .wellFormed) i))
-      ∙ (λ j. steps.deduce ts tr (x .rule) (c .subject .0 j) (p .2 .0 j) (premises-as c j))
-      ∙ deduce-answer (h .wellFormed) (h .truths) (x .rule) i (p .1) (search) (search)
-  forth h (Fail {tr} i a z) x (p) =
-      let c = p .0 in
-      step-of (searching tr) x kinds.Fail (c .kind) (inference-shaped x i c (p .1) (p .2)) tt
-      (known-of c (assigned-row (h .wellFormed) a) (premise-rows (h .wellFormed) i))
-      ∙ (λ j. steps.fail ts tr (x .rule) (c .subject .0 j) (p .2 .0 j) (premises-as c j))
-      ∙ fail-answer (h .wellFormed) (h .truths) (x .rule) i (p .1) (search) z
-  forth h (Conflict {tr} i a z m) x (p) =
-      let c = p .0 in
-      step-of (searching tr) x kinds.Clash (c .kind) (inference-shaped x i c (p .1) (p .2)) tt
-      (known-of c (assigned-row (h .wellFormed) a) (premise-rows (h .wellFormed) i))
-      ∙ (λ j. steps.clash ts tr (x .rule) (c .subject .0 j) (p .2 .0 j) (premises-as c j))
-      ∙ clash-answer (h .wellFormed) (h .truths) (x .rule) i (p .1) (search) z (omega arith)
-  forth h (Resolve {tr} {E} a j z f) x (p) =
-      let c = p .0 in
-      let R = h .wellFormed .0 in
-      step-of (conflict tr E) x kinds.Resolve (c .kind) (alone-shaped x (c .subject) (p .1) (p .2) (c .rows)) tt (known-of c (below-row tr _ R (a .0)) no-rows)
-      ∙ (λ i. steps.resolve ts tr E (c .subject .0 i))
-      ∙ resolve-answer R (h .truths) E a (search) z (search)
-  forth h (Undo {tr} {E = E} a o e z l r) x (p) =
-      let c = p .0 in
-      let R = h .wellFormed .0 in
-      step-of (conflict tr E) x kinds.Clear (c .kind) (alone-shaped x (c .subject) (p .1) (p .2) (c .rows)) tt (known-of c (below-row tr _ R (a .0)) no-rows)
-      ∙ (λ i. steps.clear ts tr E (c .subject .0 i))
-      ∙ clear-answer R (h .truths) E a (search) (omega arith) z (omega arith) r
-  forth h (Backjump {tr} {E = E} a b o z l r) x (p) =
-      let c = p .0 in
-      let R = h .wellFormed .0 in
-      step-of (conflict tr E) x kinds.Jump (c .kind) (alone-shaped x (c .subject) (p .1) (p .2) (c .rows)) tt (known-of c (below-row tr _ R (a .0)) no-rows)
-      ∙ (λ i. steps.jump ts tr E (c .subject .0 i))
-      ∙ jump-answer R (h .truths) E a (search) (search) (search) (omega arith) r
-  forth h (UndoDecide {tr} {E = E} {k = k} hl jl b o hk jk ne dl dk fo e z r y) x (p) =
-      let c = p .0 in
-      let R = h .wellFormed .0 in
-      let f = first-column (c .rows) in
-      step-of (conflict tr E) x kinds.Flip (c .kind) (pair-shaped x (c .subject) (p .1) (p .2) (f .0) (f .1)) tt
-      (known-of c (below-row tr _ R (hl .0)) (λ t m. subst (λ t. t < termRows ts) (sym (List·Memᴰ·eq-of-singleton m)) (below-row tr _ R (hk .0))))
-      ∙ (λ i. steps.flip ts tr E (c .subject .0 i) (f .0 .0 i))
-      ∙ flip-answer R (h .truths) E hl (search) (search) (search) hk (search) (omega arith) dl dk (search) (omega arith) z r y
-  forth h (LearnBackjump {tr} {E = E} {H = H} M b form a z low y high r) x (p) =
-      let c = p .0 in
-      let R = h .wellFormed .0 in
-      let n = length-map H rowOf in
-      let two = M .several in
-      let four = M .few in
-      step-of (conflict tr E) x kinds.Learn (c .kind) (learn-shaped x c (p .1) (p .2) (omega arith) (omega arith)) tt
-      (known-of c b (λ q m. let o = Memᴰ·of-map rowOf H m in subst (λ t. t < termRows ts) (o .2) (assigned-row R (M .onTrail (o .0) (o .1)))))
-      ∙ (λ i. steps.learn ts tr E (c .subject .0 i) (p .2 .0 i) (premises-as c i))
-      ∙ learn-answer R (h .truths) E M form a z low y high r
+  module _ {ss : List ℕ} (W : WellSorted ss ts) where
+    pub forth : {s : State} {a : Action} {r : Result} → Coherent ts s → Transition ts s a r → (x : Step) → Spells x a → step ts s x ≡ answerOf r
+    unfolding WellFormedState shaped ready stepBy
+    forth h (Decide {tr} {t} {v} b s a l) x (p) =
+        let c = p .0 in
+        step-of (searching tr) x kinds.Decide (c .kind)
+        (and-both (isBlank (x .rule)) _ (eqb-of (p .1))
+        (and-both (isFilled (x .term)) _ (filled-test (c .subject))
+        (and-both (isFilled (x .value)) _ (filled-test (p .2)) (blanks-of (c .rows))))) tt (known-of c b no-rows)
+        ∙ (λ i. steps.decide ts tr (c .subject .0 i) (p .2 .0 i))
+        ∙ decide-answer (h .wellFormed) (h .truths) W b (search) a (search)
+    forth h (Deduce {tr} {l = l} {v} b i n z) x (p) =
+        let c = p .0 in
+        step-of (searching tr) x kinds.Deduce (c .kind) (inference-shaped x i c (p .1) (p .2)) tt (known-of c b (premise-rows (h .wellFormed) i))
+        ∙ (λ j. steps.deduce ts tr (x .rule) (c .subject .0 j) (p .2 .0 j) (premises-as c j))
+        ∙ deduce-answer (h .wellFormed) (h .truths) (x .rule) i (p .1) (search) (search)
+    forth h (Fail {tr} i a z) x (p) =
+        let c = p .0 in
+        step-of (searching tr) x kinds.Fail (c .kind) (inference-shaped x i c (p .1) (p .2)) tt
+        (known-of c (assigned-row (h .wellFormed) a) (premise-rows (h .wellFormed) i))
+        ∙ (λ j. steps.fail ts tr (x .rule) (c .subject .0 j) (p .2 .0 j) (premises-as c j))
+        ∙ fail-answer (h .wellFormed) (h .truths) (x .rule) i (p .1) (search) z
+    forth h (Conflict {tr} i a z m) x (p) =
+        let c = p .0 in
+        step-of (searching tr) x kinds.Clash (c .kind) (inference-shaped x i c (p .1) (p .2)) tt
+        (known-of c (assigned-row (h .wellFormed) a) (premise-rows (h .wellFormed) i))
+        ∙ (λ j. steps.clash ts tr (x .rule) (c .subject .0 j) (p .2 .0 j) (premises-as c j))
+        ∙ clash-answer (h .wellFormed) (h .truths) (x .rule) i (p .1) (search) z (omega arith)
+    forth h (Resolve {tr} {E} a j z f) x (p) =
+        let c = p .0 in
+        let R = h .wellFormed .0 in
+        step-of (conflict tr E) x kinds.Resolve (c .kind) (alone-shaped x (c .subject) (p .1) (p .2) (c .rows)) tt
+        (known-of c (below-row tr _ R (a .0)) no-rows)
+        ∙ (λ i. steps.resolve ts tr E (c .subject .0 i))
+        ∙ resolve-answer R (h .truths) E a (search) z (search)
+    forth h (Undo {tr} {E = E} a o e z l r) x (p) =
+        let c = p .0 in
+        let R = h .wellFormed .0 in
+        step-of (conflict tr E) x kinds.Clear (c .kind) (alone-shaped x (c .subject) (p .1) (p .2) (c .rows)) tt
+        (known-of c (below-row tr _ R (a .0)) no-rows)
+        ∙ (λ i. steps.clear ts tr E (c .subject .0 i))
+        ∙ clear-answer R (h .truths) E a (search) (omega arith) z (omega arith) r
+    forth h (Backjump {tr} {E = E} a b o z l r) x (p) =
+        let c = p .0 in
+        let R = h .wellFormed .0 in
+        step-of (conflict tr E) x kinds.Jump (c .kind) (alone-shaped x (c .subject) (p .1) (p .2) (c .rows)) tt
+        (known-of c (below-row tr _ R (a .0)) no-rows)
+        ∙ (λ i. steps.jump ts tr E (c .subject .0 i))
+        ∙ jump-answer R (h .truths) E a (search) (search) (search) (omega arith) r
+    forth h (UndoDecide {tr} {E = E} {k = k} hl jl b o hk jk ne dl dk fo e z r y) x (p) =
+        let c = p .0 in
+        let R = h .wellFormed .0 in
+        let f = first-column (c .rows) in
+        step-of (conflict tr E) x kinds.Flip (c .kind) (pair-shaped x (c .subject) (p .1) (p .2) (f .0) (f .1)) tt
+        (known-of c (below-row tr _ R (hl .0)) (λ t m. subst (λ t. t < termRows ts) (sym (List·Memᴰ·eq-of-singleton m)) (below-row tr _ R (hk .0))))
+        ∙ (λ i. steps.flip ts tr E (c .subject .0 i) (f .0 .0 i))
+        ∙ flip-answer R (h .truths) E hl (search) (search) (search) hk (search) (omega arith) dl dk (search) (omega arith) z r y
+    forth h (LearnBackjump {tr} {E = E} {H = H} M b form a z low y high r) x (p) =
+        let c = p .0 in
+        let R = h .wellFormed .0 in
+        let n = length-map H rowOf in
+        let two = M .several in
+        let four = M .few in
+        step-of (conflict tr E) x kinds.Learn (c .kind) (learn-shaped x c (p .1) (p .2) (omega arith) (omega arith)) tt
+        (known-of c b (λ q m. let o = Memᴰ·of-map rowOf H m in subst (λ t. t < termRows ts) (o .2) (assigned-row R (M .onTrail (o .0) (o .1)))))
+        ∙ (λ i. steps.learn ts tr E (c .subject .0 i) (p .2 .0 i) (premises-as c i))
+        ∙ learn-answer R (h .truths) E M form a z low y high r

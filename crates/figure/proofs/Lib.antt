@@ -4,7 +4,9 @@ pub mod Connectives
 pub mod Walks
 pub mod Rules
 pub mod Clauses
+pub mod FirstOrder
 pub mod Trails
+pub mod Acceptable
 pub mod Spelling
 pub mod Forth
 pub mod Back

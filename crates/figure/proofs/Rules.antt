@@ -99,7 +99,7 @@ module _ {ts : List ℕ} where
   pub column-0 : {t h a : ℕ} {xs : List ℕ} → Applied ts t h (a ∷ xs) → arg ts t 0 ≡ a
   column-0 {t} q = column ts t 0 (q .arguments) (omega arith)
 
-  column-1 : {t h a b : ℕ} {xs : List ℕ} → Applied ts t h (a ∷ b ∷ xs) → arg ts t 1 ≡ b
+  pub column-1 : {t h a b : ℕ} {xs : List ℕ} → Applied ts t h (a ∷ b ∷ xs) → arg ts t 1 ≡ b
   column-1 {t} q = column ts t 1 (q .arguments) (omega arith)
 
   column-2 : {t h a b c : ℕ} {xs : List ℕ} → Applied ts t h (a ∷ b ∷ c ∷ xs) → arg ts t 2 ≡ c
@@ -231,7 +231,7 @@ abbrev pub Known : List ℕ → List Premise → Type 0
 Known ts ps = (p : Premise) → List·Memᴰ p ps → p .row < termRows ts
 
 module _ {ts : List ℕ} where
-  into : {r : Rule} {ps K : List Premise} {l v w : ℕ} → ps ≡ K → v ≡ w → Infers ts r K l w → Infers ts r ps l v
+  pub into : {r : Rule} {ps K : List Premise} {l v w : ℕ} → ps ≡ K → v ≡ w → Infers ts r K l w → Infers ts r ps l v
   into {r} {l = l} e f i = subst₂ (λ ps v. Infers ts r ps l v) (sym e) (sym f) i
 
   pub retarget : {t h : ℕ} {xs ys : List ℕ} → Applied ts t h xs → xs ≡ ys → Applied ts t h ys

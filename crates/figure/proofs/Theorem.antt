@@ -27,9 +27,9 @@ use Rattle.calculus.proofs.WellSorted.{well-sorted}
 use Rattle.calculus.proofs.Truths.{run-coherent, start-coherent}
 use Rattle.figure.proofs.Connectives.{opposite-sum}
 use Rattle.figure.proofs.Rules.{fits-infers, infers-fits, infers-short}
-use Rattle.figure.proofs.Trails.{level-of, below-row}
+use Rattle.figure.proofs.Trails.{level-of, below-row, assigned-row}
 use Rattle.figure.proofs.Spelling.{rule-number}
-use Rattle.figure.proofs.Forth.{forth, assigned-row, premise-rows}
+use Rattle.figure.proofs.Forth.{forth, premise-rows}
 use Rattle.figure.proofs.Back.{back}
 
 -- ---- a row for an action
@@ -116,8 +116,8 @@ module _ (ts : List ℕ) (short : termRows ts ≤ 256) where
       let y = write 0 blank t v [] (omega arith) (omega arith) (omega arith) (omega arith) (omega arith) no-premises in
       (y .row, y .sheet, (y .cols, y .rule, (y .value, λ q. omega arith)))
   row-of h w (Deduce b i n z) = inference-row 1 (omega arith) (h .wellFormed) b i w
-  row-of h w (Fail i a z) = inference-row 7 (omega arith) (h .wellFormed) (assigned-row ts (h .wellFormed) a) i w
-  row-of h w (Conflict i a z m) = inference-row 2 (omega arith) (h .wellFormed) (assigned-row ts (h .wellFormed) a) i w
+  row-of h w (Fail i a z) = inference-row 7 (omega arith) (h .wellFormed) (assigned-row (h .wellFormed) a) i w
+  row-of h w (Conflict i a z m) = inference-row 2 (omega arith) (h .wellFormed) (assigned-row (h .wellFormed) a) i w
   row-of h w (Resolve {tr} a j z f) =
       let y = alone 3 _ (omega arith) (below-row tr _ (h .wellFormed .0) (a .0)) in
       (y .row, y .sheet, (y .cols, y .rule, y .value))
@@ -140,7 +140,7 @@ module _ (ts : List ℕ) (short : termRows ts ≤ 256) where
       let d = level-of y in
       let s = level-small tr (has (map rowOf H)) R in
       let u = write 8 blank t m (map rowOf H) (omega arith) (omega arith) (omega arith) (omega arith) (omega arith)
-      (λ q i. let o = Memᴰ·of-map rowOf H i in let e = assigned-row ts R (M .onTrail (o .0) (o .1)) in let g = o .2 in omega arith) in
+      (λ q i. let o = Memᴰ·of-map rowOf H i in let e = assigned-row R (M .onTrail (o .0) (o .1)) in let g = o .2 in omega arith) in
       (u .row, u .sheet, (u .cols, u .rule, (u .value, λ q. omega arith)))
 
   -- ---- the theorem
@@ -151,9 +151,10 @@ module _ (ts : List ℕ) (short : termRows ts ≤ 256) where
 
   pub faithful : (ss : List ℕ) → termsRefusal ss ts ≡ 0 → (s : State) → Coherent ts s → Faithful ts s
   faithful ss ok s h =
+      let W = well-sorted ss ts ok in
       record {
-        exact = λ x r. (back ts (well-sorted ss ts ok) x r s h, λ y. forth ts h (y .2) x (y .1));
-        complete = λ a r w t. (let y = row-of h w t in (y .0, y .1, y .2, forth ts h t (y .0) (y .2)));
+        exact = λ x r. (back ts W x r s h, λ y. forth ts W h (y .2) x (y .1));
+        complete = λ a r w t. (let y = row-of h w t in (y .0, y .1, y .2, forth ts W h t (y .0) (y .2)));
       }
 
 -- over the sheets of a call that get no number, at every state that a list of steps can reach: after the first k rows of a log, whatever it holds

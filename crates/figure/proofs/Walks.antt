@@ -98,6 +98,17 @@ module _ (ts : List ℕ) (J : List Premise) where
 abbrev pub Truths : List ℕ → List Premise → Type 0
 Truths ts J = (p : Premise) → List·Memᴰ p J → sort ts (p .row) ≡ 0 → p .value ≤ 1
 
+-- the walk down from a prop comes to props only
+pub comes-prop : {ss ts : List ℕ} → WellSorted ss ts → {J : List Premise} {n u t : ℕ} → ComesTo ts J n u t → T (grounded ts J n t) → t < termRows ts
+    → sort ts t ≡ 0 → sort ts u ≡ 0
+unfolding grounded
+comes-prop W arrived h l z = z
+comes-prop {ts = ts} W {J} (onward {n = n} {t = t} {x = x} o m c) h l z =
+    let r : T (isConnective (head ts t) && all (grounded ts J n) (args ts t)) = rw (T-false (isPremise J t) (none-test o)) at h in
+    let q : x < t = row-args W t l x m in
+    comes-prop W c (all-at (grounded ts J n) (args ts t) (and-r (isConnective (head ts t)) _ r) m) (omega arith)
+    (connective-row W t l (and-l (isConnective (head ts t)) _ r) .arguments x m)
+
 module _ {ss ts : List ℕ} (W : WellSorted ss ts) (J : List Premise) (N : Truths ts J) where
   -- the walk gives a prop a truth value
   walk-small : (n t : ℕ) → sort ts t ≡ 0 → T (grounded ts J n t) → walkValue ts J n t ≤ 1

@@ -1,5 +1,5 @@
--- The transitions of Figure 3 of the CADE 2017 paper as a relation between states, one constructor for each rule as document 01 states it,
--- and LearnBackjump of the journal article's Figure 1 as document 02 does.
+-- The transitions of Figure 3 of the CADE 2017 paper, and LearnBackjump of the journal article's Figure 1, as a relation between states: one constructor
+-- for each rule, as documents 01 and 02 state it.
 use mathlib.Core.Path.{_≡_}
 use mathlib.Core.Logic.{_≢_, _⊎_}
 use mathlib.Core.Bool.{true, false}
@@ -14,7 +14,7 @@ use Rattle.calculus.specs.Terms.{sort}
 use Rattle.calculus.specs.Trail.{Set, empty, everything, remove, without, union, Entry, Trail}
 use Rattle.calculus.specs.Rules.{rowOf}
 use Rattle.calculus.specs.Steps.{State, searching, conflict}
-use Rattle.figure.specs.Inferences.{Opposite, Infers}
+use Rattle.figure.specs.Inferences.{assign, Opposite, Infers}
 use Rattle.figure.specs.Clauses.{Different, ClausalForm}
 
 -- ---- terms
@@ -80,6 +80,27 @@ pub data Restricted (m : ℕ) : Trail → Trail → Type 0 where
   kept : {e : Entry} {older rest : Trail} → e .level ≤ m → Restricted m older rest → Restricted m (e ∷ older) (e ∷ rest)
   dropped : {e : Entry} {older rest : Trail} → m < e .level → Restricted m older rest → Restricted m (e ∷ older) rest
 
+-- ---- acceptable decisions, as Definition 3 of the CADE 2017 paper has them
+
+-- what opposes t with the value v: from it and from assignments on the trail, J, an inference gives the Boolean l the value w; the trail has its opposite u
+pub record Opposed (ts : List ℕ) (tr : Trail) (t v : ℕ) : Type 0 where
+  pub r : Rule
+  pub J : List Premise
+  pub l : ℕ
+  pub w : ℕ
+  pub u : ℕ
+  pub inference : Infers ts r J l w
+  pub boolean : Boolean ts l
+  pub used : List·Memᴰ (assign v t) J
+  pub onTrail : (p : Premise) → List·Memᴰ p J → (p ≡ assign v t) ⊎ Assigned tr (p .row) (p .value)
+  pub other : Opposite w u
+  pub there : Assigned tr l u
+
+-- t with the value v is acceptable: the trail gives t no value, and t is Boolean or nothing opposes it there
+pub record Acceptable (ts : List ℕ) (tr : Trail) (t v : ℕ) : Type 0 where
+  pub new : Absent tr t
+  pub unopposed : Boolean ts t ⊎ ¬ Opposed ts tr t v
+
 -- ---- actions and results
 
 pub data Action : Type 0 where
@@ -122,7 +143,7 @@ pub data Transition (ts : List ℕ) : State → Action → Result → Type 0 whe
   -- ---- search rules
   -- the term with its value as a decision, one level above the trail
   Decide : {tr : Trail} {t v m : ℕ}
-      → InBasis ts t → Suits ts t v → Absent tr t
+      → InBasis ts t → Suits ts t v → Acceptable ts tr t v
       → Level tr everything m
       → Transition ts (searching tr) (decide t v) (next (searching (decisionAt t v (1 + m) ∷ tr)))
   -- the premises, as a set, justify l, of which the trail has neither value
