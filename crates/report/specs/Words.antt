@@ -53,6 +53,7 @@ meanings =
     ∷ means 23 "no shared decision"
     ∷ means 25 "the clause does not match the members, or one is named twice"
     ∷ means 26 "fail is the line at level 0, clash the one above it"
+    ∷ means 27 "the value contradicts an equation on the trail"
     ∷ means 30 "above a ceiling"
     ∷ means 31 "malformed"
     ∷ means 32 "a lent buffer is short"
