@@ -61,7 +61,12 @@ fn clear_keeps_the_late_entry() {
 #[test]
 fn decide_fits_the_equation() {
     let Board {
-        log, a, b, e, not_e, ..
+        log,
+        a,
+        b,
+        e,
+        not_e,
+        ..
     } = board();
     let meaning = "the value contradicts an equation on the trail";
     for (equal, value) in [(0, 7), (0, 8), (1, 7), (1, 8)] {
