@@ -69,12 +69,18 @@ enum cdsat_head {
     CDSAT_LAST_FREE = 65534
 };
 
-/* Steps. clash and fail have the same columns: a rule gives a term one value,
- * and the trail has the other. fail is for premises and opposite that are all at
- * level 0, where nothing they rest on was decided: it refutes the input and ends
- * the run. clash is for those above level 0: it opens a conflict, which resolve,
- * clear, jump, flip and learn work on. Either in the other's place is refused
- * with 26.
+/* Steps. decide gives a value to a term that has none. Where the term is no
+ * prop, the value must fit every equation on the trail, whatever put it there,
+ * with the term on one side and one that has a value on the other: the same
+ * value where the equation is true, another where it is false. Else the step is
+ * refused with 27, and so is every value where the term's equation with itself
+ * is false.
+ *
+ * clash and fail have the same columns: a rule gives a term one value, and the
+ * trail has the other. fail is for premises and opposite that are all at level 0,
+ * where nothing they rest on was decided: it refutes the input and ends the run.
+ * clash is for those above level 0: it opens a conflict, which resolve, clear,
+ * jump, flip and learn work on. Either in the other's place is refused with 26.
  *
  * learn takes the clause, an or or an and, in the term column, a level in the
  * value column, and in the first two to four premise columns different members
@@ -149,11 +155,12 @@ enum cdsat_why {
 /* The result of a run.
  *
  * The number is 0 for no trouble. 1 to 8: the sort, term and input sheets.
- * 9 to 23, 25 and 26: the first step that is not allowed; 25 is a learn whose
+ * 9 to 23 and 25 to 27: the first step that is not allowed; 25 is a learn whose
  * clause does not match the members, or that names one twice; 26 is a clash at
- * level 0, where fail was meant, or a fail above it, where clash was meant. 30: a
- * sheet with too many rows. 31: a length that is no whole number of rows. 32: a
- * buffer too short. From cdsat_check it can also be a number of cdsat_read.
+ * level 0, where fail was meant, or a fail above it, where clash was meant; 27 is
+ * a decide whose value contradicts an equation on the trail. 30: a sheet with too
+ * many rows. 31: a length that is no whole number of rows. 32: a buffer too
+ * short. From cdsat_check it can also be a number of cdsat_read.
  *
  * The place says where a step went wrong that is refused with 11, 12 or 13: a
  * column of its row, from 1 for the step to 9 for the fifth premise. For 11 (no

@@ -216,6 +216,53 @@ static void test_places(void) {
     }
 }
 
+/* A decide row over the listing's terms, where e, row 2, is given and a or b, row 0 or 1, has 7: allowed, and with every number that a decide can get in
+ * a search. What is refused leaves the trail as it was. */
+static void test_decide(void) {
+    static const struct {
+        const char *what;
+        uint16_t equation, given, term, value;
+        unsigned number;
+    } rows[] = {
+        {"decide what differs, to the right", 0, 0, 1, 8, 0},
+        {"decide what differs, to the left", 0, 1, 0, 8, 0},
+        {"decide the greatest value", 0, 0, 1, CDSAT_BLANK - 1, 0},
+        {"decide what is equal, to the right", 1, 0, 1, 7, 0},
+        {"decide what is equal, to the left", 1, 1, 0, 7, 0},
+        {"decide a side of no equation on the trail", 0, 0, 3, 7, 0},
+        {"decide a prop", 0, 0, 5, 1, 0},
+        {"decide what should differ, to the right", 0, 0, 1, 7, 27},
+        {"decide what should differ, to the left", 0, 1, 0, 7, 27},
+        {"decide what should be equal, to the right", 1, 0, 1, 8, 27},
+        {"decide what should be equal, to the left", 1, 1, 0, 8, 27},
+        {"decide 0 where it should be equal", 1, 0, 1, 0, 27},
+        {"decide the greatest value where it should be equal", 1, 0, 1, CDSAT_BLANK - 1, 27},
+        {"decide what has a value", 0, 1, 1, 7, 14},
+        {"decide what has another value", 1, 1, 1, 8, 14},
+        {"decide a prop that has a value", 0, 0, 2, 1, 14},
+        {"decide a prop as 2", 0, 0, 5, 2, 22},
+        {"decide what is no row", 0, 0, 6, 7, 11},
+        {"decide without a value", 0, 0, 1, B, 9},
+    };
+    for (size_t i = 0; i < LENGTH(rows); i++) {
+        unsigned allowed = rows[i].number == 0;
+        const uint16_t given[] = {2, rows[i].equation, rows[i].given, 7};
+        const uint16_t row[] = {CDSAT_DECIDE, B, rows[i].term, rows[i].value, B, B, B, B, B};
+        const uint16_t want_trail[] = {2, rows[i].equation, 0, 0, rows[i].given, 7, 0, 0, rows[i].term, rows[i].value, 1, 1};
+        cdsat_outcome wanted = outcome(allowed ? CDSAT_OPEN : CDSAT_REFUSED, allowed, rows[i].number, 2 + allowed);
+        wanted.place = rows[i].number == 11 ? 3 : 0;
+        read_text(LISTING, strlen(LISTING));
+        memcpy(inputs, given, sizeof given);
+        memcpy(steps, row, sizeof row);
+        cdsat_outcome o = cdsat_run(
+            sorts, 2, terms, 36, inputs, 4, steps, CDSAT_STEP_COLUMNS, work, CDSAT_WORK_WORDS(6), trail, CDSAT_TRAIL_NUMBERS(6));
+        same_outcome(rows[i].what, o, wanted);
+        same_bytes(rows[i].what, trail, want_trail, 16 + 8 * allowed);
+        same(rows[i].what, "trail behind the entries", others(trail + 4 * o.entries, sizeof trail - 8 * (size_t)o.entries, 0xaa), 0);
+        same(rows[i].what, "workspace", others(work, 8 * CDSAT_WORK_WORDS(6), 0), 0);
+    }
+}
+
 /* A learn row, allowed at both levels that it may keep the trail to; then with one column after the other changed, which leaves the trail as it was. */
 static void test_learn(void) {
     static const char text[] = CONFLICT "learn - l 1 e g - - -\n";
@@ -382,6 +429,14 @@ static void test_checks(void) {
          "line 17, field 6: 13 the rule does not fit\n"},
         {"a decision twice", SORTS TERMS "term value\n\n" STEPS "decide - a 7 - - - - -\ndecide - a 7 - - - - -\n", {CDSAT_REFUSED, 1, 14, 1, 0},
          "line 16: 14 the value is there already\n"},
+        {"a value that should differ", SORTS TERMS "term value\ne false\n\n" STEPS "decide - a 7 - - - - -\ndecide - b 7 - - - - -\n",
+         {CDSAT_REFUSED, 1, 27, 2, 0}, "line 17: 27 the value contradicts an equation on the trail\n"},
+        {"a value that differs", SORTS TERMS "term value\ne false\n\n" STEPS "decide - a 7 - - - - -\ndecide - b 8 - - - - -\n",
+         {CDSAT_OPEN, 2, 0, 3, 0}, ""},
+        {"a value that should be equal", SORTS TERMS "term value\ne true\n\n" STEPS "decide - b 7 - - - - -\ndecide - a 8 - - - - -\n",
+         {CDSAT_REFUSED, 1, 27, 2, 0}, "line 17: 27 the value contradicts an equation on the trail\n"},
+        {"an equation against the values", SORTS TERMS "term value\na 7\nb 7\n\n" STEPS "decide - e false - - - - -\nclash same e true a b - - -\n",
+         {CDSAT_OPEN, 2, 0, 3, 0}, ""},
         {"a sort row", "sort index value\nS - -\nT S -\n\nterm head sort a b c d\n\nterm value\n\n" STEPS, {CDSAT_REFUSED, 0, 1, 0, 0},
          "line 3: 1 a sort row breaks the rule for sorts\n"},
         {"a term row", SORTS "term head sort a b c d\na A S - - - -\ne eq prop a - - -\n\nterm value\n\n" STEPS, {CDSAT_REFUSED, 0, 4, 0, 0},
@@ -424,6 +479,7 @@ int main(void) {
     test_run();
     test_steps();
     test_places();
+    test_decide();
     test_learn();
     test_lengths();
     test_bad_texts();

@@ -264,7 +264,32 @@ impl Log {
         self
     }
 
-    /// Adds a decision.
+    /// Adds a decision: the term, which has no value yet, gets this one, a level above
+    /// all that is there.
+    ///
+    /// For a term of sort prop 0 is false and 1 true. Any other term needs a value that
+    /// fits every equation of it with a term that has one: the same where the equation
+    /// is true on the trail, another where it is false. Where one does not fit, the
+    /// step is refused with 27, and so is every value of t where t=t is false.
+    ///
+    /// ```
+    /// use cdsat::{Head, Log, Sort, Verdict};
+    ///
+    /// // Two fixtures that must not share an address.
+    /// let mut log = Log::new();
+    /// let address = log.sort();
+    /// let [spot, wash] = [0, 1].map(|at| log.term(Head::Free(at), address, &[]));
+    /// let shared = log.term(Head::Eq, Sort::PROP, &[spot, wash]);
+    /// log.input(shared, 0).decide(spot, 101);
+    ///
+    /// let mut taken = log.clone();
+    /// taken.decide(wash, 101);
+    /// assert_eq!(taken.run().outcome.number, 27);
+    ///
+    /// let mut free = log.clone();
+    /// free.decide(wash, 117);
+    /// assert_eq!(free.run().outcome.verdict, Verdict::Open);
+    /// ```
     pub fn decide(&mut self, term: Term, value: u16) -> &mut Self {
         self.step(Step::Decide, BLANK, term, value, &[])
     }

@@ -56,6 +56,71 @@ fn clear_keeps_the_late_entry() {
     assert_eq!(run.trail[1].level, 1);
 }
 
+/// A slot gets the value of the other where their equality is true, another where it
+/// is false, whichever side it stands on and whatever put the equality there.
+#[test]
+fn decide_fits_the_equation() {
+    let Board {
+        log,
+        a,
+        b,
+        e,
+        not_e,
+        ..
+    } = board();
+    let meaning = "the value contradicts an equation on the trail";
+    for (equal, value) in [(0, 7), (0, 8), (1, 7), (1, 8)] {
+        let fits = (value == 7) == (equal == 1);
+        for (first, second) in [(a, b), (b, a)] {
+            let mut given = log.clone();
+            given.input(e, equal).input(first, 7);
+            let mut decided = log.clone();
+            decided.decide(first, 7).decide(e, equal);
+            let mut deduced = log.clone();
+            deduced.input(not_e, 1 - equal).decide(first, 7);
+            deduced.deduce(Rule::Neg, e, equal == 1, &[not_e]);
+            for (mut log, steps, entries) in [(given, 0, 2), (decided, 2, 2), (deduced, 2, 3)] {
+                log.decide(second, value);
+                let run = log.run();
+                let wanted = match fits {
+                    true => [0, steps + 1, 0, entries + 1, 0],
+                    false => [2, steps, 27, entries, 0],
+                };
+                assert_eq!(run.outcome.numbers(), wanted);
+                assert_eq!(run.outcome.meaning(), if fits { "" } else { meaning });
+            }
+        }
+    }
+}
+
+/// What is not refused with 27: another side without a value, an input, a prop; and
+/// what is refused with 14 before it.
+#[test]
+fn decide_is_not_asked() {
+    let Board {
+        mut log, a, b, e, ..
+    } = board();
+    let itself = log.term(Head::Eq, Sort::PROP, &[a, a]);
+    let end = |inputs: &[(Term, u16)], decisions: &[(Term, u16)]| {
+        let mut log = log.clone();
+        for &(term, value) in inputs {
+            log.input(term, value);
+        }
+        for &(term, value) in decisions {
+            log.decide(term, value);
+        }
+        log.run().outcome.numbers()
+    };
+    assert_eq!(end(&[(e, 0)], &[(b, 7)]), [0, 1, 0, 2, 0]);
+    assert_eq!(end(&[(e, 0), (a, 7), (b, 7)], &[]), [0, 0, 0, 3, 0]);
+    assert_eq!(end(&[(a, 7), (b, 7)], &[(e, 0)]), [0, 1, 0, 3, 0]);
+    assert_eq!(end(&[(e, 0), (a, 7), (b, 8)], &[(b, 7)]), [2, 0, 14, 3, 0]);
+    assert_eq!(end(&[(itself, 1)], &[(a, 7)]), [0, 1, 0, 2, 0]);
+    for value in [0, 1, 7, 65_534] {
+        assert_eq!(end(&[(itself, 0)], &[(a, value)]), [2, 0, 27, 1, 0]);
+    }
+}
+
 #[test]
 fn resolve_is_barred() {
     let Board {
@@ -304,12 +369,12 @@ fn learn_takes_props() {
         ..
     } = board();
     let clause = log.term(Head::Or, Sort::PROP, &[e, not_e]);
-    log.input(e, 0).input(b, 7).decide(a, 7);
+    log.input(b, 7).decide(a, 7).decide(e, 0);
     log.clash(Rule::Same, e, true, &[a, b]);
     for members in [[a, e], [e, b]] {
         let mut log = log.clone();
         log.learn(clause, 0, &members);
-        assert_eq!(log.run().outcome.numbers(), [2, 2, 22, 3, 0]);
+        assert_eq!(log.run().outcome.numbers(), [2, 3, 22, 3, 0]);
     }
 }
 
