@@ -18,7 +18,7 @@ use Rattle.calculus.specs.Steps.{trailOf}
 use Rattle.calculus.specs.Run.{Ending, run, turnedAway, outcomeOf, written}
 use Rattle.calculus.proofs.Facts.{orElse-ok}
 use Rattle.calculus.proofs.WellSorted.{well-sorted}
-use Rattle.calculus.proofs.Rows.{prop-equations}
+use Rattle.calculus.proofs.Rows.{equation-prop}
 use Rattle.term_sheet.specs.Found.{mostNumbers}
 use Rattle.inputs.specs.Loaded.{Loaded}
 use Rattle.sheets.proofs.Laws.{passed-zero}
@@ -84,7 +84,7 @@ module _ (sorts terms inputs steps work trail : List ℕ) where
       let f = fitting z in
       let sorted = well-sorted sorts terms (orElse-ok _ _ (passed-zero _ (sym s ∙ p)) .1) in
       let l = subst (Loaded w n terms inputs ws) q k in (
-        input-standing w n terms inputs ws e (prop-equations sorted) (l .0) (l .1),
+        input-standing w n terms inputs ws e (equation-prop sorted) (l .0) (l .1),
         omega (arith, f .steps-low),
         omega (arith, f .terms-low),
         omega (arith, f .trail-room),

@@ -17,7 +17,8 @@ use Rattle.calculus.specs.WellFormed.{WellFormed, Truthful}
 use Rattle.calculus.proofs.Facts.{num-le, eqb-of, neqb-of, and-l, and-r, and-both, or-cases, or-l, or-r, T-false, true-T, false-T, is-or-not, neq, facts}
 use Rattle.calculus.proofs.Entries.{entry-in, holds-at}
 use Rattle.calculus.proofs.WellFormed.{decision-well-formed}
-use Rattle.calculus.proofs.WellSorted.{WellSorted, equation-prop}
+use Rattle.calculus.proofs.WellSorted.{WellSorted}
+use Rattle.calculus.proofs.Rows.{equation-prop}
 use Rattle.calculus.proofs.Acceptable.{asked-before}
 use Rattle.figure.specs.Inferences.{assign, Equation}
 use Rattle.figure.specs.Transitions.{_∈_, Boolean, Assigned, Opposed, Acceptable}
