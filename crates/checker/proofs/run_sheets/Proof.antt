@@ -40,8 +40,11 @@ enum-told-2 c = search needs
 run-log-requires : tie.Need-run-log-requires
 run-log-requires c κs =
     let loaded = c .before .before .before .before .before .before in
-    let start = loaded .before .before .before .before .before .before .before .before .before .before .before .before in
-    log-fits _ _ _ _ _ _ _ _ _ (start .pre) CHECKED refl (loaded .load .ensures) (c .before .before .enum-told2 .given .1)
+    let told = loaded .before .before .before in
+    let checked = told .before .before in
+    let start = checked .before .before .before .before .before .before .before in
+    log-fits _ _ _ _ _ _ _ _ _ (start .pre) (checked .check-sheets .ensures) (told .enum-told .given .1) refl (loaded .load .ensures)
+    (c .before .before .enum-told2 .given .1)
 
 returns : tie.Need-returns
 returns c = search sheets-away
