@@ -265,6 +265,10 @@ impl Log {
     }
 
     /// Adds a decision.
+    ///
+    /// A value for a term that is no prop has to suit the equations on the trail: where
+    /// one of the term with a valued term, or with itself, has not the value that same or
+    /// differ would give it, the decision is refused with 27. Of a prop it is not asked.
     pub fn decide(&mut self, term: Term, value: u16) -> &mut Self {
         self.step(Step::Decide, BLANK, term, value, &[])
     }

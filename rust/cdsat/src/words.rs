@@ -30,6 +30,7 @@ pub fn meaning(number: u16) -> &'static str {
         23 => "no shared decision",
         25 => "the clause does not match the members, or one is named twice",
         26 => "fail is the line at level 0, clash the one above it",
+        27 => "the value contradicts an equation on the trail",
         30 => "above a ceiling",
         31 => "malformed",
         32 => "a lent buffer is short",

@@ -56,6 +56,32 @@ fn clear_keeps_the_late_entry() {
     assert_eq!(run.trail[1].level, 1);
 }
 
+/// A value that the equation of the slots is against, and one that it is not.
+#[test]
+fn decisions_suit_equations() {
+    let Board {
+        log, a, b, e, g, ..
+    } = board();
+    for (truth, value, number) in [(0, 7, 27), (0, 8, 0), (1, 7, 0), (1, 8, 27)] {
+        for [one, two] in [[a, b], [b, a]] {
+            let mut log = log.clone();
+            log.input(e, truth).decide(one, 7).decide(two, value);
+            let outcome = log.run().outcome;
+            let refused = u16::from(number != 0);
+            let ends = [2 * refused, 2 - refused, number, 3 - refused, 0];
+            assert_eq!(outcome.numbers(), ends);
+            if number != 0 {
+                let meaning = "the value contradicts an equation on the trail";
+                assert_eq!(outcome.meaning(), meaning);
+            }
+        }
+    }
+    // The equation itself, a prop, may be against the values.
+    let mut log = log.clone();
+    log.input(g, 0).decide(a, 7).decide(b, 7).decide(e, 0);
+    assert_eq!(log.run().outcome.numbers(), [0, 3, 0, 4, 0]);
+}
+
 #[test]
 fn resolve_is_barred() {
     let Board {
@@ -304,12 +330,12 @@ fn learn_takes_props() {
         ..
     } = board();
     let clause = log.term(Head::Or, Sort::PROP, &[e, not_e]);
-    log.input(e, 0).input(b, 7).decide(a, 7);
+    log.input(b, 7).decide(a, 7).decide(e, 0);
     log.clash(Rule::Same, e, true, &[a, b]);
     for members in [[a, e], [e, b]] {
         let mut log = log.clone();
         log.learn(clause, 0, &members);
-        assert_eq!(log.run().outcome.numbers(), [2, 2, 22, 3, 0]);
+        assert_eq!(log.run().outcome.numbers(), [2, 3, 22, 3, 0]);
     }
 }
 

@@ -164,6 +164,11 @@ fn lines_for_a_person() {
         said("fail", steps),
         "line 18: 14 the value is there already"
     );
+    let steps = "decide - a 7 - - - - -\ndecide - b 8 - - - - -\nfail";
+    assert_eq!(
+        said("fail", steps),
+        "line 18: 27 the value contradicts an equation on the trail"
+    );
     assert_eq!(
         said("e true", "e 65535"),
         "line 13, field 2: 31 malformed: neither true, false, - nor a number up to 65534 without leading zeros"
