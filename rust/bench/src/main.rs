@@ -268,12 +268,18 @@ fn all(bench: &Bench) -> Result<(), String> {
     bench.run("deduce-heavy log", &work::deduce_heavy(), true)?;
     bench.run("conflict-heavy log", &work::conflict_heavy(), true)?;
     bench.run("cut-heavy log", &work::cut_heavy(), true)?;
+    bench.run("decide-heavy log", &work::decide_heavy(), true)?;
+    bench.run("decides, no equation", &work::decide_bare(), true)?;
     bench.run("learn-heavy log", &work::learn_heavy(), true)?;
     bench.run("deep-heavy log", &work::deep_heavy(), true)?;
     bench.run("deep, shared rows", &work::deep_shared(), true)?;
     bench.run("deep, all rows", &work::deep_wide(), true)?;
-    bench.run("wide conflicts", &work::wide_conflicts(256), true)?;
-    bench.run("wide conflicts, 64", &work::wide_conflicts(64), true)?;
+    bench.run("wide conflicts", &work::wide_conflicts(256, [4, 4]), true)?;
+    bench.run(
+        "wide conflicts, 64",
+        &work::wide_conflicts(64, [3, 2]),
+        true,
+    )?;
     bench.run("terms, distinct heads", &work::distinct_heads(), false)?;
     bench.run("terms, one head", &work::one_head(), false)?;
     bench.run("terms, mixed heads", &work::mixed_heads(), false)?;
@@ -310,7 +316,7 @@ fn main() -> ExitCode {
     }
     println!("{}", processor());
     println!(
-        "medians [and least] of {} runs; logs of 65,535 steps",
+        "medians [and least] of {} runs; logs of 65,535 steps, or as many as is said",
         bench.runs
     );
     println!("workspace and trail buffer of the least lengths, not cleared between runs");

@@ -4,6 +4,9 @@ const X: u16 = 65_535;
 const SORT: u16 = 1;
 const MAX_STEPS: usize = 65_535;
 
+/// A value that no constant of the input has.
+const FREE: u16 = 60_000;
+
 const DECIDE: u16 = 0;
 const DEDUCE: u16 = 1;
 const CLASH: u16 = 2;
@@ -21,6 +24,7 @@ const SAME: u16 = 0;
 const SYM: u16 = 3;
 const TRANS: u16 = 4;
 const NEG: u16 = 5;
+const PART: u16 = 6;
 const UNIT: u16 = 7;
 const EVAL: u16 = 8;
 const CONG: u16 = 9;
@@ -100,49 +104,152 @@ impl Sheets {
         self.steps.extend(row);
     }
 
+    /// A constant that has a value from the input, its row number.
+    fn given(&mut self) -> u16 {
+        let term = self.constant(SORT);
+        self.input(term, term);
+        term
+    }
+
+    /// A prop that is true from the input.
+    fn truth(&mut self) -> u16 {
+        let prop = self.constant(0);
+        self.input(prop, 1);
+        prop
+    }
+
     /// Fills the term sheet with constants that have a value from the input.
     fn pad(&mut self, rows: usize) {
         while self.rows() < rows {
-            let term = self.constant(SORT);
-            self.input(term, term);
+            self.given();
+        }
+    }
+}
+
+/// A constant that is decided with one value after another. Each but the last is given
+/// up by a clear, after an equation that was deduced late, of the level below, and that
+/// stands against it from then on, until that level is given up too.
+struct Wheel {
+    slot: u16,
+    /// True at the level below: a prop of level 0, and the mark of the wheel below.
+    below: Vec<u16>,
+    stops: Vec<Stop>,
+    /// An equation that is true at the wheel's level, where another stands above it.
+    mark: Option<u16>,
+}
+
+/// A constant that has the value, the equation, and a denial of it where all that the
+/// wheel has below is true.
+struct Stop {
+    other: u16,
+    equation: u16,
+    denial: u16,
+}
+
+impl Sheets {
+    /// So many wheels, one above the other, each with so many values and one more.
+    fn wheels(&mut self, count: usize, values: usize, ground: u16) -> Vec<Wheel> {
+        let others: Vec<u16> = (0..values).map(|_| self.given()).collect();
+        let mut wheels: Vec<Wheel> = Vec::new();
+        for at in 0..count {
+            let slot = self.constant(SORT);
+            let mark = wheels.last().and_then(|wheel| wheel.mark);
+            let below: Vec<u16> = [ground].into_iter().chain(mark).collect();
+            let stops = others
+                .iter()
+                .map(|&other| self.stop(slot, other, &below))
+                .collect();
+            let mark = (at + 1 < count).then(|| self.prop(EQ, &[slot, slot]));
+            wheels.push(Wheel {
+                slot,
+                below,
+                stops,
+                mark,
+            });
+        }
+        wheels
+    }
+
+    fn stop(&mut self, slot: u16, other: u16, below: &[u16]) -> Stop {
+        let equation = self.prop(EQ, &[slot, other]);
+        let denial = self.prop(AND, &[below, &[equation]].concat());
+        self.input(denial, 0);
+        Stop {
+            other,
+            equation,
+            denial,
         }
     }
 
-    /// Repeats the cycle of steps up to the ceiling, the last one in part.
-    fn repeat(&mut self) {
-        let cycle = self.steps.clone();
-        while self.step_rows() < MAX_STEPS {
-            self.steps.extend(&cycle);
+    /// Turns the wheels, each through all its values at every value of the one below,
+    /// with the body's steps at all values of the last one, up to the ceiling. With a
+    /// ground, the conflicts are resolved down to what that rests on.
+    fn turn(&mut self, wheels: &[Wheel], body: &[u16], ground: Option<u16>) {
+        let Some((wheel, above)) = wheels.split_first() else {
+            self.steps.extend(body);
+            return;
+        };
+        for at in 0..=wheel.stops.len() {
+            if self.step_rows() >= MAX_STEPS {
+                return;
+            }
+            let stop = wheel.stops.get(at);
+            let value = stop.map_or(FREE, |stop| stop.other);
+            self.step(DECIDE, X, wheel.slot, value, &[]);
+            if let Some(mark) = wheel.mark {
+                self.step(DEDUCE, SAME, mark, 1, &[wheel.slot, wheel.slot]);
+            }
+            self.turn(above, body, ground);
+            if let Some(stop) = stop {
+                self.give_up(wheel, stop, ground);
+            }
         }
+    }
+
+    /// The late equation, the clash, and the clear.
+    fn give_up(&mut self, wheel: &Wheel, stop: &Stop, ground: Option<u16>) {
+        let premises = [&[stop.denial], &wheel.below[..]].concat();
+        self.step(DEDUCE, UNIT, stop.equation, 0, &premises);
+        let sides = [wheel.slot, stop.other];
+        self.step(CLASH, SAME, stop.equation, 1, &sides);
+        if let Some(ground) = ground {
+            self.step(RESOLVE, X, stop.equation, X, &[]);
+            self.step(RESOLVE, X, ground, X, &[]);
+        }
+        self.step(CLEAR, X, wheel.slot, X, &[]);
+    }
+
+    /// Repeats the steps so far at the turns of the wheels, up to the ceiling.
+    fn repeat(&mut self, wheels: &[Wheel], ground: Option<u16>) {
+        let body = std::mem::take(&mut self.steps);
+        self.turn(wheels, &body, ground);
+        self.cut();
+    }
+
+    /// Cuts the log at the ceiling; one that is shorter says so.
+    fn cut(&mut self) {
         self.steps.truncate(9 * MAX_STEPS);
+        let steps = self.step_rows();
+        if steps < MAX_STEPS {
+            self.about += &format!(", {steps} steps");
+        }
     }
 
-    /// A term that a decision of 7 on it gets into a conflict at once: its
-    /// equality with an input of 7 is false. Returns the term, the other and the
-    /// equality.
-    fn clearable(&mut self) -> [u16; 3] {
-        let c = self.constant(SORT);
-        let seven = self.constant(SORT);
-        let equality = self.prop(EQ, &[c, seven]);
-        self.input(seven, 7);
-        self.input(equality, 0);
-        [c, seven, equality]
-    }
-
-    fn clash_and_clear(&mut self, [c, seven, equality]: [u16; 3]) {
-        self.step(CLASH, SAME, equality, 1, &[c, seven]);
-        self.step(CLEAR, X, c, X, &[]);
+    /// The length of a cycle of the steps so far: a wheel is decided before them, and
+    /// behind them come the late equation, the clash and the clear.
+    fn cycle(&self) -> usize {
+        self.step_rows() + 4
     }
 }
 
 /// A decision, then deductions from it by same, sym, trans, cong, pred, unit and
-/// eval until the term sheet is used up, then a clash that clears the decision.
+/// eval until the term sheet is used up, then a clash that clears the decision below.
 pub fn deduce_heavy() -> Sheets {
     let mut s = Sheets::new();
     let (f, q) = (s.head(), s.head());
-    let clearable = s.clearable();
-    let [c, seven, _] = clearable;
-    let d = s.constant(SORT);
+    let ground = s.truth();
+    let wheels = s.wheels(4, 4, ground);
+    let [c, d] = [0; 2].map(|_| s.constant(SORT));
     s.input(d, 7);
     s.step(DECIDE, X, c, 7, &[]);
     let (mut x, mut y) = (c, d);
@@ -173,23 +280,22 @@ pub fn deduce_heavy() -> Sheets {
         before = Some(e);
         (x, y) = (s.term(f, SORT, &[x]), s.term(f, SORT, &[y]));
     }
-    s.clash_and_clear([c, seven, clearable[2]]);
     s.pad(256);
-    let cycle = s.step_rows();
+    let cycle = s.cycle();
     s.about = format!("{deduced} deduces of a cycle of {cycle} steps, 256 terms");
-    s.repeat();
+    s.repeat(&wheels, None);
     s
 }
 
-/// A chain of deductions at level 2, a clash at its end, a conflict resolved back
-/// to the decision by way of many resolves, a jump, then a clear of level 1.
+/// A chain of deductions above two decisions, a clash at its end, a conflict resolved
+/// back to the second by way of many resolves, a jump, then a clear below both.
 pub fn conflict_heavy() -> Sheets {
     const LINKS: usize = 24;
     const DETOUR: usize = 48;
     let mut s = Sheets::new();
-    let clearable = s.clearable();
-    let c = clearable[0];
-    let d = s.constant(SORT);
+    let ground = s.truth();
+    let wheels = s.wheels(4, 5, ground);
+    let [c, d] = [0; 2].map(|_| s.constant(SORT));
     s.input(d, 7);
     s.pad(256 - LINKS - 3);
     let low = s.prop(EQ, &[c, d]);
@@ -233,33 +339,29 @@ pub fn conflict_heavy() -> Sheets {
         }
     }
     s.step(JUMP, X, first, X, &[]);
-    s.clash_and_clear(clearable);
-    let cycle = s.step_rows();
+    let cycle = s.cycle();
     s.about =
         format!("{resolves} resolves and {LINKS} deduces of a cycle of {cycle} steps, 256 terms");
-    s.repeat();
+    s.repeat(&wheels, None);
     s
 }
 
-/// Wide conflicts: once, an equality becomes false at level 0, justified by all the
-/// leaves of a tree of conjunctions. Then cycles that resolve it into a conflict,
-/// jump by that conflict, resolve what the jump added, and clear: four steps of
-/// twelve, and two of every six after them, go over a set of all the leaves.
-pub fn wide_conflicts(rows: usize) -> Sheets {
+/// Wide conflicts: once, a prop becomes true at level 0, justified by all the leaves
+/// of a tree of conjunctions. Then cycles that resolve it into a conflict, jump by that
+/// conflict, resolve what the jump added, and clear by a conflict that it is resolved
+/// into too: two steps of every six, and two of the eight around them, go over a set of
+/// all the leaves.
+pub fn wide_conflicts(rows: usize, wheels: [usize; 2]) -> Sheets {
     const ROUNDS: usize = 4;
     let mut s = Sheets::new();
-    let [c, d, other] = [0; 3].map(|_| s.constant(SORT));
-    s.input(d, 7);
+    let [c, other] = [0; 2].map(|_| s.constant(SORT));
     s.input(other, 7);
-    let wide = s.prop(EQ, &[c, d]);
+    let wide = s.constant(0);
     let low = s.prop(EQ, &[c, other]);
-    let not_low = s.prop(NOT, &[low]);
+    let wheels = s.wheels(wheels[0], wheels[1], wide);
     // Of what is left, about three rows of four are leaves, the others the tree.
     let leaves = (rows - s.rows() - 5 - 3 * ROUNDS) * 3 / 4;
-    let mut layer: Vec<u16> = (0..leaves).map(|_| s.constant(0)).collect();
-    for &leaf in &layer {
-        s.input(leaf, 1);
-    }
+    let mut layer: Vec<u16> = (0..leaves).map(|_| s.truth()).collect();
     let mut tree = Vec::new();
     while layer.len() > 1 {
         let mut above = Vec::new();
@@ -275,85 +377,86 @@ pub fn wide_conflicts(rows: usize) -> Sheets {
         }
         layer = above;
     }
-    let both = s.prop(AND, &[layer[0], wide]);
-    let not_both = s.prop(NOT, &[both]);
-    s.input(not_both, 1);
-    s.step(DECIDE, X, wide, 1, &[]);
-    s.step(DEDUCE, EVAL, both, 1, &[layer[0], wide]);
-    s.step(CLASH, NEG, both, 0, &[not_both]);
-    for &and in [both].iter().chain(tree.iter().rev()) {
-        s.step(RESOLVE, X, and, X, &[]);
+    let not_all = s.prop(NOT, &[layer[0]]);
+    let clause = s.prop(OR, &[not_all, wide]);
+    s.input(clause, 1);
+    s.step(DEDUCE, EVAL, not_all, 0, &[layer[0]]);
+    s.step(DECIDE, X, wide, 0, &[]);
+    s.step(CLASH, UNIT, wide, 1, &[clause, not_all]);
+    for &row in [not_all].iter().chain(tree.iter().rev()) {
+        s.step(RESOLVE, X, row, X, &[]);
     }
     s.step(JUMP, X, wide, X, &[]);
     let once = std::mem::take(&mut s.steps);
-    // The cycle: at level 1 the equality `low` holds, so that jumps end there.
+    // The cycle: above the wheels the equality `low` holds, so that jumps end there.
     s.step(DECIDE, X, c, 7, &[]);
     s.step(DEDUCE, SAME, low, 1, &[c, other]);
-    s.step(DEDUCE, EVAL, not_low, 0, &[low]);
     let mut before = wide;
     for round in 0..ROUNDS {
         let atom = s.constant(0);
         let not = s.prop(NOT, &[atom]);
         let args = match round {
-            0 => vec![before, not_low, not],
+            0 => vec![before, low, not],
             _ => vec![before, not],
         };
-        let clause = s.prop(OR, &args);
-        s.input(clause, 1);
+        let clause = s.prop(AND, &args);
+        s.input(clause, 0);
         let mut premises = vec![clause];
         premises.extend(&args[..args.len() - 1]);
-        s.step(DECIDE, X, atom, 1, &[]);
-        s.step(DEDUCE, EVAL, not, 0, &[atom]);
-        s.step(CLASH, UNIT, not, 1, &premises);
+        s.step(DECIDE, X, atom, 0, &[]);
+        s.step(DEDUCE, EVAL, not, 1, &[atom]);
+        s.step(CLASH, UNIT, not, 0, &premises);
         s.step(RESOLVE, X, not, X, &[]);
         s.step(RESOLVE, X, before, X, &[]);
         s.step(JUMP, X, atom, X, &[]);
         before = atom;
     }
-    s.step(CLASH, SAME, wide, 1, &[c, d]);
-    s.step(RESOLVE, X, wide, X, &[]);
-    s.step(CLEAR, X, c, X, &[]);
     s.pad(rows);
-    let cycle = s.step_rows();
+    let cycle = s.cycle() + 2;
     s.about = format!("sets of {leaves} members and more, a cycle of {cycle} steps, {rows} terms");
-    s.repeat();
-    s.steps.splice(0..0, once);
-    s.steps.truncate(9 * MAX_STEPS);
+    let body = std::mem::replace(&mut s.steps, once);
+    s.turn(&wheels, &body, Some(wide));
+    s.cut();
     s
 }
 
-/// Conflicts that end with a learn: rounds of two to four decisions that a rule of
-/// level 1 excludes, and a clause that says so, an or or an and in turns. Two rounds
-/// of three keep all decisions but the last, whose opposite the clause then gives by
-/// unit; the third goes back to the rule's level. A clear of level 1 ends the cycle.
+/// Conflicts that end with a learn: rounds of two to four decisions that a rule of the
+/// first decision's level excludes, and a clause that says so, an or or an and in turns.
+/// Two rounds of three keep all decisions but the last, whose opposite the clause then
+/// gives by unit; the third goes back to the rule's level. A clear below that ends the
+/// cycle.
 pub fn learn_heavy() -> Sheets {
-    const ROUNDS: usize = 24;
+    const ROUNDS: usize = 20;
     let mut s = Sheets::new();
-    let clearable = s.clearable();
-    let c = clearable[0];
-    let d = s.constant(SORT);
+    let ground = s.truth();
+    let wheels = s.wheels(4, 4, ground);
+    let [c, d] = [0; 2].map(|_| s.constant(SORT));
     s.input(d, 7);
     let low = s.prop(EQ, &[c, d]);
     let not_low = s.prop(NOT, &[low]);
     s.step(DECIDE, X, c, 7, &[]);
     s.step(DEDUCE, SAME, low, 1, &[c, d]);
     s.step(DEDUCE, EVAL, not_low, 0, &[low]);
-    let mut top = 1;
+    let first = wheels.len() as u16 + 1;
+    let mut top = first;
     for round in 0..ROUNDS {
         let count = 2 + round % 3;
         let rule = s.excluded(count, round % 4 < 2, not_low);
-        let clause = s.learned(&rule, round % 2 == 0, round % 3 != 2, &mut top);
+        top = match round % 3 {
+            2 => first,
+            _ => top + count as u16 - 1,
+        };
+        let clause = s.learned(&rule, round % 2 == 0, top);
         if round % 3 != 2 {
             s.use_learned(&rule, &clause);
         }
     }
-    s.clash_and_clear(clearable);
     s.pad(256);
-    let cycle = s.step_rows();
+    let cycle = s.cycle();
     let rows = s.steps.chunks(9);
     let deduces = rows.filter(|row| row[0] == DEDUCE).count();
     s.about = format!("{ROUNDS} learns, {deduces} deduces of a cycle of {cycle} steps, 256 terms");
-    s.repeat();
+    s.repeat(&wheels, None);
     s
 }
 
@@ -393,9 +496,8 @@ impl Sheets {
         }
     }
 
-    /// Decides the props, clashes, and learns a clause: an or or an and, keeping all
-    /// decisions but the last one or none above level 1.
-    fn learned(&mut self, rule: &Excluded, or: bool, late: bool, top: &mut u16) -> Learned {
+    /// Decides the props, clashes, and learns a clause: an or or an and, keeping the level.
+    fn learned(&mut self, rule: &Excluded, or: bool, level: u16) -> Learned {
         let head = if or { OR } else { AND };
         let count = rule.props.len();
         let literals: Vec<u16> = (0..count)
@@ -410,8 +512,7 @@ impl Sheets {
             self.step(DECIDE, X, prop, value, &[]);
         }
         self.step(CLASH, EVAL, rule.whole, 1, &rule.props);
-        *top = if late { *top + count as u16 - 1 } else { 1 };
-        self.step(LEARN, X, row, *top, &rule.props);
+        self.step(LEARN, X, row, level, &rule.props);
         Learned {
             row,
             head,
@@ -445,10 +546,10 @@ impl Sheets {
 }
 
 /// Deductions by deep of formulas of two to four layers, each from three to five
-/// premises, one of them at level 1, whose decision a clash clears at the end.
+/// premises, one of them of a decision, which a clear below it drops at the end.
 pub fn deep_heavy() -> Sheets {
     let mut s = Sheets::new();
-    let (clearable, low) = s.level_one();
+    let (wheels, low) = s.low(5);
     let given: Vec<u16> = (0..3).map(|_| s.constant(0)).collect();
     for (at, &prop) in given.iter().enumerate() {
         s.input(prop, at as u16 % 2);
@@ -474,57 +575,54 @@ pub fn deep_heavy() -> Sheets {
         s.step(DEDUCE, DEEP, formula, value, &premises);
         deduced += 1;
     }
-    s.deep_end(clearable, deduced, "deduces of two to four layers")
+    s.deep_end(&wheels, deduced, "deduces of two to four layers")
 }
 
 /// Deductions by deep that go into all rows of eight layers: four rows a layer, each over
 /// all four of the layer below, and on the last of them the conclusions.
 pub fn deep_shared() -> Sheets {
     let mut s = Sheets::new();
-    let (clearable, base) = s.deep_base();
+    let (wheels, base) = s.deep_base(5);
     let mut below = base.clone();
     for _ in 1..8 {
         below = s.layer(&below, 4);
     }
     s.deep_tops(&below, &base, 48);
-    s.deep_end(clearable, 48, "deduces of eight layers of four rows")
+    s.deep_end(&wheels, 48, "deduces of eight layers of four rows")
 }
 
 /// The same over layers of more rows, which are about all that there can be.
 pub fn deep_wide() -> Sheets {
     let mut s = Sheets::new();
-    let (clearable, base) = s.deep_base();
+    let (wheels, base) = s.deep_base(2);
     let mut below = base.clone();
-    for rows in [33, 33, 33, 33, 64, 16, 4] {
+    for rows in [31, 31, 31, 31, 58, 16, 4] {
         below = s.layer(&below, rows);
     }
     s.deep_tops(&below, &base, 24);
-    s.deep_end(clearable, 24, "deduces of eight layers, about all rows")
+    s.deep_end(&wheels, 24, "deduces of eight layers, about all rows")
 }
 
 impl Sheets {
-    /// A cycle begins: a decision, and an equality that follows from it.
-    fn level_one(&mut self) -> ([u16; 3], u16) {
-        let clearable = self.clearable();
-        let c = clearable[0];
-        let d = self.constant(SORT);
+    /// A cycle begins, above so many wheels: a decision, and an equality that follows
+    /// from it.
+    fn low(&mut self, wheels: usize) -> (Vec<Wheel>, u16) {
+        let ground = self.truth();
+        let wheels = self.wheels(wheels, 4, ground);
+        let [c, d] = [0; 2].map(|_| self.constant(SORT));
         self.input(d, 7);
         let low = self.prop(EQ, &[c, d]);
         self.step(DECIDE, X, c, 7, &[]);
         self.step(DEDUCE, SAME, low, 1, &[c, d]);
-        (clearable, low)
+        (wheels, low)
     }
 
-    /// Four premises, all of them true, one at level 1.
-    fn deep_base(&mut self) -> ([u16; 3], Vec<u16>) {
-        let (clearable, low) = self.level_one();
+    /// Four premises, all of them true, one of a decision.
+    fn deep_base(&mut self, wheels: usize) -> (Vec<Wheel>, Vec<u16>) {
+        let (wheels, low) = self.low(wheels);
         let mut base = vec![low];
-        for _ in 0..3 {
-            let prop = self.constant(0);
-            self.input(prop, 1);
-            base.push(prop);
-        }
-        (clearable, base)
+        base.extend((0..3).map(|_| self.truth()));
+        (wheels, base)
     }
 
     /// So many different connectives of four rows of a layer, which has all of these.
@@ -551,25 +649,96 @@ impl Sheets {
     }
 
     /// The end of the cycle, which is repeated.
-    fn deep_end(mut self, clearable: [u16; 3], deduced: u16, about: &str) -> Sheets {
-        self.clash_and_clear(clearable);
-        let (cycle, rows) = (self.step_rows(), self.rows());
+    fn deep_end(mut self, wheels: &[Wheel], deduced: u16, about: &str) -> Sheets {
+        let (cycle, rows) = (self.cycle(), self.rows());
         self.about = format!("{deduced} {about} of a cycle of {cycle} steps, {rows} terms");
-        self.repeat();
+        self.repeat(wheels, None);
         self
     }
 }
 
-/// Decide, clash, clear, over a trail of inputs.
+/// Decide, deduce, clash, clear, over a trail of inputs.
 pub fn cut_heavy() -> Sheets {
     let mut s = Sheets::new();
-    let clearable = s.clearable();
+    let ground = s.truth();
+    let wheels = s.wheels(6, 4, ground);
     s.pad(256);
-    s.step(DECIDE, X, clearable[0], 7, &[]);
-    s.clash_and_clear(clearable);
-    s.about = "cycle of 3 steps over 255 input entries, 256 terms".into();
-    s.repeat();
+    let (cycle, inputs) = (s.cycle(), s.inputs.len() / 2);
+    s.about = format!("cycle of {cycle} steps over {inputs} input entries, 256 terms");
+    s.repeat(&wheels, None);
     s
+}
+
+/// Decisions one above the other, over equations of the input: every other constant that
+/// is decided stands in one, on either side, most equations are of others. A clear below
+/// drops them all.
+pub fn decide_heavy() -> Sheets {
+    const DECIDED: usize = 96;
+    let mut s = Sheets::new();
+    let ground = s.truth();
+    let wheels = s.wheels(4, 5, ground);
+    let others: Vec<u16> = (0..24).map(|_| s.given()).collect();
+    let slots: Vec<u16> = (0..DECIDED).map(|_| s.constant(SORT)).collect();
+    for (at, &slot) in slots.iter().enumerate() {
+        let other = others[at / 4];
+        let mut value = slot;
+        match at % 8 {
+            0 => s.equation([slot, other], 0),
+            2 => s.equation([other, slot], 0),
+            4 => {
+                s.equation([slot, other], 1);
+                value = other;
+            }
+            // The next one has no value yet when this one is decided.
+            6 => s.equation([slots[at + 1], slot], 0),
+            _ => (),
+        }
+        s.step(DECIDE, X, slot, value, &[]);
+    }
+    let mut pairs = (0..24).flat_map(|one| (0..one).map(move |two| [one, two]));
+    while s.rows() < 256 {
+        let pair = pairs.next().expect("a pair for every row");
+        s.equation(pair.map(|at| others[at]), 0);
+    }
+    let equations = s.terms.chunks(6).filter(|row| row[0] == EQ).count();
+    let cycle = s.cycle();
+    s.about =
+        format!("{DECIDED} decides of a cycle of {cycle} steps, {equations} equations, 256 terms");
+    s.repeat(&wheels, None);
+    s
+}
+
+/// The same without any equation: a prop below, and a jump that keeps level 0.
+pub fn decide_bare() -> Sheets {
+    const DECIDED: usize = 96;
+    let mut s = Sheets::new();
+    let slots: Vec<u16> = (0..DECIDED).map(|_| s.constant(SORT)).collect();
+    for _ in 0..20 {
+        let props = [0; 4].map(|_| s.constant(0));
+        let none = s.prop(OR, &props);
+        s.input(none, 0);
+        for prop in props {
+            s.step(DECIDE, X, prop, 1, &[]);
+            for &slot in &slots {
+                s.step(DECIDE, X, slot, slot, &[]);
+            }
+            s.step(CLASH, PART, prop, 0, &[none]);
+            s.step(JUMP, X, prop, X, &[]);
+        }
+    }
+    s.pad(256);
+    let cycle = DECIDED + 3;
+    s.about = format!("{DECIDED} decides of a cycle of {cycle} steps, 256 terms");
+    s.cut();
+    s
+}
+
+impl Sheets {
+    /// An equation that is given.
+    fn equation(&mut self, sides: [u16; 2], value: u16) {
+        let equation = self.prop(EQ, &sides);
+        self.input(equation, value);
+    }
 }
 
 /// The sheets of the deduce-heavy log, without its steps.

@@ -3,7 +3,7 @@
 use crate::grow;
 use crate::problem::{self, X};
 use crate::rng::Rng;
-use crate::{deep, learn};
+use crate::{accept, deep, learn};
 
 #[derive(Clone)]
 pub struct Case {
@@ -23,8 +23,10 @@ pub struct Made {
     /// Steps to try in place of the rest of the log after so many rows; none if
     /// the sheets are damaged.
     pub probes: Vec<(usize, grow::Row)>,
-    /// What the learns of the log and of the probes show; none if the sheets are
+    /// What the decisions of the log and of the probes show; none if the sheets are
     /// damaged.
+    pub decisions: Vec<accept::Shown>,
+    /// What the learns show, likewise.
     pub learns: Vec<learn::Shown>,
     /// What the rows by deep show, likewise.
     pub deeps: Vec<deep::Shown>,
@@ -36,6 +38,7 @@ pub fn make(rng: &mut Rng) -> Made {
         rows,
         late,
         mut probes,
+        mut decisions,
         mut learns,
         mut deeps,
     } = grow::log(rng, &problem);
@@ -49,6 +52,7 @@ pub fn make(rng: &mut Rng) -> Made {
     };
     if rng.percent(30) {
         probes.clear();
+        decisions.clear();
         learns.clear();
         deeps.clear();
         for _ in 0..rng.within(1, 2) {
@@ -60,6 +64,7 @@ pub fn make(rng: &mut Rng) -> Made {
         case,
         late,
         probes,
+        decisions,
         learns,
         deeps,
     }

@@ -1,6 +1,7 @@
 //! Logs grown step by step, each chosen among those allowed at the state the
 //! earlier ones made, then perhaps a step that is not allowed.
 
+use crate::accept::{self, DECIDE};
 use crate::deep::{self, DEEP};
 use crate::learn::{self, Lesson, LEARN};
 use crate::naive::{Entry, Model, Next};
@@ -14,6 +15,10 @@ pub type Row = [u16; 9];
 const DEDUCE: u16 = 1;
 const CLASH: u16 = 2;
 const FAIL: u16 = 7;
+
+/// Steps of a conflict that put their term on the trail.
+const JUMP: u16 = 5;
+const FLIP: u16 = 6;
 
 /// The rule whose uses deep takes too.
 const EVAL: u16 = 8;
@@ -56,9 +61,9 @@ const TRIED: [u16; 35] = [
 ];
 
 /// The numbers to aim at: those of steps, the hard ones more often.
-const TARGETS: [u16; 29] = [
+const TARGETS: [u16; 31] = [
     9, 10, 11, 12, 13, 14, 15, 15, 16, 17, 18, 19, 19, 19, 19, 19, 20, 21, 22, 22, 23, 23, 23, 13,
-    21, 25, 25, 26, 26,
+    21, 25, 25, 26, 26, 27, 27,
 ];
 
 struct Grower<'a> {
@@ -76,8 +81,11 @@ struct Grower<'a> {
     loose: bool,
     equalities: HashMap<(u16, u16), u16>,
     values: Vec<Option<u16>>,
+    /// Of each term on the trail the step that put it there, blank for an input.
+    origins: Vec<u16>,
     late: u64,
     probes: Vec<(usize, Row)>,
+    decisions: Vec<accept::Shown>,
     learns: Vec<learn::Shown>,
     deeps: Vec<deep::Shown>,
 }
@@ -89,7 +97,9 @@ pub struct Log {
     pub late: u64,
     /// Steps to try in place of the rest of the log after so many rows.
     pub probes: Vec<(usize, Row)>,
-    /// What the learns show that were grown or are to be tried.
+    /// What the decisions show that were grown or are to be tried.
+    pub decisions: Vec<accept::Shown>,
+    /// What the learns show, likewise.
     pub learns: Vec<learn::Shown>,
     /// What the rows by deep show.
     pub deeps: Vec<deep::Shown>,
@@ -118,11 +128,13 @@ pub fn log(rng: &mut Rng, problem: &Problem) -> Log {
         plan: Vec::new(),
         loose: false,
         rng,
+        origins: vec![X; model.terms.len()],
         model,
         equalities,
         values: Vec::new(),
         late: 0,
         probes: Vec::new(),
+        decisions: Vec::new(),
         learns: Vec::new(),
         deeps: Vec::new(),
     };
@@ -131,6 +143,7 @@ pub fn log(rng: &mut Rng, problem: &Problem) -> Log {
         rows,
         late: grower.late,
         probes: grower.probes,
+        decisions: grower.decisions,
         learns: grower.learns,
         deeps: grower.deeps,
     }
@@ -160,9 +173,9 @@ impl Grower<'_> {
                 }
             }
             let often = if self.model.conflict.is_some() {
-                40
+                45
             } else {
-                28
+                33
             };
             if self.rng.percent(often) {
                 let row = self.attempt();
@@ -181,7 +194,7 @@ impl Grower<'_> {
             rows.push(row);
             match self.model.next(&row).expect("an allowed step") {
                 Next::Refuted => break,
-                next => self.enter(next),
+                next => self.enter(&row, next),
             }
         }
         while self.rng.percent(20) {
@@ -217,9 +230,14 @@ impl Grower<'_> {
         }
     }
 
-    /// Notes what the row shows, if it is a learn or by deep, or by the rule after it.
+    /// Notes what the row shows, if it is a decision, a learn, or by deep or the rule
+    /// after it.
     fn show(&mut self, row: &Row) {
         match row[0] {
+            DECIDE => {
+                let shown = accept::shown(&self.model, &self.origins, row);
+                self.decisions.push(shown);
+            }
             LEARN => self.learns.push(learn::shown(&self.model, row)),
             DEDUCE | CLASH | FAIL if row[1] == DEEP || row[1] == DEEP + 1 => {
                 self.deeps.push(deep::shown(&self.model, row));
@@ -228,7 +246,10 @@ impl Grower<'_> {
         }
     }
 
-    fn enter(&mut self, next: Next) {
+    fn enter(&mut self, row: &Row, next: Next) {
+        if let DECIDE | DEDUCE | JUMP | FLIP | LEARN = row[0] {
+            self.origins[usize::from(row[2])] = row[0];
+        }
         if let Next::Searching(trail) = &next {
             let kept = |entry: &Entry| trail.iter().any(|other| other.term == entry.term);
             let dropped = self.model.trail.iter().position(|entry| !kept(entry));
@@ -276,12 +297,13 @@ impl Grower<'_> {
 
     /// Now and then a plan of one kind or another, if there is one.
     fn plan_some(&mut self) -> Option<()> {
-        match self.rng.below(20) {
-            0..=1 => self.plan_split(),
-            2..=3 => self.plan_use(),
-            4 => self.plan_lesson(),
-            5..=12 if self.keen => self.plan_lesson(),
-            5..=9 if self.tall => self.plan_use(),
+        match self.rng.below(24) {
+            0..=3 => self.plan_split(),
+            4..=5 => self.plan_use(),
+            6 => self.plan_lesson(),
+            7..=14 if self.keen => self.plan_lesson(),
+            7..=11 if self.tall => self.plan_use(),
+            15..=23 => self.plan_late(),
             _ => None,
         }
     }
@@ -379,6 +401,66 @@ impl Grower<'_> {
         }
         self.plan = rows;
         Some(())
+    }
+
+    /// Plans a clash by same or differ: decide the sides of an equation and deduce it late,
+    /// with the value that they do not give it, from what stands below them or is decided
+    /// there first.
+    fn plan_late(&mut self) -> Option<()> {
+        let rule = *self.rng.pick(&[3, 4, 5, 5, 6, 6, 7, 7, 7, 9, 9, 11, 12]);
+        let (mut found, dreamt) = match self.rng.percent(50) {
+            true => (self.instances(rule), self.values.clone()),
+            false => self.dreamt(rule),
+        };
+        found.retain(|use_| self.can_be_late(use_));
+        if found.is_empty() {
+            return None;
+        }
+        let use_ = self.rng.pick(&found).clone();
+        let sides = self.term(use_.term).1;
+        let mut rows: Vec<Row> = Vec::new();
+        for &premise in &use_.premises {
+            let value = dreamt[usize::from(premise)].unwrap_or(0);
+            rows.push(accept::row(premise, value));
+        }
+        let given = self.given_against(&sides, use_.value);
+        let at = rows.len();
+        for (&side, value) in sides.iter().zip(given) {
+            let place = at + self.rng.below(rows.len() - at + 1);
+            rows.insert(place, accept::row(side, value));
+        }
+        rows.push(use_.row(DEDUCE));
+        rows.push(row(CLASH, use_.value, use_.term, 1 - use_.value, &sides));
+        rows.reverse();
+        self.plan = rows;
+        Some(())
+    }
+
+    /// Whether the use gives an equation a value that decisions on its sides can be
+    /// against.
+    fn can_be_late(&self, use_: &Instance) -> bool {
+        let (head, sides) = self.term(use_.term);
+        let is_open = |side: &u16| self.value(*side).is_none();
+        head == 0
+            && self.value(use_.term).is_none()
+            && sides.iter().any(is_open)
+            && (sides[0] != sides[1] || use_.value == 0)
+    }
+
+    /// Values for the sides of an equation, those that they have and else others, which do
+    /// not give it the value.
+    fn given_against(&mut self, sides: &[u16], value: u16) -> [u16; 2] {
+        let there = [self.value(sides[0]), self.value(sides[1])];
+        let base = there[0].or(there[1]);
+        let base = base.unwrap_or_else(|| self.rng.below(3) as u16);
+        let other = match value {
+            0 => base,
+            _ => base.checked_sub(1).unwrap_or(1),
+        };
+        match there {
+            [None, Some(two)] => [other, two],
+            _ => [base, there[1].unwrap_or(other)],
+        }
     }
 
     /// A rule to try.
@@ -555,6 +637,7 @@ impl Grower<'_> {
         Some(row)
     }
 
+    /// A decision that is allowed, if there is one.
     fn decision(&mut self) -> Option<Row> {
         let free: Vec<u16> = (0..self.model.terms.len() as u16)
             .filter(|&term| self.value(term).is_none())
@@ -562,12 +645,23 @@ impl Grower<'_> {
         if free.is_empty() {
             return None;
         }
-        let mut term = *self.rng.pick(&free);
-        while self.model.is_prop(term) && self.rng.percent(if self.eager { 90 } else { 40 }) {
-            term = *self.rng.pick(&free);
+        for _ in 0..6 {
+            let mut term = *self.rng.pick(&free);
+            while self.model.is_prop(term) && self.rng.percent(if self.eager { 90 } else { 40 }) {
+                term = *self.rng.pick(&free);
+            }
+            if let Some(row) = self.decision_on(term) {
+                return Some(row);
+            }
         }
-        let given = value(self.rng, &self.model.terms[usize::from(term)]);
-        Some(row(0, X, term, given, &[]))
+        free.into_iter().find_map(|term| self.decision_on(term))
+    }
+
+    /// A decision on the term with a value that the trail's equations leave it.
+    fn decision_on(&mut self, term: u16) -> Option<Row> {
+        let wanted = value(self.rng, &self.model.terms[usize::from(term)]);
+        let given = accept::suitable(self.rng, &self.model, term, wanted)?;
+        Some(accept::row(term, given))
     }
 
     /// Some step of the conflict state that is allowed, each kind as likely as
@@ -983,7 +1077,7 @@ impl Grower<'_> {
         let in_conflict = self.model.conflict.is_some();
         let fits = match target {
             9..=11 | 14 | 22 => true,
-            12..=16 | 26 => !in_conflict,
+            12..=16 | 26 | 27 => !in_conflict,
             _ => in_conflict,
         };
         if !fits {
@@ -999,6 +1093,9 @@ impl Grower<'_> {
     fn attempt(&mut self) -> Row {
         let searches = self.model.conflict.is_none();
         let few_rows = self.model.terms.len() <= 8;
+        if let Some(row) = self.near_decision() {
+            return row;
+        }
         if searches && self.rng.percent(if few_rows { 50 } else { 30 }) {
             return self.misplaced();
         }
@@ -1023,6 +1120,15 @@ impl Grower<'_> {
             self.garble(&mut row);
         }
         row
+    }
+
+    /// Now and then a decision near the equations of the trail.
+    fn near_decision(&mut self) -> Option<Row> {
+        let often = if self.model.conflict.is_some() { 2 } else { 8 };
+        match self.rng.percent(often) {
+            true => accept::near(self.rng, &self.model),
+            false => None,
+        }
     }
 
     /// Now and then a row near one by deep or near a learn.

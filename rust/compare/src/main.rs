@@ -11,6 +11,7 @@
 //! the place of each byte. The counts of everything that has to occur are printed, and
 //! a zero fails.
 
+mod accept;
 mod bytes;
 mod case;
 mod deep;
@@ -176,6 +177,7 @@ impl Session {
             mut case,
             late,
             probes,
+            decisions,
             learns,
             deeps,
         } = case::make(rng);
@@ -190,6 +192,9 @@ impl Session {
         // With a buffer too short a probe says no more than the case.
         if outcome[2] == 32 {
             return Ok(());
+        }
+        for shown in &decisions {
+            self.stats.decision(shown);
         }
         for shown in &learns {
             self.stats.learn(shown);

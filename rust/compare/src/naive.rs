@@ -319,10 +319,34 @@ impl Model {
         if self.entry(term).is_some() {
             return Err(14);
         }
-        Ok(self.with_decision(&self.trail, term, value))
+        let trail = self.with_decision(&self.trail, term, value);
+        if !self.is_prop(term) && self.is_dead(&trail, term) {
+            return Err(27);
+        }
+        Ok(Next::Searching(trail))
     }
 
-    fn with_decision(&self, before: &[Entry], term: u16, value: u16) -> Next {
+    /// Whether the trail has a valued u, the term t itself included, and an entry t=u or
+    /// u=t whose value is not what same or differ would give.
+    fn is_dead(&self, trail: &[Entry], term: u16) -> bool {
+        let valued = |entry: &Entry| Premise {
+            row: entry.term,
+            value: entry.value,
+        };
+        let t = trail.iter().find(|entry| entry.term == term);
+        let t = valued(t.expect("the decision"));
+        trail.iter().map(valued).any(|u| {
+            trail.iter().any(|entry| {
+                [[t, u], [u, t]].iter().any(|[left, right]| {
+                    let sides = [*left, *right];
+                    let given = |rule: u16| self.gives(rule, entry.term, entry.value, &sides);
+                    self.row(entry.term) == eq_row(left.row, right.row) && !given(0) && !given(1)
+                })
+            })
+        })
+    }
+
+    fn with_decision(&self, before: &[Entry], term: u16, value: u16) -> Vec<Entry> {
         let level = 1 + before.iter().map(|entry| entry.level).max().unwrap_or(0);
         let mut trail = before.to_vec();
         trail.push(Entry {
@@ -331,7 +355,7 @@ impl Model {
             level,
             reason: None,
         });
-        Next::Searching(trail)
+        trail
     }
 
     fn inferred(&self, rule: u16, term: u16, value: u16, premises: &[u16]) -> Result<(), u16> {
@@ -495,7 +519,9 @@ impl Model {
             return Err(23);
         }
         let level = self.level_of(self.members());
-        Ok(self.with_decision(&self.kept(level - 1), term, 1 - entry.value))
+        let kept = self.kept(level - 1);
+        let trail = self.with_decision(&kept, term, 1 - entry.value);
+        Ok(Next::Searching(trail))
     }
 
     fn learn(&self, clause: u16, to: u16, named: &[u16]) -> Result<Next, u16> {

@@ -424,7 +424,7 @@ impl<'a> Maker<'a> {
     }
 
     /// A connective over equalities of terms that are not the same, sharing a
-    /// side.
+    /// side, now and then in both orders.
     fn split(&mut self) -> Option<()> {
         let sort = self.sort()?;
         let mut there: Vec<u16> = (0..self.terms.len() as u16)
@@ -445,6 +445,10 @@ impl<'a> Maker<'a> {
         }
         let head = if self.rng.percent(70) { 3 } else { 2 };
         self.term(head, 0, &args)?;
+        if self.rng.percent(25) {
+            args.reverse();
+            self.term(head, 0, &args)?;
+        }
         Some(())
     }
 

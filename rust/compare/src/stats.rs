@@ -1,5 +1,6 @@
 //! How often everything occurred.
 
+use crate::accept;
 use crate::deep::{self, DEEP};
 use crate::learn;
 use crate::naive_place::Place;
@@ -10,15 +11,15 @@ use plain::{Checked, Meant, Why};
 use std::collections::BTreeMap;
 
 /// The numbers that a run can be refused with.
-const RUN_NUMBERS: [u16; 28] = [
-    0, 1, 3, 4, 5, 6, 7, 8, 9, 10, 11, 12, 13, 14, 15, 16, 17, 18, 19, 20, 21, 22, 23, 25, 26, 30,
-    31, 32,
+const RUN_NUMBERS: [u16; 29] = [
+    0, 1, 3, 4, 5, 6, 7, 8, 9, 10, 11, 12, 13, 14, 15, 16, 17, 18, 19, 20, 21, 22, 23, 25, 26, 27,
+    30, 31, 32,
 ];
 
 /// The numbers that a person is told of a text.
-const TOLD: [u16; 27] = [
-    1, 2, 3, 4, 5, 6, 7, 8, 9, 10, 11, 12, 13, 14, 15, 16, 17, 18, 19, 20, 21, 22, 23, 25, 26, 30,
-    31,
+const TOLD: [u16; 28] = [
+    1, 2, 3, 4, 5, 6, 7, 8, 9, 10, 11, 12, 13, 14, 15, 16, 17, 18, 19, 20, 21, 22, 23, 25, 26, 27,
+    30, 31,
 ];
 
 /// The numbers of the text reader.
@@ -26,7 +27,7 @@ const TEXT_NUMBERS: [u16; 5] = [0, 2, 30, 31, 32];
 
 /// The numbers that each step can be refused with, in the order of its tests.
 const ORDERS: [&[u16]; 9] = [
-    &[9, 10, 11, 22, 14],
+    &accept::NUMBERS,
     &[9, 10, 11, 22, 12, 13, 14, 15],
     &[9, 10, 11, 22, 12, 13, 16, 26],
     &[9, 10, 11, 17, 18, 19],
@@ -111,6 +112,8 @@ enum Heading {
     Numbers,
     Refusals,
     Standing,
+    Decisions,
+    DecisionBefore,
     Learns,
     Before,
     Deeps,
@@ -140,6 +143,8 @@ impl Heading {
             Heading::Numbers => "numbers of runs",
             Heading::Refusals => "numbers of each step",
             Heading::Standing => "levels of clashes and fails that ended a run",
+            Heading::Decisions => "what decisions showed",
+            Heading::DecisionBefore => "numbers of decisions with a later one's fault too",
             Heading::Learns => "what learns showed",
             Heading::Before => "numbers of learns with a later one's fault too",
             Heading::Deeps => "what rows by deep showed",
@@ -188,7 +193,7 @@ pub const EVENTS: [&str; 22] = [
 
 /// Whether a step was refused with the number.
 pub fn is_of_a_step(number: u16) -> bool {
-    matches!(number, 9..=23 | 25 | 26)
+    matches!(number, 9..=23 | 25..=27)
 }
 
 impl Stats {
@@ -203,6 +208,7 @@ impl Stats {
             stats.expect(uses, &RULE_WORDS);
         }
         stats.expect(Heading::Verdicts, &VERDICTS);
+        stats.expect(Heading::Decisions, &accept::NOTES);
         stats.expect(Heading::Learns, &learn::NOTES);
         stats.expect(Heading::Deeps, &deep::NOTES);
         stats.expect(Heading::Events, &EVENTS);
@@ -216,6 +222,7 @@ impl Stats {
         }
         stats.expect_refusals();
         stats.expect_standing();
+        stats.expect_decision();
         stats.expect_before();
         stats.expect_deep();
         stats.expect_places();
@@ -254,6 +261,18 @@ impl Stats {
                     let name = format!("{}, {one}, {two}", STEP_WORDS[usize::from(step)]);
                     let at = standing(step, premises, opposite);
                     self.expect_one(Heading::Standing, at, name);
+                }
+            }
+        }
+    }
+
+    /// Every number of a decision before every later one that it can come with.
+    fn expect_decision(&mut self) {
+        for (at, &number) in accept::NUMBERS.iter().enumerate() {
+            for (later, &other) in accept::NUMBERS.iter().enumerate().skip(at + 1) {
+                let name = format!("{number} before {other}");
+                if accept::can_be_both(number, other) {
+                    self.expect_one(Heading::DecisionBefore, decision_before(at, later), name);
                 }
             }
         }
@@ -422,6 +441,23 @@ impl Stats {
         }
     }
 
+    /// Counts what a decision that was tried showed.
+    pub fn decision(&mut self, shown: &accept::Shown) {
+        for name in &shown.notes {
+            let at = accept::NOTES.iter().position(|note| note == name);
+            self.add(Heading::Decisions, at.expect("a note listed") as u16, 1);
+        }
+        let place = |number: u16| accept::NUMBERS.iter().position(|&other| other == number);
+        let Some(at) = place(shown.number) else {
+            return;
+        };
+        for later in shown.faults.iter().filter_map(|&number| place(number)) {
+            if later > at {
+                self.add(Heading::DecisionBefore, decision_before(at, later), 1);
+            }
+        }
+    }
+
     /// Counts what a learn that was tried showed.
     pub fn learn(&mut self, shown: &learn::Shown) {
         for name in &shown.notes {
@@ -586,6 +622,11 @@ pub fn expect_place(outcome: [u16; 5], steps: &[u16]) -> Result<(), String> {
 /// The place in the counts of a number of a row by deep before a later one.
 fn deep_before(step: u16, at: usize, later: usize) -> u16 {
     100 * step + (10 * at + later) as u16
+}
+
+/// The place in the counts of a number of a decision before a later one.
+fn decision_before(at: usize, later: usize) -> u16 {
+    (accept::NUMBERS.len() * at + later) as u16
 }
 
 /// The place in the counts of a number of learn before a later one.

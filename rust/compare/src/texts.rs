@@ -5,6 +5,7 @@ use crate::case::Case;
 use crate::deep::{self, DEEP};
 use crate::learn::LEARN;
 use crate::rng::Rng;
+use crate::stats::is_of_a_step;
 use crate::{compare_run, naive, naive_text, numbers, print, run_with, Session};
 use plain::{Checked, Read};
 use std::fmt::Debug;
@@ -298,7 +299,7 @@ fn expect_refusal(text: &[u8], checked: &Checked, read: &Read) -> Result<(), Str
 /// by the slow reader and the slow checker: so with it, and open without it.
 fn expect_line(text: &[u8], checked: &Checked) -> Result<(), String> {
     let number = checked.outcome.number;
-    if !matches!(number, 1 | 3..=23 | 25 | 26) {
+    if !matches!(number, 1 | 3..=8) && !is_of_a_step(number) {
         return Ok(());
     }
     let line = checked.line as usize;

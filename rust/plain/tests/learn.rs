@@ -25,12 +25,13 @@ const UNIT: u16 = 7;
 const EVAL: u16 = 8;
 
 /// The rows that every rig has: two slots and whether they are one, then four
-/// dimmers that are on or off and their negations.
+/// dimmers that are on or off and their negations, then whether the slots are two.
 const A: u16 = 0;
 const B: u16 = 1;
 const E: u16 = 2;
 const ON: [u16; 4] = [3, 4, 5, 6];
 const OFF: [u16; 4] = [7, 8, 9, 10];
+const APART: u16 = 11;
 
 fn step(kind: u16, rule: u16, term: u16, value: u16, premises: &[u16]) -> [u16; 9] {
     let mut row = [X; 9];
@@ -65,6 +66,7 @@ impl Rig {
         for dimmer in ON {
             rig.prop(NOT, &[dimmer]);
         }
+        rig.prop(NOT, &[E]);
         rig
     }
 
@@ -249,7 +251,7 @@ fn with_a_rest() -> (Rig, u16, u16) {
     let whole = rig.prop(AND, &ON[..2]);
     let clause = rig.prop(OR, &[OFF[1], OFF[0]]);
     rig.input(B, 7);
-    rig.input(E, 0);
+    rig.input(APART, 1);
     rig.decide(whole, 0);
     rig.decide(A, 7);
     rig.decide(ON[0], 1);
@@ -264,7 +266,7 @@ fn levels() {
     let members = &ON[..2];
     let trail = [
         [B, 7, 0, 0],
-        [E, 0, 0, 0],
+        [APART, 1, 0, 0],
         [whole, 0, 1, 1],
         [A, 7, 2, 1],
         [ON[0], 1, 3, 1],
@@ -304,13 +306,15 @@ fn a_conflict_below_the_top() {
 fn a_late_clause_is_kept_and_used() {
     let (mut rig, whole, clause) = with_a_rest();
     rig.steps.push(learn(clause, 2, &ON[..2]));
+    rig.step(DEDUCE, NEG, E, 0, &[APART]);
     rig.step(CLASH, SAME, E, 1, &[A, B]);
     rig.step(CLEAR, X, A, X, &[]);
     let kept = vec![
         [B, 7, 0, 0],
-        [E, 0, 0, 0],
+        [APART, 1, 0, 0],
         [whole, 0, 1, 1],
         [clause, 1, 1, 0],
+        [E, 0, 0, 0],
     ];
     assert_eq!(rig.run().1, kept);
     rig.decide(ON[0], 1);
@@ -319,8 +323,8 @@ fn a_late_clause_is_kept_and_used() {
     rig.step(DEDUCE, NEG, ON[1], 0, &[OFF[1]]);
     let used = [[OFF[0], 0, 2, 0], [OFF[1], 1, 2, 0], [ON[1], 0, 2, 0]];
     let (result, trail) = rig.run();
-    assert_eq!(result, [OPEN, 12, 0, 8]);
-    assert_eq!(trail[5..], used);
+    assert_eq!(result, [OPEN, 13, 0, 9]);
+    assert_eq!(trail[6..], used);
 }
 
 /// The justification is the rest: resolving the clause brings it back.
@@ -441,9 +445,10 @@ fn a_negated_negation() {
 fn slots() -> Rig {
     let mut rig = Rig::new();
     rig.input(B, 7);
-    rig.input(E, 0);
+    rig.input(APART, 1);
     rig.decide(ON[0], 1);
     rig.decide(A, 7);
+    rig.step(DEDUCE, NEG, E, 0, &[APART]);
     rig.step(CLASH, SAME, E, 1, &[A, B]);
     rig
 }
@@ -529,10 +534,9 @@ fn the_order() {
 #[test]
 fn members_of_sort_prop() {
     let mut rig = slots();
-    let not = rig.prop(NOT, &[E]);
-    let clause = rig.prop(OR, &[E, not]);
+    let clause = rig.prop(OR, &[E, APART]);
     for named in [[A, B], [A, E], [E, A], [B, E]] {
-        for term in [clause, E, A, not] {
+        for term in [clause, E, A, APART] {
             assert_eq!(rig.number(learn(term, 0, &named)), 22);
         }
     }

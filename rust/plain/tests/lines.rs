@@ -354,9 +354,9 @@ fn lines_of_learn() {
 /// 22 by a member that is not of sort prop.
 #[test]
 fn a_slot_is_no_literal() {
-    let text = LEARNT.replace(
+    let text = LEARNT.replace("one false\n", "").replace(
         "clash eval both true p q - - -",
-        "decide - a 7 - - - - -\nclash same one true a b - - -",
+        "decide - a 7 - - - - -\ndecide - one false - - - - -\nclash same one true a b - - -",
     );
     for members in ["a one", "one a", "a b"] {
         let text = text.replace("either 0 p q", &format!("either 0 {members}"));

@@ -197,7 +197,7 @@ fn clash_or_fail_by_the_level() {
     assert_eq!(cong(&[], &[decide(E, 1), decide(G, 0)]), opened(3));
     let late = step(1, 5, E, 0, &[NOT_E]);
     let same = |before: &[[u16; 9]]| both(&[[NOT_E, 1], [A, 7]], before, 0, E, &[A, B]);
-    assert_eq!(same(&[late, decide(FA, 1), decide(B, 7)]), opened(4));
+    assert_eq!(same(&[decide(B, 7), decide(FA, 1), late]), opened(4));
     assert_eq!(same(&[decide(B, 7), late]), opened(3));
     assert_eq!(
         both(&[[NOT_E, 1], [A, 7], [B, 7]], &[late], 0, E, &[A, B]),
