@@ -2,11 +2,12 @@
 // side are held against what same or differ would give.
 ghost use mathlib.Core.Path.{_≡_};
 ghost use mathlib.Core.Bool.{true, _||_};
+ghost use Prim.Native.Nat.{_<_, _≤_};
 ghost use lib.Dec.{eqb};
 ghost use Rattle.calculus.specs.Trail.{on, entry, valueAt};
 ghost use Rattle.calculus.specs.Steps.{misfits, opposes, acceptable};
 ghost use Rattle.trail.specs.Words.{trailIn, Laid};
-ghost use Rattle.acceptance.specs.Added.{added, Decidable};
+ghost use Rattle.acceptance.specs.Added.{added, rowAt, isSide, Decidable, Skipped};
 use calculus::Row;
 use rule_claims::EQ;
 
@@ -82,9 +83,46 @@ fn opposes(
     false
 }
 
-// ---- the decision
+// ---- the trail, entry by entry
 
-// Whether t with the value v is acceptable.
+// The row of the entry at i, the oldest entry being at 0.
+fn row_at(work: &[u64], w: usize, n: usize, count: usize, i: usize) -> Row
+    requires { ⌜ Laid w n (now work) count × (i < count) ⌝ }
+    ensures { λ r. ⌜ r .0 ≡ rowAt w n (now (work .entry)) i ⌝ }
+{
+    Row(work[n * w + 3 * n + i] as u16)
+}
+
+// Whether t is the first or the second argument of the entry at i.
+fn has_side(terms: &[u16], work: &[u64], w: usize, n: usize, count: usize, t: Row, i: usize) -> bool
+    requires { ⌜ Decidable w n (now terms) (now work) count (t .0) × (i < count) ⌝ }
+    ensures { λ r. ⌜ r ≡ isSide (now (terms .entry)) (t .0) (rowAt w n (now (work .entry)) i) ⌝ }
+{
+    let l = row_at(work, w, n, count, i);
+    let k = l.0 as usize * 6;
+    (terms[k + 2] == t.0) | (terms[k + 3] == t.0)
+}
+
+// A place before which no entry from `from` on has t there: four entries are asked at a time, while none of them has.
+fn skip(terms: &[u16], work: &[u64], w: usize, n: usize, count: usize, t: Row, from: usize) -> usize
+    requires { ⌜ Decidable w n (now terms) (now work) count (t .0) × (from ≤ count) ⌝ }
+    ensures { λ r. ⌜ Skipped w n (now (terms .entry)) (now (work .entry)) count (t .0) from r ⌝ }
+{
+    let mut i = from;
+    while count - i >= 4 {
+        let first = has_side(terms, work, w, n, count, t, i);
+        let second = has_side(terms, work, w, n, count, t, i + 1);
+        let third = has_side(terms, work, w, n, count, t, i + 2);
+        let fourth = has_side(terms, work, w, n, count, t, i + 3);
+        if first | (second | (third | fourth)) {
+            return i;
+        }
+        i += 4;
+    }
+    i
+}
+
+// Whether t with the value v is acceptable. Most entries do not have t as an argument, and are passed four at a time.
 pub fn acceptable(
     terms: &[u16],
     work: &[u64],
@@ -100,12 +138,17 @@ pub fn acceptable(
     if state::is_prop(terms, t) {
         return true;
     }
-    let b = n * w + 3 * n;
-    for i in 0..count {
-        let l = Row(work[b + i] as u16);
+    let mut i = 0;
+    while i < count {
+        i = skip(terms, work, w, n, count, t, i);
+        if i == count {
+            return true;
+        }
+        let l = row_at(work, w, n, count, i);
         if opposes(terms, work, w, n, count, t, v, l) {
             return false;
         }
+        i += 1;
     }
     true
 }
