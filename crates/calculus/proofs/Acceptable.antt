@@ -5,7 +5,7 @@ use mathlib.Core.List.{List, _∷_}
 use Prim.Native.Nat.{ℕ}
 use lib.Dec.{T, eqb}
 use Rattle.calculus.specs.Terms.{prop, eqHead}
-use Rattle.calculus.specs.Trail.{Trail, Entry, everything, on, entry, valueAt, holds, decision}
+use Rattle.calculus.specs.Trail.{Trail, everything, on, entry, valueAt, holds, decision}
 use Rattle.calculus.specs.Rules.{isHead}
 use Rattle.calculus.specs.Steps.{opposes, acceptable}
 

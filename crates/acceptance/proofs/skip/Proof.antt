@@ -1,7 +1,6 @@
 -- `acceptance::skip` meets its contract. No entry passed has t as an argument. Assumes nothing.
 use Prim.Native.Nat.{_-_}
 use native.Mathlib.Omega.{arith}
-use borrow.Author.Needs.{needs}
 use Rattle.acceptance.specs.Added.{Skipped}
 use Rattle.acceptance.proofs.Laws.{skipped-none, skipped-four}
 use Rattle.acceptance.proofs.skip.Statement.{statement}
