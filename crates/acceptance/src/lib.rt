@@ -68,7 +68,8 @@ fn opposes(
     l: Row,
 ) -> bool
     requires { ⌜ Decidable w n (now terms) (now work) count (t .0) × (on (trailIn w n (now work) count) (l .0) ≡ true) ⌝ }
-    ensures { λ r. ⌜ r ≡ opposes (now (terms .entry)) (added w n (now (work .entry)) count (t .0) v) (t .0) (entry (trailIn w n (now (work .entry)) count) (l .0)) ⌝ }
+    ensures { λ r. ⌜ r ≡ opposes (now (terms .entry)) (added w n (now (work .entry)) count (t .0) v) (t .0)
+        (entry (trailIn w n (now (work .entry)) count) (l .0)) ⌝ }
 {
     let i = l.0 as usize * 6;
     if terms[i] != EQ {
