@@ -1,5 +1,5 @@
 -- Each number comes from its own sheet.
-use mathlib.Core.Path.{◌≡◌, refl}
+use mathlib.Core.Path.{◌≡◌, refl, sym, subst}
 use mathlib.Core.Bool.{Bool, true, false, ◌&&◌}
 use mathlib.Core.List.{List}
 use Prim.Native.Nat.{ℕ, zero, suc, ◌+◌, ◌≤◌, ◌<◌}
@@ -163,11 +163,16 @@ module _ (x : Call) (ok : call_refusal x ≡ 0) where
   unfolding ending ending_of
   ended_place = rw ok (run_place x.terms x.steps (start x) 0 (step_rows x.steps))
 
-  ended : EndBlame x.terms x.steps (ending x) (step_rows x.steps)
+  ending_run : ending x ≡ run x.terms x.steps (start x) 0 (step_rows x.steps)
   unfolding ending ending_of
+  ending_run = rw ok refl
+
+  ended : EndBlame x.terms x.steps (ending x) (step_rows x.steps)
   ended =
       let e : 0 + step_rows x.steps ≡ step_rows x.steps = omega arith in
-      rw ok (rw e at (run_blame x.terms x.steps (start x) 0 (step_rows x.steps)))
+      let b = run_blame x.terms x.steps (start x) 0 (step_rows x.steps) in
+      subst (λ (g : Ending). EndBlame x.terms x.steps g (step_rows x.steps)) (sym ending_run)
+      (subst (EndBlame x.terms x.steps (run x.terms x.steps (start x) 0 (step_rows x.steps))) e b)
 
 -- refused before any step
 away_place : (x : Call) (c : ℕ) → call_refusal x ≡ c → (c ≡ 0 → ⊥) → (ending x).place ≡ 0

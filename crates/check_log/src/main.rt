@@ -1,5 +1,6 @@
 // Reads the four sheets as text from standard input to its end, runs the log, and prints the result, and on standard error what a person is told of
 // a refusal. Arguments are not looked at.
+#![tactic(auto)]
 ghost use Rattle.std.specs.Prelude.{◌≡◌, ◌≤◌, take};
 ghost use Rattle.text_rows.specs.View.{Bounded};
 ghost use Rattle.text_stream.specs.Stream.{stream_of};
@@ -9,7 +10,7 @@ use libc::{STDERR_FILENO, STDIN_FILENO, STDOUT_FILENO};
 use text_stream::Progress;
 
 // After a read: whether it failed, how many bytes it gave, 0 at the end of the input, and what the reader carries.
-#[derive(Drop)]
+#[derive(Clone, Copy)]
 struct Piece {
     failed: bool,
     size: usize,
@@ -17,7 +18,7 @@ struct Piece {
 }
 
 // After the last read: whether it failed, how many bytes came in all, and what the reader carries.
-#[derive(Drop)]
+#[derive(Clone, Copy)]
 struct Read {
     failed: bool,
     bytes: u64,
@@ -25,7 +26,7 @@ struct Read {
 }
 
 // After the end of the input: whether it could not be read, how many bytes came, and how many are to be printed and told.
-#[derive(Drop)]
+#[derive(Clone, Copy)]
 struct Spell {
     failed: bool,
     bytes: u64,

@@ -1,4 +1,5 @@
 // Clausal forms: whether a clause, which is an or or an and, has the opposites of some assignments as its arguments.
+#![tactic(auto)]
 ghost use Rattle.std.specs.Prelude.{◌≡◌, false, not, ◌&&◌, suc, ◌≤◌, eqb, length, drop, [], ◌∷◌};
 ghost use Rattle.calculus.specs.Lists.{all};
 ghost use Rattle.calculus.specs.Clauses.{different, is_clause, clause_value, literal, paired, clausal};
@@ -11,7 +12,7 @@ use rows::{BLANK, term_at};
 use rule_claims::{AND, NOT, OR};
 
 // Up to four members with their values. One whose row is blank is none, and those after it are not read.
-#[derive(Drop)]
+#[derive(Clone, Copy)]
 pub struct Members {
     pub p: Premise,
     pub q: Premise,
@@ -20,7 +21,7 @@ pub struct Members {
 }
 
 // The arguments that are left, before the first blank.
-#[derive(Drop)]
+#[derive(Clone, Copy)]
 pub struct Left {
     pub a: u16,
     pub b: u16,

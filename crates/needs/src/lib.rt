@@ -1,5 +1,6 @@
 // The premises that a rule needs for a term and its value: rows that are still open follow from the first premise, or are found in the term sheet.
 // Finding an equality reads up to N rows, where the sheet has N: sym, trans and skip find one, cong and pred four; the other rules find none.
+#![tactic(auto)]
 ghost use Rattle.std.specs.Prelude.{◌≡◌, cond, [], ◌∷◌, map, ◌<◌, ◌≤◌, min, eqb, length};
 ghost use Rattle.calculus.specs.declared.Rule.TheVariants.{Same, Differ, Symmetry, Transitivity, Negated, Part, Unit, Evaluation, Congruence, Predicate, Skip};
 ghost use Rattle.calculus.specs.Lists.{opposite};
@@ -15,7 +16,7 @@ use rows::{BLANK, term_at};
 use rule_claims::{EQ, is_eq};
 
 // The first `count` of five premises, from the left; what stands after them is not read.
-#[derive(Drop)]
+#[derive(Clone, Copy)]
 pub struct Columns {
     pub count: u16,
     pub p: Premise,
@@ -26,7 +27,7 @@ pub struct Columns {
 }
 
 // What the premises follow from: the term, its value, the first premise, and the way where there are several.
-#[derive(Drop)]
+#[derive(Clone, Copy)]
 pub struct Known {
     pub term: Row,
     pub value: u16,

@@ -1,4 +1,5 @@
 // The reader of the four sheets as text: its beginning, its end, and a whole text at once.
+#![tactic(auto)]
 ghost use Rattle.std.specs.Prelude.{◌≡◌, List, ℕ, ◌≤◌};
 ghost use Rattle.text_fields.specs.Split.{pick};
 ghost use Rattle.text_rows.specs.View.{kept_of, Bounded};
@@ -14,7 +15,7 @@ use text_rows::Counts;
 use text_stream::Progress;
 
 // A fault: its number, its line, its place, and why the line is malformed; all 0 where there is none.
-#[derive(Drop)]
+#[derive(Clone, Copy)]
 struct Fault {
     number: u16,
     line: u64,
@@ -25,7 +26,7 @@ struct Fault {
 // What the reading of a text returns: its number, the rows of the four sheets, the number of the cause where a line is malformed, and line
 // and place of the first bad line.
 #[repr(C)]
-#[derive(Drop)]
+#[derive(Clone, Copy)]
 pub struct ReadOutcome {
     pub number: u16,
     pub sorts: u16,

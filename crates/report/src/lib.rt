@@ -1,4 +1,5 @@
 // What is printed: a result for a program to read, and a complaint for a person. Both answer for a buffer of any length.
+#![tactic(auto)]
 ghost use Rattle.std.specs.Prelude.{◌≡◌, ◌+◌, ◌%◌, ◌≤◌, length};
 ghost use Rattle.report.specs.Lines.{NextLine, LineFrom, IsLine};
 ghost use Rattle.report.specs.Put.{Put, Laid};
@@ -16,7 +17,7 @@ pub const CLASH_MEANT: u16 = 13;
 
 // What is wrong with a text or a call: the number of the refusal or 0, the line or 0, its field or 0, and the number of the
 // cause or 0: what makes a text malformed, or which line was meant.
-#[derive(Drop)]
+#[derive(Clone, Copy)]
 pub struct Complaint {
     pub number: u16,
     pub line: u64,

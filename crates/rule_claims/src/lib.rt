@@ -1,4 +1,5 @@
 // What a deduce, clash or fail row claims, and what the fourteen rules share: how many premises there are, and the shape of a term.
+#![tactic(auto)]
 ghost use Rattle.std.specs.Prelude.{◌≡◌, ◌&&◌, not, max, eqb};
 ghost use Rattle.calculus.specs.Lists.{num};
 ghost use Rattle.calculus.specs.Terms.{eq_head};
@@ -25,7 +26,7 @@ pub const FIRST_FREE: u16 = 16;
 // A term, its value, and the premises with their values on the trail.
 // A premise whose row is blank is none, and those after it are not read. (The value stands last: beside the term the two would be copied as one word,
 // and such a copy waits until both have been stored.)
-#[derive(Drop)]
+#[derive(Clone, Copy)]
 pub struct Claim {
     pub term: Row,
     pub p: Premise,

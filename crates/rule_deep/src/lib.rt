@@ -1,5 +1,6 @@
 // From premises through several layers of not, and, or to the value of the formula above them: deep.
 // What the walk has found of a row is remembered, so that each row of a formula is walked once, however many rows share it.
+#![tactic(auto)]
 ghost use Rattle.std.specs.Prelude.{◌≡◌, ◌≢◌, true, false, cond, List, [], ◌∷◌, ◌+◌, ◌*◌, ◌/◌, ◌≤◌, ◌<◌, leb, get_or};
 ghost use Rattle.calculus.specs.declared.Premise.{Premise};
 ghost use Rattle.calculus.specs.declared.Rule.TheVariants.{Deep};
@@ -18,7 +19,7 @@ const LAYERS: u16 = 8;
 
 // What a walk finds: how many connectives lie on its longest path, which premises it meets, premise j as bit j, and whether the row is true that it
 // starts from, or that has the rows it starts from as its arguments.
-#[derive(Drop)]
+#[derive(Clone, Copy)]
 pub struct Walked {
     pub height: u16,
     pub met: u16,

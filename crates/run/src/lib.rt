@@ -1,4 +1,5 @@
 // The run of a step sheet, until it refutes the input, runs out or meets a step that no rule allows.
+#![tactic(auto)]
 ghost use Rattle.std.specs.Prelude.{◌≡◌, ◌<◌, ◌≤◌};
 ghost use Rattle.calculus.specs.Sheets.{step_rows};
 ghost use Rattle.state.specs.States.{Standing};
@@ -8,7 +9,7 @@ use calculus::Verdict;
 use state::{Answer, Status};
 
 // How a run ended: the verdict, the steps allowed, the number of the refusal or 0, its place or 0, and where it stands.
-#[derive(Drop)]
+#[derive(Clone, Copy)]
 pub struct Ended {
     pub verdict: Verdict,
     pub steps: u16,

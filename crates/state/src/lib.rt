@@ -1,4 +1,5 @@
 // Where a run stands, what a step answers, and look-ups on the trail, which any number may be asked of but for a level.
+#![tactic(auto)]
 ghost use Rattle.std.specs.Prelude.{◌≡◌, true, ◌<◌};
 ghost use Rattle.calculus.specs.Sheets.{term_rows};
 ghost use Rattle.calculus.specs.Terms.{prop};
@@ -9,7 +10,7 @@ use calculus::{Level, Refusal, Row};
 use rows::BLANK;
 
 // How many entries the trail has, its greatest level, and whether there is a conflict.
-#[derive(Drop)]
+#[derive(Clone, Copy)]
 pub struct Status {
     pub count: usize,
     pub top: Level,
@@ -17,7 +18,7 @@ pub struct Status {
 }
 
 // What a step answers: the status after an allowed one, or the number that it is refused with and its place.
-#[derive(Drop)]
+#[derive(Clone, Copy)]
 pub enum Answer {
     Allowed(Status),
     Refuted,

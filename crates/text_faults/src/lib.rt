@@ -1,4 +1,5 @@
 // Why a line is malformed, for a person to act on.
+#![tactic(auto)]
 ghost use Rattle.std.specs.Prelude.{◌≡◌, take};
 ghost use Rattle.text_fields.specs.Class.{class_of};
 ghost use Rattle.text_faults.specs.Why.{holds as Why·holds, marked, is_plain, plain, header_why, row_why, why_number};
@@ -8,7 +9,7 @@ use text_fields::ByteClass;
 // Why a text is malformed: a byte order mark, a carriage return, a line that is too long, another line than the header, an empty line behind the
 // last sheet, a byte that no field may have, fields or spaces too many or too few, a name that is too long, no value, an end before the step
 // sheet's header, an end inside a line. `Fine` where no line is.
-#[derive(Drop)]
+#[derive(Clone, Copy)]
 pub enum Why {
     Fine,
     Mark,

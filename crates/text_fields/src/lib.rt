@@ -1,11 +1,12 @@
 // Bytes of a text: their classes, where one stands first, whether two runs of them are the same. Every function answers for any bytes.
+#![tactic(auto)]
 ghost use Rattle.std.specs.Prelude.{◌≡◌, false, ◌+◌, ◌≤◌, length, drop};
 ghost use Rattle.text_fields.specs.Split.{before, same as sameBytes};
 ghost use Rattle.text_fields.specs.Class.{class_of, is_newline, class_table};
 ghost use Rattle.text_fields.specs.Fours.{Passes};
 
 // The class of a byte.
-#[derive(Drop)]
+#[derive(Clone, Copy)]
 pub enum ByteClass {
     Space,
     Newline,
@@ -16,20 +17,20 @@ pub enum ByteClass {
 // A letter for each byte.
 pub type Classes = [u8; 256];
 
-#[derive(Drop)]
+#[derive(Clone, Copy)]
 pub enum Value {
     Number(u16),
     Malformed,
 }
 
-#[derive(Drop)]
+#[derive(Clone, Copy)]
 pub enum Found {
     At(usize),
     Nothing,
 }
 
 // Whether a line is well formed; if not, the field at fault, counted from 1, or 0 for the line as a whole.
-#[derive(Drop)]
+#[derive(Clone, Copy)]
 pub enum Shape {
     Good,
     Faulty(usize),

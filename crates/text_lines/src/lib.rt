@@ -1,4 +1,5 @@
 // What one line of a text does to the reader's state and to the lent sheets.
+#![tactic(auto)]
 ghost use Rattle.std.specs.Prelude.{◌≡◌, List, ℕ, ◌+◌, ◌≤◌, ◌<◌, ◌^◌, length, set};
 ghost use Rattle.std.proofs.lemmas.List.Edits.{sets};
 ghost use Rattle.text_fields.specs.Split.{pieces, same};
@@ -12,7 +13,7 @@ use text_fields::Classes;
 use text_rows::{Counts, Row};
 
 // The sheets, in the order of the text.
-#[derive(Drop)]
+#[derive(Clone, Copy)]
 pub enum Sheet {
     Sorts,
     Terms,
@@ -21,7 +22,7 @@ pub enum Sheet {
 }
 
 // Where the reading of lines stands.
-#[derive(Drop)]
+#[derive(Clone, Copy)]
 pub struct Core {
     pub number: u16,
     pub why: Why,
@@ -33,7 +34,7 @@ pub struct Core {
 }
 
 // What a line does: where the reading stands after it, and the first `width` numbers of its row.
-#[derive(Drop)]
+#[derive(Clone, Copy)]
 struct Step {
     core: Core,
     cells: [u16; 9],

@@ -1,4 +1,5 @@
 // A lent list of bytes with tables of names: 67 bytes for each name, and behind the slots the tree of the names of each tag.
+#![tactic(auto)]
 ghost use Rattle.std.specs.Prelude.{◌≡◌, ◌+◌, ◌*◌, ◌≤◌, ◌<◌, length};
 ghost use Rattle.std.proofs.Math.Seq.{paste};
 ghost use Rattle.text_fields.specs.Words.{index_from};
@@ -8,7 +9,7 @@ ghost use Rattle.text_names.specs.Table.{tag_at, held, first_place, below_place,
 use text_fields::Found;
 
 // Where the search for a name ends: at the name that has it, or at the place for the number of a new one.
-#[derive(Drop)]
+#[derive(Clone, Copy)]
 pub enum Spot {
     Held(usize),
     Free(usize),

@@ -1,8 +1,9 @@
 // The reader's position: its line number and its place in that line.
+#![tactic(auto)]
 ghost use Rattle.std.specs.Prelude.{◌≡◌};
 ghost use Rattle.text_position.specs.Place.{next_line, next_start, advanced};
 
-#[derive(Drop)]
+#[derive(Clone, Copy)]
 pub struct Position {
     pub line: usize,
     pub at: usize,

@@ -1,4 +1,5 @@
 // What all rows share: bad lines, and what a field says of the sorts and terms so far.
+#![tactic(auto)]
 ghost use Rattle.std.specs.Prelude.{◌≡◌, List, [], ℕ, ◌+◌, ◌≤◌, ◌<◌, get_or};
 ghost use Rattle.text_fields.specs.Split.{pieces};
 ghost use Rattle.text_fields.specs.Words.{ref_of};
@@ -10,7 +11,7 @@ ghost use Rattle.text_rows.specs.View.{kept_of, taken_of, Bounded, Within};
 use text_fields::Found;
 
 // How many names and rows there are.
-#[derive(Drop)]
+#[derive(Clone, Copy)]
 pub struct Counts {
     pub sorts: usize,
     pub terms: usize,
@@ -20,7 +21,7 @@ pub struct Counts {
 }
 
 // What a line of values does: the number and place of its fault, the counts after it, and the first `width` numbers of its row.
-#[derive(Drop)]
+#[derive(Clone, Copy)]
 pub struct Row {
     pub number: u16,
     pub place: usize,

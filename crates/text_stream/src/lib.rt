@@ -1,4 +1,5 @@
 // A text in pieces: bytes are held until a newline ends their line, and a line that stands whole in a piece is read where it stands.
+#![tactic(auto)]
 ghost use Rattle.std.specs.Prelude.{◌≡◌, ◌&&◌, [], ◌+◌, ◌≤◌, eqb, ltb, length, take};
 ghost use Rattle.text_fields.specs.Split.{pick, before};
 ghost use Rattle.text_fields.specs.Class.{class_table};
@@ -12,7 +13,7 @@ use text_lines::Core;
 use text_position::Position;
 
 // What the reader carries from piece to piece.
-#[derive(Drop)]
+#[derive(Clone, Copy)]
 pub struct Progress {
     pub pos: Position,
     pub core: Core,

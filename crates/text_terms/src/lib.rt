@@ -1,4 +1,5 @@
 // Rows of terms.
+#![tactic(auto)]
 ghost use Rattle.std.specs.Prelude.{◌≡◌, true, false, [], ◌≤◌, ◌<◌, length, get_or};
 ghost use Rattle.text_fields.specs.Split.{pieces};
 ghost use Rattle.text_fields.specs.Class.{class_table, named};
@@ -14,7 +15,7 @@ use text_fields::{Classes, Found, Shape};
 use text_rows::{Counts, Row};
 
 // The number of a head, and how many free heads there are with it.
-#[derive(Drop)]
+#[derive(Clone, Copy)]
 struct HeadNumber {
     number: u16,
     heads: usize,

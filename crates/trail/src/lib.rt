@@ -1,5 +1,6 @@
 // The trail in a lent workspace, by term: a look-up reads the words of one term. The layout is in specs/Words; w is the words of a set,
 // `terms` the term rows, n the entries.
+#![tactic(auto)]
 ghost use Rattle.std.specs.Prelude.{◌≡◌, true, ◌-◌, ◌<◌, max, length, replicate};
 ghost use Rattle.calculus.specs.Trail.{on, value_at, level_at, decided_at, assigned};
 ghost use Rattle.trail.specs.Words.{trail_in, Laid};
@@ -7,7 +8,7 @@ ghost use Rattle.trail.specs.Words.{trail_in, Laid};
 use calculus::{Level, Row};
 
 // What is left of a trail: how many entries, and their greatest level.
-#[derive(Drop)]
+#[derive(Clone, Copy)]
 pub struct Kept {
     pub count: usize,
     pub top: Level,

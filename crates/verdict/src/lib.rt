@@ -1,4 +1,5 @@
 // A text is read and its log is run: from bytes to the verdict, and to what a person is told.
+#![tactic(auto)]
 ghost use Rattle.std.specs.Prelude.{◌≡◌, List, ℕ, ◌≤◌, length, take};
 ghost use Rattle.calculus.specs.Run.{outcome};
 ghost use Rattle.text_rows.specs.View.{Bounded};
@@ -17,7 +18,7 @@ use text_lines::Sheet;
 use text_stream::Progress;
 
 // The result of a text, and what a person is told of it.
-#[derive(Drop)]
+#[derive(Clone, Copy)]
 pub struct Answer {
     pub outcome: Outcome,
     pub complaint: Complaint,
