@@ -1,6 +1,7 @@
 // Whether a decision is acceptable (Definition 3 of the CADE 2017 paper): the trail is read once, and the values of its equations that have the term on a
 // side are held against what same or differ would give.
 #![tactic(auto)]
+
 ghost use Rattle.std.specs.Prelude.{◌≡◌, true, ◌||◌, ◌<◌, ◌≤◌, eqb};
 ghost use Rattle.calculus.specs.Trail.{on, entry, value_at};
 ghost use Rattle.calculus.specs.Steps.{misfits, opposes, acceptable};

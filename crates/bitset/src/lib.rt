@@ -1,5 +1,6 @@
 // Sets of term rows in one workspace: a window of w words at an offset holds a set, row t as bit t % 64 of the window's word t / 64.
 #![tactic(auto)]
+
 ghost use Rattle.std.specs.Prelude.{◌≡◌, ◌+◌, ◌/◌, ◌<◌, ◌≤◌, length};
 ghost use Rattle.calculus.specs.Trail.{empty, insert, remove, without, union};
 ghost use Rattle.calculus.specs.Terms.{filled};

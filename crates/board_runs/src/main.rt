@@ -1,6 +1,7 @@
 // The runs on the small board and the ceilings, through the exported call. For each run a line: its name, the verdict, the steps
 // allowed, the number, the entries, the place, and then each entry of the trail buffer as term, value, level and decision.
 #![tactic(auto)]
+
 ghost use Rattle.std.specs.Prelude.{◌<◌, ◌≤◌, length};
 
 use calculus::Outcome;

@@ -1,5 +1,6 @@
 // Lent buffers: cleared, and filled from the left as far as they reach. Every function answers for a buffer of any length.
 #![tactic(auto)]
+
 ghost use Rattle.std.specs.Prelude.{◌≡◌, ◌+◌, ◌<◌, ◌^◌, length, replicate, set};
 ghost use Rattle.std.proofs.lemmas.List.Edits.{sets};
 

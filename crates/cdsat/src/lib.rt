@@ -1,5 +1,6 @@
 // The exported calls, one static library for all of them. None asks anything of its caller, and each states its result and every lent buffer.
 #![tactic(auto)]
+
 ghost use Rattle.std.specs.Prelude.{length};
 ghost use Rattle.checker.specs.Contract.{call_of, Answered};
 ghost use Rattle.reader.specs.Text.{lent_of, TextRead};

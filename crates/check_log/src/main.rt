@@ -1,6 +1,7 @@
 // Reads the four sheets as text from standard input to its end, runs the log, and prints the result, and on standard error what a person is told of
 // a refusal. Arguments are not looked at.
 #![tactic(auto)]
+
 ghost use Rattle.std.specs.Prelude.{◌≡◌, ◌≤◌, take};
 ghost use Rattle.text_rows.specs.View.{Bounded};
 ghost use Rattle.text_stream.specs.Stream.{stream_of};

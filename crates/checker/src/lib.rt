@@ -1,5 +1,6 @@
 // The call: sheets in, the log run, the result, the trail buffer and a cleared workspace out.
 #![tactic(auto)]
+
 ghost use Rattle.std.specs.Prelude.{◌≡◌, ◌*◌, ◌≤◌, length};
 ghost use Rattle.calculus.specs.Numbers.{or_else, check_of};
 ghost use Rattle.calculus.specs.Sheets.{set_words, step_rows, length_refusal};

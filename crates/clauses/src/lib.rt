@@ -1,5 +1,6 @@
 // Clausal forms: whether a clause, which is an or or an and, has the opposites of some assignments as its arguments.
 #![tactic(auto)]
+
 ghost use Rattle.std.specs.Prelude.{◌≡◌, false, not, ◌&&◌, suc, ◌≤◌, eqb, length, drop, [], ◌∷◌};
 ghost use Rattle.calculus.specs.Lists.{all};
 ghost use Rattle.calculus.specs.Clauses.{different, is_clause, clause_value, literal, paired, clausal};

@@ -1,6 +1,7 @@
 // What the allowed steps of a conflict do to the trail and the conflict in the workspace: resolve, clear, jump, learn, flip.
 // Whether a step is allowed is tested before.
 #![tactic(auto)]
+
 ghost use Rattle.trail.specs.Words.{trail_in};
 ghost use Rattle.moves.specs.Post.{jumped_in, flipped_in, Stands, Conflicts};
 ghost use Rattle.conflict_moves.specs.Back.{resolved_in, cleared_in, backjumped_in, ToResolve, ToClear, ToBackjump, ToJump, ToFlip};

@@ -1,5 +1,6 @@
 // The steps of a conflict: resolve, clear, jump, flip. Each has its number, found by reading alone, and then what it does.
 #![tactic(auto)]
+
 ghost use Rattle.std.specs.Prelude.{◌≡◌, ◌<◌, ltb};
 ghost use Rattle.calculus.specs.Sheets.{term_rows};
 ghost use Rattle.calculus.specs.Trail.{intersection, level_at, top_level};

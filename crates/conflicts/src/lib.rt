@@ -1,5 +1,6 @@
 // The conflict in the workspace, as the tests of its steps find it: its members, its level, the level of the rest; and the status after it.
 #![tactic(auto)]
+
 ghost use Rattle.std.specs.Prelude.{◌≡◌, true, ◌+◌, ◌*◌, ◌<◌, ◌≤◌, ltb, length};
 ghost use Rattle.calculus.specs.Lists.{all};
 ghost use Rattle.calculus.specs.Terms.{filled};

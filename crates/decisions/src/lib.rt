@@ -1,5 +1,6 @@
 // Whether a set of rows on the trail holds a first-order decision, a decision on a term not of sort prop: by its members alone, word by word.
 #![tactic(auto)]
+
 ghost use Rattle.std.specs.Prelude.{◌≡◌, true, ◌*◌, ◌<◌, ◌≤◌, length};
 ghost use Rattle.calculus.specs.Trail.{on, entry, holds, first_order};
 ghost use Rattle.calculus.specs.WellFormed.{Within};

@@ -1,5 +1,6 @@
 // The input rows: the numbers 6, 7, 8, and the trail that they make.
 #![tactic(auto)]
+
 ghost use Rattle.std.specs.Prelude.{◌≡◌, ◌+◌, ◌*◌, ◌≤◌, length};
 ghost use Rattle.calculus.specs.Sheets.{term_rows};
 ghost use Rattle.calculus.specs.Trail.{top_level};

@@ -1,5 +1,6 @@
 // What the numbers in the head, rule and step columns stand for.
 #![tactic(auto)]
+
 ghost use Rattle.std.specs.Prelude.{◌≡◌};
 ghost use Rattle.calculus.specs.Terms.{head_of};
 ghost use Rattle.calculus.specs.Rules.{rule_of};

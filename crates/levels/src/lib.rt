@@ -1,5 +1,6 @@
 // The level of a set of rows on the trail, by its members alone, word by word.
 #![tactic(auto)]
+
 ghost use Rattle.std.specs.Prelude.{◌≡◌, max};
 ghost use Rattle.calculus.specs.Terms.{filled};
 ghost use Rattle.calculus.specs.Trail.{remove, without, level_of};

@@ -1,6 +1,7 @@
 // What the allowed steps of the search do to the trail and the conflict in the workspace: an input's entry, decide, deduce, clash.
 // Whether a step is allowed is tested before.
 #![tactic(auto)]
+
 ghost use Rattle.std.specs.Prelude.{◌≡◌, true, ◌∷◌, ℕ, ◌+◌, ◌/◌, ◌<◌, ◌≤◌, length};
 ghost use Rattle.calculus.specs.Lists.{has, opposite};
 ghost use Rattle.calculus.specs.Terms.{filled};

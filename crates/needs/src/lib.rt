@@ -1,6 +1,7 @@
 // The premises that a rule needs for a term and its value: rows that are still open follow from the first premise, or are found in the term sheet.
 // Finding an equality reads up to N rows, where the sheet has N: sym, trans and skip find one, cong and pred four; the other rules find none.
 #![tactic(auto)]
+
 ghost use Rattle.std.specs.Prelude.{◌≡◌, cond, [], ◌∷◌, map, ◌<◌, ◌≤◌, min, eqb, length};
 ghost use Rattle.calculus.specs.declared.Rule.TheVariants.{Same, Differ, Symmetry, Transitivity, Negated, Part, Unit, Evaluation, Congruence, Predicate, Skip};
 ghost use Rattle.calculus.specs.Lists.{opposite};

@@ -8,6 +8,7 @@
 // - pred with no premise known: N rows, and 4N more for each row that has the term's head: at most some N times 4N.
 // A row by deep is not searched: it went wrong at the term.
 #![tactic(auto)]
+
 ghost use Rattle.std.specs.Prelude.{◌≡◌, false, cond, [], ◌≤◌, ltb, length, take};
 ghost use Rattle.calculus.specs.Lists.{all};
 ghost use Rattle.calculus.specs.Sheets.{term_rows};

@@ -1,5 +1,6 @@
 // The premise columns of a step row, before the first blank: whether they stand on the trail, their level, and their values there.
 #![tactic(auto)]
+
 ghost use Rattle.std.specs.Prelude.{◌≡◌};
 ghost use Rattle.calculus.specs.Lists.{all, has};
 ghost use Rattle.calculus.specs.Trail.{on, value_at, level_of};

@@ -1,5 +1,6 @@
 // The reader of the four sheets as text: its beginning, its end, and a whole text at once.
 #![tactic(auto)]
+
 ghost use Rattle.std.specs.Prelude.{◌≡◌, List, ℕ, ◌≤◌};
 ghost use Rattle.text_fields.specs.Split.{pick};
 ghost use Rattle.text_rows.specs.View.{kept_of, Bounded};

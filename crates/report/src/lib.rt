@@ -1,5 +1,6 @@
 // What is printed: a result for a program to read, and a complaint for a person. Both answer for a buffer of any length.
 #![tactic(auto)]
+
 ghost use Rattle.std.specs.Prelude.{◌≡◌, ◌+◌, ◌%◌, ◌≤◌, length};
 ghost use Rattle.report.specs.Lines.{NextLine, LineFrom, IsLine};
 ghost use Rattle.report.specs.Put.{Put, Laid};

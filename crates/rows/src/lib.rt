@@ -1,5 +1,6 @@
 // Rows of the term sheet and of the step sheet, read into structs by value.
 #![tactic(auto)]
+
 ghost use Rattle.std.specs.Prelude.{◌≡◌, ◌+◌, ◌*◌, ◌≤◌, length, get_or};
 ghost use Rattle.calculus.specs.Terms.{term_at};
 ghost use Rattle.calculus.specs.Steps.{step_at};

@@ -1,5 +1,6 @@
 // The rules of arrays: read, skip.
 #![tactic(auto)]
+
 ghost use Rattle.std.specs.Prelude.{◌≡◌};
 ghost use Rattle.calculus.specs.declared.Rule.TheVariants.{Read, Skip};
 ghost use Rattle.rule_claims.specs.Claims.{allows};

@@ -1,5 +1,6 @@
 // What a deduce, clash or fail row claims, and what the fourteen rules share: how many premises there are, and the shape of a term.
 #![tactic(auto)]
+
 ghost use Rattle.std.specs.Prelude.{◌≡◌, ◌&&◌, not, max, eqb};
 ghost use Rattle.calculus.specs.Lists.{num};
 ghost use Rattle.calculus.specs.Terms.{eq_head};

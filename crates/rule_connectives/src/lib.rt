@@ -1,5 +1,6 @@
 // From a connective to one of its arguments: neg, part.
 #![tactic(auto)]
+
 ghost use Rattle.std.specs.Prelude.{◌≡◌, List, ◌∷◌, ℕ, ◌+◌, eqb};
 ghost use Rattle.calculus.specs.declared.Rule.TheVariants.{Negated, Part};
 ghost use Rattle.calculus.specs.Lists.{has};

@@ -1,6 +1,7 @@
 // From premises through several layers of not, and, or to the value of the formula above them: deep.
 // What the walk has found of a row is remembered, so that each row of a formula is walked once, however many rows share it.
 #![tactic(auto)]
+
 ghost use Rattle.std.specs.Prelude.{◌≡◌, ◌≢◌, true, false, cond, List, [], ◌∷◌, ◌+◌, ◌*◌, ◌/◌, ◌≤◌, ◌<◌, leb, get_or};
 ghost use Rattle.calculus.specs.declared.Premise.{Premise};
 ghost use Rattle.calculus.specs.declared.Rule.TheVariants.{Deep};

@@ -1,5 +1,6 @@
 // The rules of equality: same, differ, refl, sym, trans.
 #![tactic(auto)]
+
 ghost use Rattle.std.specs.Prelude.{◌≡◌};
 ghost use Rattle.calculus.specs.declared.Rule.TheVariants.{Same, Differ, Reflexivity, Symmetry, Transitivity};
 ghost use Rattle.rule_claims.specs.Claims.{allows};

@@ -1,5 +1,6 @@
 // From equal arguments to equal results: cong, pred.
 #![tactic(auto)]
+
 ghost use Rattle.std.specs.Prelude.{◌≡◌, List, ◌∷◌, ℕ};
 ghost use Rattle.calculus.specs.declared.Premise.{Premise};
 ghost use Rattle.calculus.specs.declared.Rule.TheVariants.{Congruence, Predicate};

@@ -1,6 +1,7 @@
 // The fourteen rules: whether a rule gives a term its value, from premises that come with their values on the trail.
 // Each rule is a function of its own, in the crate of its family; `fits` takes the one that a row names.
 #![tactic(auto)]
+
 ghost use Rattle.std.specs.Prelude.{◌≡◌};
 ghost use Rattle.rule_claims.specs.Claims.{allows};
 

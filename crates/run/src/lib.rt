@@ -1,5 +1,6 @@
 // The run of a step sheet, until it refutes the input, runs out or meets a step that no rule allows.
 #![tactic(auto)]
+
 ghost use Rattle.std.specs.Prelude.{◌≡◌, ◌<◌, ◌≤◌};
 ghost use Rattle.calculus.specs.Sheets.{step_rows};
 ghost use Rattle.state.specs.States.{Standing};

@@ -1,5 +1,6 @@
 // The steps of the search: decide, deduce, clash, fail. Each has its number, found by reading alone, and then what it does.
 #![tactic(auto)]
+
 ghost use Rattle.std.specs.Prelude.{◌≡◌, true, ◌<◌};
 ghost use Rattle.calculus.specs.Sheets.{term_rows};
 ghost use Rattle.calculus.specs.Inputs.{value_suits};

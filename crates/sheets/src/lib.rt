@@ -1,5 +1,6 @@
 // What is asked of the sheets before a step is run: the lengths (31, 30, 32) and one input row (6, 7, 8).
 #![tactic(auto)]
+
 ghost use Rattle.std.specs.Prelude.{◌≡◌};
 ghost use Rattle.calculus.specs.Numbers.{check_of};
 ghost use Rattle.calculus.specs.Sheets.{length_refusal};

@@ -1,5 +1,6 @@
 // The rows of the sort sheet (number 1), and what they say of a sort.
 #![tactic(auto)]
+
 ghost use Rattle.std.specs.Prelude.{◌≡◌, ◌+◌, ◌*◌, ◌-◌, ◌≤◌, length};
 ghost use Rattle.calculus.specs.Numbers.{check_of};
 ghost use Rattle.calculus.specs.Sorts.{index_sort, value_sort, is_array, is_plain, sort_refusal, sorts_refusal};

@@ -1,5 +1,6 @@
 // Where a run stands, what a step answers, and look-ups on the trail, which any number may be asked of but for a level.
 #![tactic(auto)]
+
 ghost use Rattle.std.specs.Prelude.{◌≡◌, true, ◌<◌};
 ghost use Rattle.calculus.specs.Sheets.{term_rows};
 ghost use Rattle.calculus.specs.Terms.{prop};

@@ -1,5 +1,6 @@
 // The tests of a step row by itself: its columns (number 9) and the rows that it names (number 11, and the column at which one is none).
 #![tactic(auto)]
+
 ghost use Rattle.std.specs.Prelude.{◌≡◌, List, [], ◌∷◌, ℕ, suc, not, ltb};
 ghost use Rattle.calculus.specs.Lists.{all};
 ghost use Rattle.calculus.specs.Terms.{filled, left_filled};

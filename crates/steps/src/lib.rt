@@ -1,6 +1,7 @@
 // One step of a log: the numbers 9, 10, 11, and then the step of its kind. A row is told by its kind first, so that every kind has its tests in one piece
 // of the code.
 #![tactic(auto)]
+
 ghost use Rattle.calculus.specs.declared.Kind.TheVariants.{Decide, Resolve, Clear, Jump, Flip, Learn};
 ghost use Rattle.state.specs.States.{Standing};
 ghost use Rattle.steps.specs.Rows.{OfKind, RowRefused, AnswersRow};

@@ -1,5 +1,6 @@
 // The bucket of a term row: its six numbers are mixed in 32-bit arithmetic that wraps on purpose.
 #![tactic(auto)]
+
 ghost use Rattle.std.specs.Prelude.{◌≡◌, ◌*◌, ◌%◌, ◌^◌, ◌<◌};
 ghost use Rattle.term_buckets.specs.Buckets.{buckets, word, mixed_in, mix, bucket};
 

@@ -1,5 +1,6 @@
 // What is sought among the term rows: the first row with a head, and the first row that repeats an earlier one (number 5).
 #![tactic(auto)]
+
 ghost use Rattle.std.specs.Prelude.{◌≡◌, not, ◌+◌, ◌*◌, ◌<◌, ◌≤◌, length};
 ghost use Rattle.calculus.specs.Terms.{head};
 ghost use Rattle.rows.specs.Rows.{Whole};

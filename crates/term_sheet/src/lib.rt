@@ -1,5 +1,6 @@
 // The rows of the term sheet: numbers 3, 4 and 5.
 #![tactic(auto)]
+
 ghost use Rattle.std.specs.Prelude.{◌≡◌, not, ◌≤◌, length, eqb};
 ghost use Rattle.calculus.specs.Lists.{all};
 ghost use Rattle.calculus.specs.Numbers.{check_of};

@@ -1,5 +1,6 @@
 // Whether a term row suits its head (number 4): the sorts of its arguments, and the use of a free head.
 #![tactic(auto)]
+
 ghost use Rattle.std.specs.Prelude.{◌≡◌, List, ◌∷◌, ℕ, ◌+◌, ◌<◌, ◌≤◌, length};
 ghost use Rattle.calculus.specs.Terms.{head, filled, cells_of, args_of, head_of, same_use, suits, term_at};
 ghost use Rattle.rows.specs.Rows.{Whole};

@@ -1,5 +1,6 @@
 // A line's fields: where they start and end, and whether each is well formed in its column. Every function answers for any bytes.
 #![tactic(auto)]
+
 ghost use Rattle.std.specs.Prelude.{◌≡◌, true, [], ◌+◌, ◌≤◌, ◌<◌, length, get_or};
 ghost use Rattle.text_fields.specs.Split.{pieces};
 ghost use Rattle.text_fields.specs.Class.{class_of, is_space, is_name, class_table, run, name_end};

@@ -1,5 +1,6 @@
 // Why a line is malformed, for a person to act on.
 #![tactic(auto)]
+
 ghost use Rattle.std.specs.Prelude.{◌≡◌, take};
 ghost use Rattle.text_fields.specs.Class.{class_of};
 ghost use Rattle.text_faults.specs.Why.{holds as Why·holds, marked, is_plain, plain, header_why, row_why, why_number};

@@ -1,5 +1,6 @@
 // Bytes of a text: their classes, where one stands first, whether two runs of them are the same. Every function answers for any bytes.
 #![tactic(auto)]
+
 ghost use Rattle.std.specs.Prelude.{◌≡◌, false, ◌+◌, ◌≤◌, length, drop};
 ghost use Rattle.text_fields.specs.Split.{before, same as sameBytes};
 ghost use Rattle.text_fields.specs.Class.{class_of, is_newline, class_table};

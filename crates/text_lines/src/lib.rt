@@ -1,5 +1,6 @@
 // What one line of a text does to the reader's state and to the lent sheets.
 #![tactic(auto)]
+
 ghost use Rattle.std.specs.Prelude.{◌≡◌, List, ℕ, ◌+◌, ◌≤◌, ◌<◌, ◌^◌, length, set};
 ghost use Rattle.std.proofs.lemmas.List.Edits.{sets};
 ghost use Rattle.text_fields.specs.Split.{pieces, same};

@@ -1,5 +1,6 @@
 // A lent list of bytes with tables of names: 67 bytes for each name, and behind the slots the tree of the names of each tag.
 #![tactic(auto)]
+
 ghost use Rattle.std.specs.Prelude.{◌≡◌, ◌+◌, ◌*◌, ◌≤◌, ◌<◌, length};
 ghost use Rattle.std.proofs.Math.Seq.{paste};
 ghost use Rattle.text_fields.specs.Words.{index_from};

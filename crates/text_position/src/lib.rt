@@ -1,5 +1,6 @@
 // The reader's position: its line number and its place in that line.
 #![tactic(auto)]
+
 ghost use Rattle.std.specs.Prelude.{◌≡◌};
 ghost use Rattle.text_position.specs.Place.{next_line, next_start, advanced};
 

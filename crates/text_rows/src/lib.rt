@@ -1,5 +1,6 @@
 // What all rows share: bad lines, and what a field says of the sorts and terms so far.
 #![tactic(auto)]
+
 ghost use Rattle.std.specs.Prelude.{◌≡◌, List, [], ℕ, ◌+◌, ◌≤◌, ◌<◌, get_or};
 ghost use Rattle.text_fields.specs.Split.{pieces};
 ghost use Rattle.text_fields.specs.Words.{ref_of};

@@ -1,5 +1,6 @@
 // The words of the rules. A field is compared with one word after the other.
 #![tactic(auto)]
+
 ghost use Rattle.std.specs.Prelude.{◌≡◌, drop};
 ghost use Rattle.text_fields.specs.Words.{rule_words, index_from, index_or, ref_of};
 

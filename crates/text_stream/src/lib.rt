@@ -1,5 +1,6 @@
 // A text in pieces: bytes are held until a newline ends their line, and a line that stands whole in a piece is read where it stands.
 #![tactic(auto)]
+
 ghost use Rattle.std.specs.Prelude.{◌≡◌, ◌&&◌, [], ◌+◌, ◌≤◌, eqb, ltb, length, take};
 ghost use Rattle.text_fields.specs.Split.{pick, before};
 ghost use Rattle.text_fields.specs.Class.{class_table};

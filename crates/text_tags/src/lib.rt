@@ -1,5 +1,6 @@
 // Names by words of bytes: whether two are the same, and the tag of one. Every function answers for any bytes.
 #![tactic(auto)]
+
 ghost use Rattle.std.specs.Prelude.{◌≡◌, ◌+◌, ◌*◌, ◌≤◌, ◌<◌, length};
 ghost use Rattle.text_fields.specs.Split.{same};
 ghost use Rattle.text_tags.specs.Tags.{word_at, wide_at, mixed as mixed_in, mix_name, tag_of};

@@ -1,5 +1,6 @@
 // Values: decimal numbers, true, false and blank. Every function answers for any bytes.
 #![tactic(auto)]
+
 ghost use Rattle.std.specs.Prelude.{◌≡◌, true};
 ghost use Rattle.text_fields.specs.Number.{digits, decimal, number as number_of, value as value_of, is_number, number_or};
 

@@ -1,5 +1,6 @@
 // The words of heads and steps. A field is compared with one word after the other.
 #![tactic(auto)]
+
 ghost use Rattle.std.specs.Prelude.{◌≡◌, drop};
 ghost use Rattle.text_fields.specs.Words.{step_words, head_words, index_from, index_or, ref_of};
 

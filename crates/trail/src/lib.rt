@@ -1,6 +1,7 @@
 // The trail in a lent workspace, by term: a look-up reads the words of one term. The layout is in specs/Words; w is the words of a set,
 // `terms` the term rows, n the entries.
 #![tactic(auto)]
+
 ghost use Rattle.std.specs.Prelude.{◌≡◌, true, ◌-◌, ◌<◌, max, length, replicate};
 ghost use Rattle.calculus.specs.Trail.{on, value_at, level_at, decided_at, assigned};
 ghost use Rattle.trail.specs.Words.{trail_in, Laid};

@@ -1,6 +1,7 @@
 // Changes of the trail in the workspace: an addition writes four words, and keeping to a level visits the entries from the first
 // decision above it on.
 #![tactic(auto)]
+
 ghost use Rattle.std.specs.Prelude.{◌≡◌, false, ◌+◌, ◌*◌, ◌<◌, ◌≤◌, length};
 ghost use Rattle.calculus.specs.Trail.{on};
 ghost use Rattle.calculus.specs.WellFormed.{WellFormed};

@@ -1,5 +1,6 @@
 // The trail written out as numbers.
 #![tactic(auto)]
+
 ghost use Rattle.std.specs.Prelude.{◌≡◌, ◌*◌, ◌<◌, ◌≤◌, length};
 ghost use Rattle.calculus.specs.Trail.{top_level, trail_numbers_of};
 ghost use Rattle.calculus.specs.Run.{written};

@@ -1,5 +1,6 @@
 // A text is read and its log is run: from bytes to the verdict, and to what a person is told.
 #![tactic(auto)]
+
 ghost use Rattle.std.specs.Prelude.{◌≡◌, List, ℕ, ◌≤◌, length, take};
 ghost use Rattle.calculus.specs.Run.{outcome};
 ghost use Rattle.text_rows.specs.View.{Bounded};
