@@ -26,4 +26,7 @@ pub returns : goal.returns
 returns c =
     let l = c.loop-j in
     let a = c.args in
-    (omega arith, sym (sets_end l.d a.at a.word.now l.j (omega arith)) ∙ l.invariant.2)
+    record {
+      value = omega arith;
+      d_after = sym (sets_end l.d a.at a.word.now l.j (omega arith)) ∙ l.invariant.2;
+    }

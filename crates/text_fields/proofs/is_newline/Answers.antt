@@ -5,13 +5,13 @@ use borrow.Author.Rules.{rules}
 use Rattle.text_fields.proofs.is_newline.Goals as goal
 
 pub returns-in-Newline : goal.returns-in-Newline
-returns-in-Newline c = sym (ap is_newline (sym c.byte_class.ensures ∙ c.enum_told-1.given.1))
+returns-in-Newline c = sym (ap is_newline (sym c.byte_class.ensures ∙ c.in-Newline.is))
 
 pub returns-in-Space : goal.returns-in-Space
-returns-in-Space c = sym (ap is_newline (sym c.byte_class.ensures ∙ c.enum_told-in-Space-1.given.1))
+returns-in-Space c = sym (ap is_newline (sym c.byte_class.ensures ∙ c.in-Space.is))
 
 pub returns-in-Name : goal.returns-in-Name
-returns-in-Name c = sym (ap is_newline (sym c.byte_class.ensures ∙ c.enum_told-in-Name-1.given.1))
+returns-in-Name c = sym (ap is_newline (sym c.byte_class.ensures ∙ c.in-Name.is))
 
 pub returns-in-Other : goal.returns-in-Other
-returns-in-Other c = sym (ap is_newline (sym c.byte_class.ensures ∙ c.enum_told-in-Other-1.given.1))
+returns-in-Other c = sym (ap is_newline (sym c.byte_class.ensures ∙ c.in-Other.is))
