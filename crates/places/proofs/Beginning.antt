@@ -14,7 +14,7 @@ use Rattle.calculus.specs.Place.{with}
 use Rattle.calculus.proofs.Facts.{and_l, and_r, and_both, T_false, false_T, true_or_false}
 use Rattle.completions.specs.Needs.{needs}
 use Rattle.completions.specs.Search.{serves, followed}
-use Rattle.calculus.proofs.First.{somewhere_at}
+use Rattle.completions.proofs.First.{somewhere_at}
 use Rattle.needs.specs.declared.Columns.{Columns}
 use Rattle.needs.specs.Listed.{listed}
 use Rattle.places.specs.Tested.{Begins}

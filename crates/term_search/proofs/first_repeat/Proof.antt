@@ -6,43 +6,39 @@ use native.Mathlib.Omega.{arith}
 use borrow.Author.Rules.{rules}
 use lib.ListN.{get_or-replicate}
 use lib.Dec.{ltb}
-use Rattle.calculus.proofs.First.{where_zero}
-use Rattle.calculus.specs.Lists.{below, first_where}
-use Rattle.term_search.specs.Found.{Chained, agree, repeats, bucket_at}
-use Rattle.term_search.proofs.Repeats.{Passed, chain_none, chain_next, pairs_first, pairs_next, pairs_fewer}
-use Rattle.term_search.proofs.Repeats.{columns_agree, row_first, repeat_none, repeat_found}
+use Rattle.calculus.specs.Lists.{below}
+use Rattle.calculus.specs.Terms.{fresh}
+use Rattle.term_search.specs.Found.{Chained, mix, agree}
+use Rattle.term_search.proofs.Laws.{Passed, chain_none, chain_next, pairs_first, pairs_next, pairs_fewer, row_fresh, columns_agree, repeat_none, repeat_found}
 use Rattle.term_search.proofs.first_repeat.Statement.{statement}
 use Rattle.term_search.proofs.first_repeat.Tie as tie
 
 abbrev invariant_loop : tie.invariant-loop
-invariant_loop terms n lasts backs t b u₀ k₀ u k = (u ≡ u₀) × (k ≤ 6) × (below k (agree terms t u) ≡ true)
+invariant_loop terms n lasts backs t u₀ k₀ u k = (u ≡ u₀) × (k ≤ 5) × (below k (agree terms t u) ≡ true)
 
 abbrev decreases_loop : tie.decreases-loop
-decreases_loop terms n lasts backs t b u₀ k₀ u k = 6 - k
+decreases_loop terms n lasts backs t u₀ k₀ u k = 5 - k
 
 abbrev invariant_pairs : tie.invariant-pairs
-invariant_pairs terms n lasts backs t b u₀ u = Passed terms t u
+invariant_pairs terms n lasts backs t u₀ u = Passed terms t u
 
 abbrev decreases_pairs : tie.decreases-pairs
-decreases_pairs terms n lasts backs t b u₀ u = cond (ltb u t) (suc u) 0
+decreases_pairs terms n lasts backs t u₀ u = cond (ltb u t) (suc u) 0
 
 abbrev invariant_rows : tie.invariant-rows
-invariant_rows terms n lasts₀ backs₀ t₀ lasts backs t = (t ≤ n) × (first_where t (repeats terms) ≡ t) × Chained (bucket_at terms) t lasts backs
+invariant_rows terms n lasts₀ backs₀ t₀ lasts backs t = (t ≤ n) × (below t (fresh terms) ≡ true) × Chained (mix terms) t lasts backs
 
 abbrev decreases_rows : tie.decreases-rows
 decreases_rows terms n lasts₀ backs₀ t₀ lasts backs t = n - t
 
 rows_holds : tie.Need-rows-init invariant_loop decreases_loop invariant_pairs decreases_pairs invariant_rows decreases_rows
-rows_holds c = (omega arith, where_zero _, chain_none _ _ _ refl refl (λ s h. get_or-replicate 1024 s 65535 0 h))
+rows_holds c = (omega arith, refl, chain_none _ _ _ refl refl (λ s h. get_or-replicate 1024 s 65535 0 h))
 
-whole_term_at_requires : tie.Need-whole-term-at-requires invariant_loop decreases_loop invariant_pairs decreases_pairs invariant_rows decreases_rows
-whole_term_at_requires c κs = omega arith
-
-bucket_of_requires : tie.Need-bucket-of-requires invariant_loop decreases_loop invariant_pairs decreases_pairs invariant_rows decreases_rows
-bucket_of_requires c κs = search rules
+mix_of_requires : tie.Need-mix-of-requires invariant_loop decreases_loop invariant_pairs decreases_pairs invariant_rows decreases_rows
+mix_of_requires c κs = omega arith
 
 chain_requires : tie.Need-chain-requires invariant_loop decreases_loop invariant_pairs decreases_pairs invariant_rows decreases_rows
-chain_requires c κs = (search rules, omega arith)
+chain_requires c κs = omega arith
 
 pairs_holds : tie.Need-pairs-init invariant_loop decreases_loop invariant_pairs decreases_pairs invariant_rows decreases_rows
 pairs_holds c = search pairs_first
@@ -84,7 +80,7 @@ rows_less : tie.Need-rows-smaller invariant_loop decreases_loop invariant_pairs 
 rows_less c = omega arith
 
 rows_again : tie.Need-rows-preserved invariant_loop decreases_loop invariant_pairs decreases_pairs invariant_rows decreases_rows
-rows_again c = (omega arith, search row_first, search chain_next)
+rows_again c = (omega arith, search row_fresh, search chain_next)
 
 returns : tie.Need-returns invariant_loop decreases_loop invariant_pairs decreases_pairs invariant_rows decreases_rows
 returns c = search repeat_none
@@ -103,8 +99,7 @@ first_repeat_spec =
     invariant_rows
     decreases_rows
     rows_holds
-    whole_term_at_requires
-    bucket_of_requires
+    mix_of_requires
     chain_requires
     pairs_holds
     loop_holds

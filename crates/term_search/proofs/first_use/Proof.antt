@@ -1,16 +1,17 @@
 -- `term_search::first_use` meets its contract.
 use mathlib.Core.Path.{◌≡◌}
+use mathlib.Core.Bool.{true}
 use Prim.Native.Nat.{◌-◌, ◌≤◌}
 use native.Mathlib.Omega.{arith}
 use borrow.Author.Rules.{rules}
-use Rattle.calculus.specs.Lists.{first_where}
-use Rattle.term_search.specs.Found.{same_head}
-use Rattle.term_search.proofs.Uses.{use_low, use_before, use_found, use_none, use_other, use_noted}
+use Rattle.calculus.specs.Lists.{below}
+use Rattle.term_search.specs.Found.{other_head}
+use Rattle.term_search.proofs.Laws.{use_low, use_before, use_found, use_none, use_other, use_noted}
 use Rattle.term_search.proofs.first_use.Statement.{statement}
 use Rattle.term_search.proofs.first_use.Tie as tie
 
 abbrev invariant_loop : tie.invariant-loop
-invariant_loop slots terms t h u₀ u = (u ≤ t.0) × (first_where u (same_head terms t.0) ≡ u)
+invariant_loop slots terms t h u₀ u = (u ≤ t.0) × (below u (other_head terms t.0) ≡ true)
 
 abbrev decreases_loop : tie.decreases-loop
 decreases_loop slots terms t h u₀ u = t.0 - u
