@@ -1,0 +1,6 @@
+-- `clauses::is_clause` meets its contract.
+use borrow.Author.Rules.{rules}
+use Rattle.clauses.proofs.is_clause.Goals as goal
+
+pub returns : goal.returns
+returns c = rw c.term_at-e.ensures

@@ -1,0 +1,6 @@
+-- `rule_deep::four` meets its contract.
+use borrow.Author.Rules.{rules}
+use Rattle.rule_deep.proofs.four.Goals as goal
+
+pub returns : goal.returns
+returns c = rw (c.joined.ensures, c.three.ensures, c.unpacked.ensures)

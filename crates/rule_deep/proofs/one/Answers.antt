@@ -1,0 +1,6 @@
+-- `rule_deep::one` meets its contract.
+use borrow.Author.Rules.{rules}
+use Rattle.rule_deep.proofs.one.Goals as goal
+
+pub returns : goal.returns
+returns c = rw (c.joined.ensures, c.none.ensures, c.unpacked.ensures)

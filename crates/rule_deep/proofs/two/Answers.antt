@@ -1,0 +1,6 @@
+-- `rule_deep::two` meets its contract.
+use borrow.Author.Rules.{rules}
+use Rattle.rule_deep.proofs.two.Goals as goal
+
+pub returns : goal.returns
+returns c = rw (c.joined.ensures, c.one.ensures, c.unpacked.ensures)
