@@ -16,7 +16,7 @@ is_name_byte-requires c = c.requires.classes_value
 
 pub returns-then-not-is_name_byte : goal.returns-then-not-is_name_byte
 returns-then-not-is_name_byte c =
-    let e = run_stop c.args.line.now c.loop-i.i (omega arith) (sym c.is_name_byte.ensures ∙ not-true _ c.if-not-is_name_byte.true) in
+    let e = run_stop c.args.line.now c.loop-i.i (omega arith) (sym c.is_name_byte.ensures ∙ c.if-not-is_name_byte.true) in
     record {
       value = omega (arith, c.loop-i.invariant.1);
       upper_bound = c.loop-i.invariant.0;
@@ -24,7 +24,7 @@ returns-then-not-is_name_byte c =
 
 pub loop-i-preserved : goal.loop-i-preserved
 loop-i-preserved c =
-    let e = run_more c.args.line.now c.loop-i.i (omega arith) (sym c.is_name_byte.ensures ∙ not-false _ c.if-not-is_name_byte.false) in
+    let e = run_more c.args.line.now c.loop-i.i (omega arith) (sym c.is_name_byte.ensures ∙ c.if-not-is_name_byte.false) in
     (omega arith, omega (arith, c.loop-i.invariant.1))
 
 pub returns : goal.returns

@@ -47,7 +47,7 @@ returns-then-not-is_space c =
     let t = c.args.line.now in
     let is = c.name_end-end.ensures in
     let more : c.name_end-end.result < length t = omega (arith, is.upper_bound, c.if-end-line.false) in
-    let stop = sym c.is_space.ensures ∙ not-true _ c.if-not-is_space.true in
+    let stop = sym c.is_space.ensures ∙ c.if-not-is_space.true in
     record {
       value = split_stop t _ c.loop-k.marks c.loop-k.from c.loop-k.k _ c.loop-k.invariant.1 is.value (omega arith) more stop;
       marked = no_marks _ _ _;
@@ -64,7 +64,7 @@ loop-k-preserved c =
     let ends : e ≡ name_end t c.loop-k.from = is.value in
     let w : c.loop-k.from < e = omega (arith, c.if-end-from.false) in
     let more : e < length t = omega (arith, is.upper_bound, c.if-end-line.false) in
-    let space = eqb-true (get_or t e 0) 32 (sym (space_is (get_or t e 0)) ∙ sym c.is_space.ensures ∙ not-false _ c.if-not-is_space.false) in
+    let space = eqb-true (get_or t e 0) 32 (sym (space_is (get_or t e 0)) ∙ sym c.is_space.ensures ∙ c.if-not-is_space.false) in
     (omega arith, split_more t _ c.loop-k.marks c.loop-k.from c.loop-k.k e c.loop-k.invariant.1 is.value (omega arith) c.requires.columns_bound w is.upper_bound more space)
 
 pub returns : goal.returns

@@ -1,4 +1,6 @@
 -- Down the tree of a tag: what is left of the search ends where the whole search ends.
+use mathlib.Core.Bool.{not}
+use mathlib.Core.Path.{ap}
 use borrow.Author.Rules.{rules}
 use Prim.Native.Nat.{◌-◌}
 use native.Mathlib.Omega.{arith}
