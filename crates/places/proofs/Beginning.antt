@@ -52,8 +52,8 @@ module _ (ts : List ℕ) (l r : ℕ) where
   begins_any k = record { passed = λ v e. absurd (true_or_false {b = true} refl e) }
 
   module _ (k : Rule) (v : ℕ) where
-    pub begun_not : {b : Bool} → Begins ts k l r b → not b ≡ true → false ≡ followed ts k l v [] (with 0 r)
-    begun_not {b} h e = sym (h.passed v (not-true b e))
+    pub begun_not : {b : Bool} → Begins ts k l r b → b ≡ false → false ≡ followed ts k l v [] (with 0 r)
+    begun_not {b} h e = sym (h.passed v e)
 
     pub begun_follows : (none : Columns) {b : Bool} → none.count ≡ 0 → b ≡ followed ts k l v (listed none) (with 0 r) → b ≡ followed ts k l v [] (with 0 r)
     unfolding listed

@@ -132,7 +132,7 @@ module _ (ts : List ℕ) (k : Rule) (x : Claim) where
   all_found_yet = where_zero lost
 
   module _ {j : ℕ} {b : Bool} (s : b ≡ findable ts k x.term.0 x.value (premises_of x) (3 + j)) (h : AllFound j) where
-    pub all_found_more : not b ≡ false → AllFound (j + 1)
+    pub all_found_more : b ≡ true → AllFound (j + 1)
     all_found_more e = where_more lost j h (ap not (sym s) ∙ e)
 
     pub unfit_found : {n m : ℕ} → Tested ts n x → at_term k ≡ false → Counted x m → j < 7 → not b ≡ true

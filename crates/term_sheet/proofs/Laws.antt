@@ -116,16 +116,16 @@ module _ (ss ts : List ℕ) (t w : ℕ) {e : Term} {u : ℕ} (K : Known ss ts t 
       → check_of n ≡ answer
   flat q = ap check_of (q ∙ sym (row_flat ss ts t (not (eqb t w)) K.row))
 
-  module _ (p_out : not p ≡ true) {a : Bool} (a_is : a ≡ all (before t) (cells_of e)) where
+  module _ (p_out : p ≡ false) {a : Bool} (a_is : a ≡ all (before t) (cells_of e)) where
     pub row_ragged : a ≡ true → Refused 4 ≡ answer
-    row_ragged q = flat (ragged _ _ _ _ (sym a_is ∙ q) (sym p_is ∙ not-true p p_out))
+    row_ragged q = flat (ragged _ _ _ _ (sym a_is ∙ q) (sym p_is ∙ p_out))
 
     pub row_late : a ≡ false → Refused 3 ≡ answer
     row_late q = flat (sym (unless_no 3 _ (sym a_is ∙ q)))
 
-  module _ (p_in : not p ≡ false) {k : Head} (k_is : k ≡ head_of e.head) where
+  module _ (p_in : p ≡ true) {k : Head} (k_is : k ≡ head_of e.head) where
     in_place : placed t (cells_of e) ≡ true
-    in_place = sym p_is ∙ not-false p p_in
+    in_place = sym p_is ∙ p_in
 
     pub head_known : head_of (head ts t) ≡ k
     head_known = rw (k_is, K.row)
@@ -134,15 +134,15 @@ module _ (ss ts : List ℕ) (t w : ℕ) {e : Term} {u : ℕ} (K : Known ss ts t 
       suited : s ≡ suits ss ts t (head_of e.head)
       suited = rw (← k_is) s_is
 
-      pub row_unfit : not s ≡ true → Refused 4 ≡ answer
-      row_unfit q = flat (unfit _ _ _ _ in_place (sym suited ∙ not-true s q))
+      pub row_unfit : s ≡ false → Refused 4 ≡ answer
+      row_unfit q = flat (unfit _ _ _ _ in_place (sym suited ∙ q))
 
-      module _ (s_in : not s ≡ false) where
+      module _ (s_in : s ≡ true) where
         pub row_repeats : t ≡ w → Refused 5 ≡ answer
-        row_repeats q = flat (repeats _ _ _ _ in_place (sym suited ∙ not-false s s_in) (ap not (eq-eqb t w q)))
+        row_repeats q = flat (repeats _ _ _ _ in_place (sym suited ∙ s_in) (ap not (eq-eqb t w q)))
 
         pub row_fine : (t ≡ w → ⊥) → Passed ≡ answer
-        row_fine d = flat (fine _ _ _ _ in_place (sym suited ∙ not-false s s_in) (ap not (ne_eqb t w d)))
+        row_fine d = flat (fine _ _ _ _ in_place (sym suited ∙ s_in) (ap not (ne_eqb t w d)))
 
 -- ---- the loop over the rows
 

@@ -11,7 +11,7 @@ pub loop-i-init : goal.loop-i-init
 loop-i-init c = (omega arith, refl)
 
 pub bounds-d-i : goal.bounds-d-i
-bounds-d-i c = let l = c.loop-i in let a = c.args in omega arith
+bounds-d-i c = omega arith
 
 pub loop-i-smaller : goal.loop-i-smaller
 loop-i-smaller c =

@@ -17,7 +17,7 @@ offset_bounds-numbers-i c =
     omega (arith, clear_length a.numbers.now l.numbers l.i l.invariant.0 l.invariant.1)
 
 pub bounds-numbers-i : goal.bounds-numbers-i
-bounds-numbers-i c = let l = c.loop-i in let a = c.args in omega arith
+bounds-numbers-i c = omega arith
 
 pub loop-i-smaller : goal.loop-i-smaller
 loop-i-smaller c =

@@ -1,14 +1,8 @@
 -- `clauses::absent_from` meets its contract. The rows passed are others than x. Assumes nothing.
-use Prim.Native.Nat.{◌-◌}
 use mathlib.Core.Path.{refl, ap}
 use mathlib.Core.Bool.{not}
-use borrow.Author.Rules.{rules}
 use borrow.Author.Tests.{eq-eqb, ne_eqb}
-use lib.Dec.{eqb}
-use lib.ListN.{length, drop}
-use Rattle.calculus.specs.Lists.{all}
-use Rattle.calculus.specs.Terms.{filled}
-use Rattle.calculus.proofs.Walks.{Passed, passed_blank, passed_all, passed_more, passed_no}
+use Rattle.calculus.proofs.Walks.{passed_blank, passed_all, passed_more, passed_no}
 use Rattle.clauses.proofs.absent_from.Goals as goal
 
 pub loop-i-init : goal.loop-i-init

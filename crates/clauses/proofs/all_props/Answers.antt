@@ -1,13 +1,8 @@
 -- `clauses::all_props` meets its contract. The rows passed are props. Assumes nothing.
-use Prim.Native.Nat.{◌-◌}
 use mathlib.Core.Path.{refl}
 use native.Mathlib.Omega.{arith}
-use borrow.Author.Rules.{rules}
 use borrow.Author.Tests.{eq-eqb, ne_eqb}
-use lib.ListN.{length}
-use Rattle.calculus.specs.Lists.{all}
-use Rattle.calculus.specs.Terms.{prop, filled}
-use Rattle.calculus.proofs.Walks.{Passed, passed_blank, passed_all, passed_more, passed_no}
+use Rattle.calculus.proofs.Walks.{passed_blank, passed_all, passed_more, passed_no}
 use Rattle.clauses.proofs.all_props.Goals as goal
 
 pub loop-k-init : goal.loop-k-init

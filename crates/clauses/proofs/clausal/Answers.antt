@@ -1,5 +1,4 @@
 -- `clauses::clausal` meets its contract.
-use borrow.Author.Rules.{rules}
 use Rattle.calculus.specs.Terms.{cells, args}
 use Rattle.clauses.specs.Pairs.{from}
 use Rattle.clauses.proofs.clausal.Goals as goal

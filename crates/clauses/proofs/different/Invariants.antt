@@ -1,9 +1,7 @@
 -- `clauses::different` meets its contract. The rows passed are named once. Assumes nothing.
 use Prim.Native.Nat.{◌-◌}
-use borrow.Author.Rules.{rules}
-use borrow.Author.Tests.{not-true, not-false}
 use lib.ListN.{length}
-use Rattle.calculus.proofs.Walks.{Once, once_none, once_blank, once_all, once_more, once_no}
+use Rattle.calculus.proofs.Walks.{Once}
 use Rattle.clauses.proofs.different.Given as goal
 
 abbrev pub invariant-loop-k : goal.invariant-loop-k

@@ -1,5 +1,4 @@
 -- `clauses::is_clause` meets its contract.
-use borrow.Author.Rules.{rules}
 use Rattle.clauses.proofs.is_clause.Goals as goal
 
 pub returns : goal.returns

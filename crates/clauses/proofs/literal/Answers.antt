@@ -1,5 +1,4 @@
 -- `clauses::literal` meets its contract.
-use borrow.Author.Rules.{rules}
 use borrow.Author.Tests.{eq-eqb, ne_eqb}
 use Rattle.calculus.specs.Terms.{cells, arg}
 use Rattle.calculus.specs.Clauses.{literal}

@@ -22,6 +22,4 @@ unfolding from
 returns-in-3 c = rw c.in-3.is
 
 pub returns-in_default : goal.returns-in_default
-returns-in_default c =
-    let other = c.in_default.in_default-own.rest in
-    sym (from_past c.args.h c.args.k (omega (arith, other.0.0.0.1, other.0.0.1, other.0.1, other.1)))
+returns-in_default c = sym (from_past c.args.h c.args.k (omega arith))

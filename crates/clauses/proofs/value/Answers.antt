@@ -1,5 +1,4 @@
 -- `clauses::value` meets its contract.
-use borrow.Author.Rules.{rules}
 use borrow.Author.Tests.{ne_eqb}
 use Rattle.clauses.proofs.value.Goals as goal
 

@@ -4,6 +4,4 @@ use Rattle.rule_connectives.proofs.Laws.{has_more}
 use Rattle.rule_connectives.proofs.more_has.Goals as goal
 
 pub returns : goal.returns
-returns c xs e =
-    let start = c.before in
-    rw e (sym (has_more start.args.l.0 start.args.x xs))
+returns c xs e = rw e (sym (has_more c.args.l.0 c.args.x xs))

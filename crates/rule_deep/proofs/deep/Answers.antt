@@ -1,5 +1,4 @@
 -- `rule_deep::deep` meets its contract.
-use borrow.Author.Rules.{rules}
 use mathlib.Core.Path.{refl}
 use native.Mathlib.Omega.{arith}
 use lib.ListN.{replicate}
@@ -11,7 +10,7 @@ pub note_all-all-requires : goal.note_all-all-requires
 note_all-all-requires c = empties (replicate 256 0) refl refl
 
 pub returns-then-own-ne0 : goal.returns-then-own-ne0
-returns-then-own-ne0 c = deep_own _ _ _ _ _ c.note_all-all.ensures c.recall-own.ensures c.if-own-ne0.true c.Value-on.ensures
+returns-then-own-ne0 c = deep_own _ _ _ _ _ c.note_all-all.ensures c.recall-own.ensures c.if-own-ne0.true c.value_on.ensures
 
 pub walk-c-requires : goal.walk-c-requires
 walk-c-requires c =

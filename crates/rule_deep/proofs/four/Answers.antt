@@ -1,5 +1,4 @@
 -- `rule_deep::four` meets its contract.
-use borrow.Author.Rules.{rules}
 use Rattle.rule_deep.proofs.four.Goals as goal
 
 pub returns : goal.returns

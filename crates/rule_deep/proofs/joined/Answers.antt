@@ -1,5 +1,4 @@
 -- `rule_deep::joined` meets its contract.
-use borrow.Author.Rules.{rules}
 use Rattle.rule_deep.proofs.joined.Goals as goal
 
 pub returns : goal.returns

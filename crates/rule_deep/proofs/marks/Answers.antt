@@ -1,5 +1,4 @@
 -- `rule_deep::marks` meets its contract.
-use borrow.Author.Rules.{rules}
 use Rattle.rule_deep.proofs.Bits.{marks_nil}
 use Rattle.rule_deep.proofs.marks.Goals as goal
 

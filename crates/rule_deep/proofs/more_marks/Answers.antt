@@ -1,5 +1,4 @@
 -- `rule_deep::more_marks` meets its contract.
-use borrow.Author.Rules.{rules}
 use native.Mathlib.Omega.{arith}
 use borrow.Author.Tests.{eq-eqb, ne_eqb}
 use Rattle.rule_deep.proofs.Bits.{marks_end, marks_set, marks_clear}

@@ -8,19 +8,16 @@ use Rattle.rule_deep.proofs.note.Goals as goal
 pub overflow_mul-memo-then-p-lt256 : goal.overflow_mul-memo-then-p-lt256
 overflow_mul-memo-then-p-lt256 c =
     let l = number_le (eqb c.args.p.value 1) c.number.ensures in
-    let r = c.requires in
     search rules
 
 pub overflow_add-memo-then-p-lt256 : goal.overflow_add-memo-then-p-lt256
 overflow_add-memo-then-p-lt256 c =
     let l = number_le (eqb c.args.p.value 1) c.number.ensures in
-    let r = c.requires in
     search rules
 
 pub overflow_add-memo-then-p-lt256-2 : goal.overflow_add-memo-then-p-lt256-2
 overflow_add-memo-then-p-lt256-2 c =
     let l = number_le (eqb c.args.p.value 1) c.number.ensures in
-    let r = c.requires in
     search rules
 
 pub returns-then-p-lt256 : goal.returns-then-p-lt256

@@ -1,5 +1,4 @@
 -- `rule_deep::note_s` meets its contract.
-use borrow.Author.Rules.{rules}
 use native.Mathlib.Omega.{arith}
 use Rattle.rule_deep.proofs.Memory.{notes_end, notes_more}
 use Rattle.rule_deep.proofs.note_s.Goals as goal

@@ -1,5 +1,4 @@
 -- `rule_deep::one` meets its contract.
-use borrow.Author.Rules.{rules}
 use Rattle.rule_deep.proofs.one.Goals as goal
 
 pub returns : goal.returns

@@ -1,5 +1,4 @@
 -- `rule_deep::recall` meets its contract.
-use borrow.Author.Rules.{rules}
 use Rattle.rule_deep.proofs.Bits.{marks_least}
 use Rattle.rule_deep.proofs.Memory.{recalled_read, recalled_marks}
 use Rattle.rule_deep.proofs.recall.Goals as goal
@@ -13,4 +12,4 @@ premised-requires c =
     marks_least _ x.p x.q x.r x.s x.t c.marks.ensures
 
 pub returns : goal.returns
-returns c = recalled_marks _ _ _ c.if-t-lt256.false c.marks.ensures c.Value-on.ensures c.premised.ensures
+returns c = recalled_marks _ _ _ c.if-t-lt256.false c.marks.ensures c.value_on.ensures c.premised.ensures

@@ -1,5 +1,4 @@
 -- `rule_deep::remember` meets its contract.
-use borrow.Author.Rules.{rules}
 use mathlib.Core.Path.{refl}
 use mathlib.Core.Logic.{inl}
 use Rattle.rule_deep.proofs.Memory.{remembered}
@@ -9,4 +8,4 @@ pub returns-then-row-lt256 : goal.returns-then-row-lt256
 returns-then-row-lt256 c = remembered c.args.memo.now _ _
 
 pub returns-else-row-lt256 : goal.returns-else-row-lt256
-returns-else-row-lt256 c = returns_2 c u = inl refl
+returns-else-row-lt256 c u = inl refl

@@ -1,5 +1,4 @@
 -- `rule_deep::three` meets its contract.
-use borrow.Author.Rules.{rules}
 use Rattle.rule_deep.proofs.three.Goals as goal
 
 pub returns : goal.returns

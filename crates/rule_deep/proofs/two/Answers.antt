@@ -1,5 +1,4 @@
 -- `rule_deep::two` meets its contract.
-use borrow.Author.Rules.{rules}
 use Rattle.rule_deep.proofs.two.Goals as goal
 
 pub returns : goal.returns

@@ -1,5 +1,4 @@
 -- `rule_deep::value_on` meets its contract.
-use borrow.Author.Rules.{rules}
 use Rattle.rule_deep.proofs.Bits.{value_nil}
 use Rattle.rule_deep.proofs.value_on.Goals as goal
 

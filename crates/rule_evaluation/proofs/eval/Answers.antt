@@ -6,9 +6,9 @@ use borrow.Author.Rules.{rules}
 use Rattle.rule_evaluation.proofs.eval.Goals as goal
 
 pub returns-then-not-same_rows : goal.returns-then-not-same_rows
-returns-then-not-same_rows c = eval_unlike _ _ _ _ (rw c.term_at-l.ensures at (sym c.same_rows.ensures ∙ not-true _ c.if-not-same_rows.true))
+returns-then-not-same_rows c = eval_unlike _ _ _ _ (rw c.term_at-l.ensures at (sym c.same_rows.ensures ∙ c.if-not-same_rows.true))
 
 pub returns : goal.returns
 returns c =
     let t = c.term_at-l.ensures in
-    rw (c.evaluates.ensures, t) (eval_like _ _ _ _ (rw t at (sym c.same_rows.ensures ∙ not-false _ c.if-not-same_rows.false)))
+    rw (c.evaluates.ensures, t) (eval_like _ _ _ _ (rw t at (sym c.same_rows.ensures ∙ c.if-not-same_rows.false)))

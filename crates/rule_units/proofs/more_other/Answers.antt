@@ -5,5 +5,5 @@ use Rattle.rule_units.proofs.more_other.Goals as goal
 
 pub returns : goal.returns
 returns c xs ps e =
-    let y = c.before.before.before.before.args in
+    let y = c.args in
     rw e (sym (others_more y.w y.a xs y.p ps))

@@ -5,5 +5,5 @@ use Rattle.rule_units.proofs.more_unit.Goals as goal
 
 pub returns : goal.returns
 returns c xs ps e h =
-    let y = c.before.before.before.before.args in
+    let y = c.args in
     rw (e, h) (sym (unit_more y.w y.l.0 y.a xs y.p ps))

@@ -5,13 +5,11 @@ use Rattle.calculus.proofs.Forms.{fault_later, fault_here}
 use Rattle.step_rows.proofs.more_strange.Goals as goal
 
 pub returns-then-p-n : goal.returns-then-p-n
-returns-then-p-n c =
-    returns c xs e =
-    let y = c.before.args in
-    e ∙ sym (fault_later (λ p. ltb p y.n) y.c y.p xs refl c.if1.true)
+returns-then-p-n c xs e =
+    let y = c.args in
+    e ∙ sym (fault_later (λ p. ltb p y.n) y.c y.p xs refl c.if-p-n.true)
 
 pub returns : goal.returns
-returns c =
-    returns_2 c xs e =
-    let y = c.before.args in
-    sym (fault_here (λ p. ltb p y.n) y.c y.p xs refl c.if1.false)
+returns c xs e =
+    let y = c.args in
+    sym (fault_here (λ p. ltb p y.n) y.c y.p xs refl c.if-p-n.false)
