@@ -1,7 +1,6 @@
 -- Laws of the definitions, and what is proved of them.
 pub mod Facts
 pub mod Forms
-pub mod First
 pub mod Walks
 pub mod Entries
 pub mod Trails

@@ -16,7 +16,7 @@ use Rattle.calculus.specs.Place.{term_column, last_column, free_values, with, co
 use Rattle.calculus.proofs.Facts.{and_both, or_l, eqb_of, T_true, false_T}
 use Rattle.calculus.proofs.Deep.{grounded_here, value_here, comes_here}
 use Rattle.completions.specs.First.{FirstUnfit, PlacesAreFirst}
-use Rattle.calculus.proofs.First.{First, first_is, first_below}
+use Rattle.completions.proofs.First.{First, first_is, first_below}
 use Rattle.completions.proofs.Completion.{completes_of}
 use Rattle.completions.proofs.Needed.{low_small}
 use Rattle.completions.proofs.Theorem.{take_all, unfit_first}

@@ -15,7 +15,7 @@ use Rattle.calculus.specs.Rules.{fits}
 use Rattle.calculus.specs.Place.{with, free_values, completes}
 use Rattle.calculus.proofs.Facts.{and_l, and_r, and_both, or_cases, or_l, or_r}
 use Rattle.completions.specs.Search.{small, is_row}
-use Rattle.calculus.proofs.First.{somewhere_of, somewhere_at}
+use Rattle.completions.proofs.First.{somewhere_of, somewhere_at}
 
 pub append_nil : (ps : List Premise) → ps ++ [] ≡ ps
 append_nil [] = refl

@@ -17,7 +17,7 @@ use Rattle.calculus.specs.Place.{with}
 use Rattle.calculus.proofs.Facts.{and_r, or_cases, facts}
 use Rattle.calculus.proofs.Forms.{args_short, connected}
 use Rattle.completions.specs.Needs.{needs}
-use Rattle.calculus.proofs.First.{somewhere_at}
+use Rattle.completions.proofs.First.{somewhere_at}
 use Rattle.completions.proofs.Openings.{Exact, Complete, exact_open}
 
 -- p is row r with value w

@@ -1,4 +1,5 @@
 -- That the search misses no completion, and what places it finds.
+pub mod First
 pub mod Completion
 pub mod Needed
 pub mod Openings

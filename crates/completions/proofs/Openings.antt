@@ -13,7 +13,7 @@ use Rattle.calculus.specs.Place.{with}
 use Rattle.calculus.proofs.Facts.{and_l, and_r, and_both}
 use Rattle.completions.specs.Needs.{ways, equation, equations, needs}
 use Rattle.completions.specs.Search.{over, is_row, serves, followed, tried, extensible}
-use Rattle.calculus.proofs.First.{somewhere_of, first_below, first_holds}
+use Rattle.completions.proofs.First.{somewhere_of, first_below, first_holds}
 
 -- takes conjunctions apart and puts them together
 pub ruleset chain = (and_both, and_l, and_r)

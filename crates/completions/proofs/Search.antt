@@ -15,7 +15,7 @@ use Rattle.calculus.specs.Place.{at_term, with}
 use Rattle.calculus.proofs.Facts.{and_l, and_r, and_both, true_or_false}
 use Rattle.completions.specs.Needs.{ways, needs}
 use Rattle.completions.specs.Search.{over, small, is_row, serves, followed, tried, extensible}
-use Rattle.calculus.proofs.First.{somewhere_at}
+use Rattle.completions.proofs.First.{somewhere_at}
 use Rattle.completions.proofs.Completion.{append_nil, Completion}
 use Rattle.completions.proofs.Needed.{low_small, needs_short, needs_small}
 use Rattle.completions.proofs.Openings.{Rows, Complete}

@@ -58,7 +58,7 @@ module _ (w n : ℕ) (ws : List ℕ) (count : ℕ) where
   level = conflict_level w n ws count
 
   -- a row that was found in the conflict
-  pub member : (t : ℕ) {b : Bool} → Found w n ws count → t < n → b ≡ conflict_in w n ws t → not b ≡ false → Member w n ws count t
+  pub member : (t : ℕ) {b : Bool} → Found w n ws count → t < n → b ≡ conflict_in w n ws t → b ≡ true → Member w n ws count t
   member t f l e h = record { found = f; row = l; inside = told_yes e h }
 
   -- and is no decision

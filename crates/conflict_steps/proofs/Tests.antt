@@ -16,19 +16,19 @@ use Rattle.state.proofs.Tests.{told, told_not, told_yes, past, stops}
 
 module _ (ts : List ℕ) (tr : Trail) (E : Set) (a : ℕ) where
   module _ {m : Bool} (m_is : m ≡ E a) where
-    pub resolve_17 : not m ≡ true → 17 ≡ resolve_refusal ts tr E a
+    pub resolve_17 : m ≡ false → 17 ≡ resolve_refusal ts tr E a
     unfolding resolve_refusal
     resolve_17 h = stops _ _ (told_not m_is h)
 
-    pub clear_17 : not m ≡ true → 17 ≡ clear_refusal ts tr E a
+    pub clear_17 : m ≡ false → 17 ≡ clear_refusal ts tr E a
     unfolding clear_refusal
     clear_17 h = stops _ _ (told_not m_is h)
 
-    pub jump_17 : not m ≡ true → 17 ≡ jump_refusal ts tr E a
+    pub jump_17 : m ≡ false → 17 ≡ jump_refusal ts tr E a
     unfolding jump_refusal
     jump_17 h = stops _ _ (told_not m_is h)
 
-    module _ (m_in : not m ≡ false) where
+    module _ (m_in : m ≡ true) where
       in_set : E a ≡ true
       in_set = told_yes m_is m_in
 
@@ -50,30 +50,30 @@ module _ (ts : List ℕ) (tr : Trail) (E : Set) (a : ℕ) where
           suits_is : (d && not p) ≡ (decided_at tr a && not (prop ts a))
           suits_is = rw (d_is, p_is)
 
-          pub clear_20 : not (d && not p) ≡ true → 20 ≡ clear_refusal ts tr E a
+          pub clear_20 : (d && not p) ≡ false → 20 ≡ clear_refusal ts tr E a
           unfolding clear_refusal
           clear_20 h = past _ _ in_set (stops _ _ (told_not suits_is h))
 
-          module _ (suits : not (d && not p) ≡ false) {b : Bool} (b_is : b ≡ ltb (level_of tr (remove E a)) (level_at tr a)) where
-            pub clear_21 : not b ≡ true → 21 ≡ clear_refusal ts tr E a
+          module _ (suits : (d && not p) ≡ true) {b : Bool} (b_is : b ≡ ltb (level_of tr (remove E a)) (level_at tr a)) where
+            pub clear_21 : b ≡ false → 21 ≡ clear_refusal ts tr E a
             unfolding clear_refusal
             clear_21 h = past _ _ in_set (past _ _ (told_yes suits_is suits) (stops _ _ (told_not b_is h)))
 
-            pub clear_0 : not b ≡ false → 0 ≡ clear_refusal ts tr E a
+            pub clear_0 : b ≡ true → 0 ≡ clear_refusal ts tr E a
             unfolding clear_refusal
             clear_0 h = past _ _ in_set (past _ _ (told_yes suits_is suits) (past _ _ (told_yes b_is h) refl))
 
       module _ {p : Bool} (p_is : p ≡ prop ts a) where
-        pub jump_22 : not p ≡ true → 22 ≡ jump_refusal ts tr E a
+        pub jump_22 : p ≡ false → 22 ≡ jump_refusal ts tr E a
         unfolding jump_refusal
         jump_22 h = past _ _ in_set (stops _ _ (told_not p_is h))
 
-        module _ (p_in : not p ≡ false) {b : Bool} (b_is : b ≡ ltb (level_of tr (remove E a)) (level_at tr a)) where
-          pub jump_21 : not b ≡ true → 21 ≡ jump_refusal ts tr E a
+        module _ (p_in : p ≡ true) {b : Bool} (b_is : b ≡ ltb (level_of tr (remove E a)) (level_at tr a)) where
+          pub jump_21 : b ≡ false → 21 ≡ jump_refusal ts tr E a
           unfolding jump_refusal
           jump_21 h = past _ _ in_set (past _ _ (told_yes p_is p_in) (stops _ _ (told_not b_is h)))
 
-          pub jump_0 : not b ≡ false → 0 ≡ jump_refusal ts tr E a
+          pub jump_0 : b ≡ true → 0 ≡ jump_refusal ts tr E a
           unfolding jump_refusal
           jump_0 h = past _ _ in_set (past _ _ (told_yes p_is p_in) (past _ _ (told_yes b_is h) refl))
 
@@ -81,24 +81,24 @@ module _ (ts : List ℕ) (tr : Trail) (E : Set) (a : ℕ) where
 
 module _ (ts : List ℕ) (tr : Trail) (E : Set) (l k : ℕ) where
   module _ {a : Bool} (a_is : a ≡ E l) where
-    pub flip_17_l : not a ≡ true → 17 ≡ flip_refusal ts tr E l k
+    pub flip_17_l : a ≡ false → 17 ≡ flip_refusal ts tr E l k
     unfolding flip_refusal
     flip_17_l h = stops _ _ (rw (told_not a_is h))
 
-    module _ (a_in : not a ≡ false) {b : Bool} (b_is : b ≡ E k) where
-      pub flip_17_k : not b ≡ true → 17 ≡ flip_refusal ts tr E l k
+    module _ (a_in : a ≡ true) {b : Bool} (b_is : b ≡ E k) where
+      pub flip_17_k : b ≡ false → 17 ≡ flip_refusal ts tr E l k
       unfolding flip_refusal
       flip_17_k h = stops _ _ (rw (told_yes a_is a_in, told_not b_is h))
 
-      module _ (b_in : not b ≡ false) {p : Bool} (p_is : p ≡ prop ts l) where
+      module _ (b_in : b ≡ true) {p : Bool} (p_is : p ≡ prop ts l) where
         both_in : (E l && E k) ≡ true
         both_in = rw (told_yes a_is a_in, told_yes b_is b_in)
 
-        pub flip_22 : not p ≡ true → 22 ≡ flip_refusal ts tr E l k
+        pub flip_22 : p ≡ false → 22 ≡ flip_refusal ts tr E l k
         unfolding flip_refusal
         flip_22 h = past _ _ both_in (stops _ _ (told_not p_is h))
 
-        module _ (p_in : not p ≡ false) {d : Bool} (d_is : d ≡ decided_at tr l) where
+        module _ (p_in : p ≡ true) {d : Bool} (d_is : d ≡ decided_at tr l) where
           pub flip_18_l : d ≡ true → 18 ≡ flip_refusal ts tr E l k
           unfolding flip_refusal
           flip_18_l h = past _ _ both_in (past _ _ (told_yes p_is p_in) (stops _ _ (rw (told d_is h))))
@@ -120,8 +120,8 @@ module _ (ts : List ℕ) (tr : Trail) (E : Set) (l k : ℕ) where
               flip_23_same q = to_last (stops _ _ (rw (eq-eqb _ _ q)))
 
               module _ (other : l ≡ k → ⊥) {s : Bool} (s_is : s ≡ holds tr (intersection (why_at tr l) (why_at tr k)) (first_order ts (level_of tr E))) where
-                pub flip_23_apart : not s ≡ true → 23 ≡ flip_refusal ts tr E l k
+                pub flip_23_apart : s ≡ false → 23 ≡ flip_refusal ts tr E l k
                 flip_23_apart h = to_last (stops _ _ (rw (ne_eqb _ _ other, told_not s_is h)))
 
-                pub flip_0 : not s ≡ false → 0 ≡ flip_refusal ts tr E l k
+                pub flip_0 : s ≡ true → 0 ≡ flip_refusal ts tr E l k
                 flip_0 h = to_last (past _ _ (rw (ne_eqb _ _ other, told_yes s_is h)) refl)

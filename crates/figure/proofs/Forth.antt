@@ -322,7 +322,8 @@ module _ (ts : List ℕ) where
           (all_of (prop ts) hs (λ q i. let o = Memᴰ.of_map row_of H i in subst (λ t. T (prop ts t)) o.2 (eqb_of (M.boolean o.0 o.1)))) c.0)
           (unless_of _ 25 _ (and_both (different hs) _ (different_of M.different) (rw p.1 c.1))
           (unless_of _ 14 _ (off_of tr t off)
-          (unless_of _ 21 _ (and_both (leb (level_of tr S) m) _ (le→leb (level_of tr S) m (omega arith)) (lt→ltb m (level_of tr (has hs)) (omega arith))) refl)))))
+          (unless_of _ 21 _
+          (and_both (leb (level_of tr S) m) _ (le→leb (level_of tr S) m (omega arith)) (lt→ltb m (level_of tr (has hs)) (omega arith))) refl)))))
           ∙ (λ i. allowed (searching (justified_at t (c.2 i) (g i) S ∷ restricted_of r i)))
 
   -- ---- rows of the sheet

@@ -16,7 +16,7 @@ use Rattle.calculus.specs.Terms.{terms_refusal}
 use Rattle.calculus.specs.Trail.{Trail}
 use Rattle.calculus.specs.Rules.{row_of, rule_of}
 use Rattle.calculus.specs.WellFormed.{WellFormed, WellFormedState, Coherent}
-use Rattle.calculus.specs.Steps.{State, kind_of, step}
+use Rattle.calculus.specs.Steps.{State, kind_of}
 use Rattle.calculus.specs.Run.{run, start, sheets_refusal, call_refusal}
 use Rattle.calculus.proofs.Facts.{true_T, T_true, unless_ok, or_else_ok, facts}
 use Rattle.calculus.proofs.WellFormed.{level_small}

@@ -58,7 +58,7 @@ all_stand tr E [] h e = refl
 all_stand tr E (x ∷ xs) h e = let b = both_true (E x) _ e in rw (h x b.0) (all_stand tr E xs h b.1)
 
 module _ {w n : ℕ} {ws : List ℕ} {count : ℕ} {x : Step} {ps : List ℕ} {rest : ℕ} {b : Bool} (g : ToTest w n ws count x ps rest)
-    (e : b ≡ all (conflict_in w n ws) (filled ps)) (h : not b ≡ false) where
+    (e : b ≡ all (conflict_in w n ws) (filled ps)) (h : b ≡ true) where
   pub premised : Premised w n ws count x
   premised =
       let stand : all (on (trail_in w n ws count)) (filled ps) ≡ true = all_stand _ (conflict_in w n ws) (filled ps) g.found.within (told_yes e h) in
@@ -83,21 +83,21 @@ module _ (w n : ℕ) (ts ws : List ℕ) (count : ℕ) (x : Step) {ps : List ℕ}
     inside : a ≡ all set (premises x)
     inside = a_is ∙ ap (all set) (columns x g.columns)
 
-    pub learn_17 : not a ≡ true → 17 ≡ number
+    pub learn_17 : a ≡ false → 17 ≡ number
     unfolding learn_refusal
     learn_17 h = stops _ _ (told_not inside h)
 
-    module _ (a_in : not a ≡ false) {b : Bool} (b_is : b ≡ (all (prop ts) (premises x) && is_clause ts x.term)) where
-      pub learn_22 : not b ≡ true → 22 ≡ number
+    module _ (a_in : a ≡ true) {b : Bool} (b_is : b ≡ (all (prop ts) (premises x) && is_clause ts x.term)) where
+      pub learn_22 : b ≡ false → 22 ≡ number
       unfolding learn_refusal
       learn_22 h = past _ _ (told_yes inside a_in) (stops _ _ (told_not b_is h))
 
-      module _ (b_in : not b ≡ false) {c : Bool} (c_is : c ≡ (different (premises x) && clausal ts x.term (premises_at here (premises x)))) where
-        pub learn_25 : not c ≡ true → 25 ≡ number
+      module _ (b_in : b ≡ true) {c : Bool} (c_is : c ≡ (different (premises x) && clausal ts x.term (premises_at here (premises x)))) where
+        pub learn_25 : c ≡ false → 25 ≡ number
         unfolding learn_refusal
         learn_25 h = past _ _ (told_yes inside a_in) (past _ _ (told_yes b_is b_in) (stops _ _ (told_not c_is h)))
 
-        module _ (c_in : not c ≡ false) {d : Bool} (d_is : d ≡ on here x.term) where
+        module _ (c_in : c ≡ true) {d : Bool} (d_is : d ≡ on here x.term) where
           -- three tests are passed
           then : {k : ℕ} (later : ℕ) → k ≡ later
               → k ≡ unless (all set (premises x)) 17 (unless (all (prop ts) (premises x) && is_clause ts x.term) 22
@@ -115,11 +115,11 @@ module _ (w n : ℕ) (ts ws : List ℕ) (count : ℕ) (x : Step) {ps : List ℕ}
                 ∙ ap (λ (m : ℕ). leb m x.value && ltb x.value (level_of here (has (premises x))))
                 (g.level ∙ ap (λ (xs : List ℕ). level_of here (without set xs)) (columns x g.columns))
 
-            pub learn_21 : not f ≡ true → 21 ≡ number
+            pub learn_21 : f ≡ false → 21 ≡ number
             unfolding learn_refusal
             learn_21 h = then _ (past _ _ (ap not (told d_is d_no)) (stops _ _ (told_not suits h)))
 
-            pub learn_0 : not f ≡ false → 0 ≡ number
+            pub learn_0 : f ≡ true → 0 ≡ number
             unfolding learn_refusal
             learn_0 h = then _ (past _ _ (ap not (told d_is d_no)) (past _ _ (told_yes suits h) refl))
 

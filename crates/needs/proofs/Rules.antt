@@ -19,7 +19,7 @@ use Rattle.completions.specs.Needs.{equation, equations, needs}
 use Rattle.needs.specs.declared.Columns.{Columns}
 use Rattle.needs.specs.declared.Known.{Known}
 use Rattle.needs.specs.Listed.{listed, Four, needs_of}
-use Rattle.calculus.proofs.First.{where_zero, where_more, where_found}
+use Rattle.needs.proofs.First.{where_zero, where_more, where_found}
 
 -- ---- the first row that is a = b
 

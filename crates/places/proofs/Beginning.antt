@@ -14,7 +14,7 @@ use Rattle.calculus.specs.Place.{with}
 use Rattle.calculus.proofs.Facts.{and_l, and_r, and_both, T_false, false_T, true_or_false}
 use Rattle.completions.specs.Needs.{needs}
 use Rattle.completions.specs.Search.{serves, followed}
-use Rattle.calculus.proofs.First.{somewhere_at}
+use Rattle.completions.proofs.First.{somewhere_at}
 use Rattle.needs.specs.declared.Columns.{Columns}
 use Rattle.needs.specs.Listed.{listed}
 use Rattle.places.specs.Tested.{Begins}
@@ -52,8 +52,8 @@ module _ (ts : List ℕ) (l r : ℕ) where
   begins_any k = record { passed = λ v e. absurd (true_or_false {b = true} refl e) }
 
   module _ (k : Rule) (v : ℕ) where
-    pub begun_not : {b : Bool} → Begins ts k l r b → not b ≡ true → false ≡ followed ts k l v [] (with 0 r)
-    begun_not {b} h e = sym (h.passed v (not-true b e))
+    pub begun_not : {b : Bool} → Begins ts k l r b → b ≡ false → false ≡ followed ts k l v [] (with 0 r)
+    begun_not {b} h e = sym (h.passed v e)
 
     pub begun_follows : (none : Columns) {b : Bool} → none.count ≡ 0 → b ≡ followed ts k l v (listed none) (with 0 r) → b ≡ followed ts k l v [] (with 0 r)
     unfolding listed

@@ -15,13 +15,14 @@ use Rattle.calculus.specs.Place.{at_term, with, first_unfit}
 use Rattle.calculus.proofs.Facts.{T_true, true_T}
 use Rattle.completions.specs.Needs.{searched, ways, needs}
 use Rattle.completions.specs.Search.{over, serves, followed, tried, extensible, findable, found_place}
-use Rattle.calculus.proofs.First.{somewhere_of, where_zero, where_more, where_found}
+use Rattle.completions.proofs.First.{somewhere_of}
 use Rattle.rule_claims.specs.declared.Claim.{Claim}
 use Rattle.rule_claims.specs.Claims.{premises_of, allows}
 use Rattle.needs.specs.declared.Columns.{Columns}
 use Rattle.needs.specs.Listed.{columns_of, listed}
 use Rattle.places.specs.Tested.{Tested, Counted}
 use Rattle.places.proofs.Claimed.{first_is}
+use Rattle.needs.proofs.First.{where_zero, where_more, where_found}
 
 -- ---- some number below a bound
 
@@ -131,7 +132,7 @@ module _ (ts : List ℕ) (k : Rule) (x : Claim) where
   all_found_yet = where_zero lost
 
   module _ {j : ℕ} {b : Bool} (s : b ≡ findable ts k x.term.0 x.value (premises_of x) (3 + j)) (h : AllFound j) where
-    pub all_found_more : not b ≡ false → AllFound (j + 1)
+    pub all_found_more : b ≡ true → AllFound (j + 1)
     all_found_more e = where_more lost j h (ap not (sym s) ∙ e)
 
     pub unfit_found : {n m : ℕ} → Tested ts n x → at_term k ≡ false → Counted x m → j < 7 → not b ≡ true

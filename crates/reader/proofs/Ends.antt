@@ -26,23 +26,23 @@ module _ (core : Core) (t : List ℕ) (whole : Bool) (n : ℕ) where
   fault_line h = rw (ne_eqb core.number 0 h)
 
   module _ (good : core.number ≡ 0) {steps : Bool} (steps_is : steps ≡ is_steps core.sheet) where
-    pub fault_sheet : {r : Fault} → not steps ≡ true → r ≡ end_fault whole n → r ≡ fault_of (control_of core t) whole n
-    fault_sheet h is = is ∙ rw (eq-eqb core.number 0 good, sym steps_is ∙ not-true steps h)
+    pub fault_sheet : {r : Fault} → steps ≡ false → r ≡ end_fault whole n → r ≡ fault_of (control_of core t) whole n
+    fault_sheet h is = is ∙ rw (eq-eqb core.number 0 good, sym steps_is ∙ h)
 
-    module _ (in_steps : not steps ≡ false) where
-      pub fault_header : {r : Fault} → not core.headed ≡ true → r ≡ end_fault whole n → r ≡ fault_of (control_of core t) whole n
-      fault_header h is = is ∙ rw (eq-eqb core.number 0 good, sym steps_is ∙ not-false steps in_steps, not-true core.headed h)
+    module _ (in_steps : steps ≡ true) where
+      pub fault_header : {r : Fault} → core.headed ≡ false → r ≡ end_fault whole n → r ≡ fault_of (control_of core t) whole n
+      fault_header h is = is ∙ rw (eq-eqb core.number 0 good, sym steps_is ∙ in_steps, not-true core.headed h)
 
-      module _ (has_header : not core.headed ≡ false) where
-        pub fault_rest : {r : Fault} → not whole ≡ true → r ≡ end_fault whole n → r ≡ fault_of (control_of core t) whole n
+      module _ (has_header : core.headed ≡ true) where
+        pub fault_rest : {r : Fault} → whole ≡ false → r ≡ end_fault whole n → r ≡ fault_of (control_of core t) whole n
         fault_rest h is =
-            let e = not-true whole h in
-            is ∙ rw (eq-eqb core.number 0 good, sym steps_is ∙ not-false steps in_steps, not-false core.headed has_header, e)
+            let e = h in
+            is ∙ rw (eq-eqb core.number 0 good, sym steps_is ∙ in_steps, not-false core.headed has_header, e)
 
-        pub fault_none : not whole ≡ false → no_fault ≡ fault_of (control_of core t) whole n
+        pub fault_none : whole ≡ true → no_fault ≡ fault_of (control_of core t) whole n
         fault_none h =
-            let e = not-false whole h in
-            rw (eq-eqb core.number 0 good, sym steps_is ∙ not-false steps in_steps, not-false core.headed has_header, e)
+            let e = h in
+            rw (eq-eqb core.number 0 good, sym steps_is ∙ in_steps, not-false core.headed has_header, e)
 
 -- what is returned
 pub outcome_counts : (number : ℕ) (f : Fault) (n : Counts) (t : List ℕ) (a b c d w : ℕ)

@@ -41,12 +41,12 @@ use Rattle.search_steps.proofs.Tests.{deduce_first, contradiction_first, clash_f
 
 -- the premises were tested
 pub premised : (w n : ℕ) (ts ws : List ℕ) (count : ℕ) (x : Step) {b : Bool} → Inferred w n ts ws count x
-    → b ≡ all (on (trail_in w n ws count)) (premises x) → not b ≡ false → Premised w n ws count x
+    → b ≡ all (on (trail_in w n ws count)) (premises x) → b ≡ true → Premised w n ws count x
 premised w n ts ws count x g e h = record { laid = g.laid; stand = told_yes e h }
 
 -- what the rule test asks
 pub to_test : (w n : ℕ) (ts ws : List ℕ) (count : ℕ) (x : Step) {b : Bool} {y : Claim} → Inferred w n ts ws count x
-    → b ≡ all (on (trail_in w n ws count)) (premises x) → not b ≡ false → Claims (trail_in w n ws count) x y → Tested ts n y
+    → b ≡ all (on (trail_in w n ws count)) (premises x) → b ≡ true → Claims (trail_in w n ws count) x y → Tested ts n y
 to_test w n ts ws count x g e h c =
     record {
       rows = g.rows;

@@ -30,21 +30,21 @@ use Rattle.search_steps.proofs.Laws.{fits_true, fits_false, unfit_at, tested}
 
 module _ (ts : List ℕ) (tr : Trail) (t v : ℕ) where
   module _ {a : Bool} (a_is : a ≡ value_suits ts t v) where
-    pub decide_22 : not a ≡ true → 22 ≡ decide_refusal ts tr t v
+    pub decide_22 : a ≡ false → 22 ≡ decide_refusal ts tr t v
     unfolding decide_refusal
     decide_22 h = stops _ _ (told_not a_is h)
 
-    module _ (a_in : not a ≡ false) {b : Bool} (b_is : b ≡ on tr t) where
+    module _ (a_in : a ≡ true) {b : Bool} (b_is : b ≡ on tr t) where
       pub decide_14 : b ≡ true → 14 ≡ decide_refusal ts tr t v
       unfolding decide_refusal
       decide_14 h = past _ _ (told_yes a_is a_in) (stops _ _ (ap not (told b_is h)))
 
       module _ (b_in : b ≡ false) {d : Bool} (d_is : d ≡ acceptable ts tr t v) where
-        pub decide_27 : not d ≡ true → 27 ≡ decide_refusal ts tr t v
+        pub decide_27 : d ≡ false → 27 ≡ decide_refusal ts tr t v
         unfolding decide_refusal
         decide_27 h = past _ _ (told_yes a_is a_in) (past _ _ (ap not (told b_is b_in)) (stops _ _ (told_not d_is h)))
 
-        pub decide_0 : not d ≡ false → 0 ≡ decide_refusal ts tr t v
+        pub decide_0 : d ≡ true → 0 ≡ decide_refusal ts tr t v
         unfolding decide_refusal
         decide_0 h = past _ _ (told_yes a_is a_in) (past _ _ (ap not (told b_is b_in)) (past _ _ (told_yes d_is h) refl))
 
@@ -73,16 +73,16 @@ module _ (ts : List ℕ) (tr : Trail) (x : Step) where
   the_inference rest = inference_refusal ts tr x.rule x.term x.value (premises x) rest
 
   module _ {a : Bool} (a_is : a ≡ prop ts x.term) where
-    pub inference_22 : not a ≡ true → Refuses (at ts tr x) (the_inference 0) (unplaced 22)
+    pub inference_22 : a ≡ false → Refuses (at ts tr x) (the_inference 0) (unplaced 22)
     unfolding inference_refusal place_of
     inference_22 h = bare ts tr x 22 refl (stops _ _ (told_not a_is h))
 
-    module _ (a_in : not a ≡ false) {b : Bool} (b_is : b ≡ all (on tr) (premises x)) where
-      pub inference_12 : {p : ℕ} → not b ≡ true → p ≡ absent_place tr x → Refuses (at ts tr x) (the_inference 0) (record { number = 12; place = p })
+    module _ (a_in : a ≡ true) {b : Bool} (b_is : b ≡ all (on tr) (premises x)) where
+      pub inference_12 : {p : ℕ} → b ≡ false → p ≡ absent_place tr x → Refuses (at ts tr x) (the_inference 0) (record { number = 12; place = p })
       unfolding inference_refusal place_of
       inference_12 h q = placed ts tr x 12 q (past _ _ (told_yes a_is a_in) (stops _ _ (told_not b_is h)))
 
-      module _ (b_in : not b ≡ false) {k : Rule} (k_is : k ≡ rule_of x.rule) {y : Claim} (y_is : Claims tr x y) {f : Fit}
+      module _ (b_in : b ≡ true) {k : Rule} (k_is : k ≡ rule_of x.rule) {y : Claim} (y_is : Claims tr x y) {f : Fit}
           (f_is : f ≡ fit_of (fits ts k y.term.0 y.value (premises_of y)) (unfit_place ts k y.term.0 y.value (premises_of y))) where
         fit_is : f ≡ fit_of (fits ts (rule_of x.rule) x.term x.value (premises_at tr (premises x))) (unfit_at ts tr x)
         fit_is = tested ts tr x f_is k_is y_is
@@ -168,13 +168,13 @@ module _ (ts : List ℕ) (tr : Trail) (x : Step) where
 
     module _ {b : Bool} (b_is : b ≡ on tr l) where
       -- a term that is not on the trail has no value there
-      pub deduce_0 : not b ≡ true → Said (deduce_refusal ts tr r l v ps) (unplaced 0)
+      pub deduce_0 : b ≡ false → Said (deduce_refusal ts tr r l v ps) (unplaced 0)
       unfolding deduce_refusal place_of
       deduce_0 h =
           let off = told_not b_is h in
           then_rest 0 _ refl (past _ _ (rw off) (past _ _ (ap not off) refl))
 
-      module _ (b_in : not b ≡ false) {a : Bool} (a_is : a ≡ assigned tr l v) where
+      module _ (b_in : b ≡ true) {a : Bool} (a_is : a ≡ assigned tr l v) where
         pub deduce_14 : a ≡ true → Said (deduce_refusal ts tr r l v ps) (unplaced 14)
         unfolding deduce_refusal place_of
         deduce_14 h = then_rest 14 _ refl (stops _ _ (ap not (told a_is h)))
@@ -187,11 +187,11 @@ module _ (ts : List ℕ) (tr : Trail) (x : Step) where
       held : {b : Bool} → a ≡ b → assigned tr l (opposite v) ≡ b
       held h = rw (sym o_is) (told a_is h)
 
-      pub contradiction_16 : not a ≡ true → Said (contradiction true) (unplaced 16)
+      pub contradiction_16 : a ≡ false → Said (contradiction true) (unplaced 16)
       unfolding contradiction_refusal place_of
       contradiction_16 h = then_rest 16 _ refl (stops _ _ (told_not (sym (held refl)) h))
 
-      pub contradiction_0 : not a ≡ false → Said (contradiction true) (unplaced 0)
+      pub contradiction_0 : a ≡ true → Said (contradiction true) (unplaced 0)
       unfolding contradiction_refusal place_of
       contradiction_0 h = then_rest 0 _ refl (past _ _ (told_yes (sym (held refl)) h) (past _ _ refl refl))
 

@@ -13,11 +13,11 @@ use Rattle.calculus.proofs.Facts.{unless_yes, unless_no}
 use Rattle.calculus.specs.Numbers.{unless, or_else, first_refusal, check_of}
 
 -- a test that fails gives its number, and one that passes the rest
-pub stop : (a : Bool) (n r : ℕ) → not a ≡ true → n ≡ unless a n r
-stop a n r e = sym (unless_no n r (not-true a e))
+pub stop : (a : Bool) (n r : ℕ) → a ≡ false → n ≡ unless a n r
+stop a n r e = sym (unless_no n r e)
 
-pub pass : (a : Bool) (n r x : ℕ) → not a ≡ false → x ≡ r → x ≡ unless a n r
-pass a n r x e q = q ∙ sym (unless_yes n r (not-false a e))
+pub pass : (a : Bool) (n r x : ℕ) → a ≡ true → x ≡ r → x ≡ unless a n r
+pass a n r x e q = q ∙ sym (unless_yes n r e)
 
 -- a check that passes is that of 0, and one that refuses is not
 pub passed_zero : (x : ℕ) → check_of x ≡ Passed → x ≡ 0

@@ -22,7 +22,7 @@ pub fn check_lengths(
     trail: &[u16],
 ) -> Check
     ensures { result ≡ check_of (length_refusal (record {
-      sorts = sorts.entry.now;
+      sorts = sorts.now;
       terms = terms.now;
       inputs = inputs.now;
       steps = steps.now;

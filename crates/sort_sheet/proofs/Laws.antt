@@ -21,10 +21,10 @@ unfolding is_plain
 plain_is ss s p q = rw (p, q)
 
 module _ (ss : List ℕ) (k : ℕ) {a p : Bool} (array : a ≡ is_array ss (k + 1)) (plain : p ≡ is_plain ss (k + 1)) where
-  pub sort_refused : not (a || p) ≡ true → Refused 1 ≡ check_of (sort_refusal ss k)
+  pub sort_refused : (a || p) ≡ false → Refused 1 ≡ check_of (sort_refusal ss k)
   unfolding sort_refusal
   sort_refused e = rw (← add-one k, ← array, ← plain) (ap check_of (stop _ 1 _ e))
 
-  pub sort_passed : not (a || p) ≡ false → Passed ≡ check_of (sort_refusal ss k)
+  pub sort_passed : (a || p) ≡ true → Passed ≡ check_of (sort_refusal ss k)
   unfolding sort_refusal
   sort_passed e = rw (← add-one k, ← array, ← plain) (ap check_of (pass _ 1 _ _ e refl))

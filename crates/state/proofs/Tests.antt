@@ -10,11 +10,11 @@ use Rattle.calculus.proofs.Facts.{unless_yes, unless_no}
 pub told : {r b v : Bool} → r ≡ b → r ≡ v → b ≡ v
 told e h = sym e ∙ h
 
-pub told_not : {r b : Bool} → r ≡ b → not r ≡ true → b ≡ false
-told_not e h = told e (not-true _ h)
+pub told_not : {r b : Bool} → r ≡ b → r ≡ false → b ≡ false
+told_not e h = told e h
 
-pub told_yes : {r b : Bool} → r ≡ b → not r ≡ false → b ≡ true
-told_yes e h = told e (not-false _ h)
+pub told_yes : {r b : Bool} → r ≡ b → r ≡ true → b ≡ true
+told_yes e h = told e h
 
 -- past a test that holds, and stopped at one that does not
 pub past : {b : Bool} {r : ℕ} (c rest : ℕ) → b ≡ true → r ≡ rest → r ≡ unless b c rest

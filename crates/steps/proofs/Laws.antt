@@ -109,23 +109,23 @@ module _ (w n : ℕ) (ts ws : List ℕ) (st : Status) (k : Kind) where
 -- ---- the number of each test of a row
 
 module _ (ts : List ℕ) (x : Step) {a b : Bool} where
-  pub row_9 : not a ≡ true → RowRefused ts x a b (unplaced 9)
+  pub row_9 : a ≡ false → RowRefused ts x a b (unplaced 9)
   unfolding place_of
-  row_9 h = record { number = stops _ _ (not-true _ h); place = λ tr. refl }
+  row_9 h = record { number = stops _ _ h; place = λ tr. refl }
 
-  module _ (a_in : not a ≡ false) where
-    pub row_10 : not b ≡ true → RowRefused ts x a b (unplaced 10)
+  module _ (a_in : a ≡ true) where
+    pub row_10 : b ≡ false → RowRefused ts x a b (unplaced 10)
     unfolding place_of
-    row_10 h = record { number = past _ _ (not-false _ a_in) (stops _ _ (not-true _ h)); place = λ tr. refl }
+    row_10 h = record { number = past _ _ a_in (stops _ _ h); place = λ tr. refl }
 
-    module _ (b_in : not b ≡ false) {c : Bool} (c_is : c ≡ known ts x) where
-      pub row_11 : {p : ℕ} → not c ≡ true → p ≡ strange_place ts x → RowRefused ts x a b (record { number = 11; place = p })
+    module _ (b_in : b ≡ true) {c : Bool} (c_is : c ≡ known ts x) where
+      pub row_11 : {p : ℕ} → c ≡ false → p ≡ strange_place ts x → RowRefused ts x a b (record { number = 11; place = p })
       unfolding place_of
-      row_11 h q = record { number = past _ _ (not-false _ a_in) (past _ _ (not-false _ b_in) (stops _ _ (told_not c_is h))); place = λ tr. q }
+      row_11 h q = record { number = past _ _ a_in (past _ _ b_in (stops _ _ (told_not c_is h))); place = λ tr. q }
 
-      pub row_0 : not c ≡ false → RowRefused ts x a b (unplaced 0)
+      pub row_0 : c ≡ true → RowRefused ts x a b (unplaced 0)
       unfolding place_of
-      row_0 h = record { number = past _ _ (not-false _ a_in) (past _ _ (not-false _ b_in) (past _ _ (told_yes c_is h) refl)); place = λ tr. refl }
+      row_0 h = record { number = past _ _ a_in (past _ _ b_in (past _ _ (told_yes c_is h) refl)); place = λ tr. refl }
 
 -- ---- a row of kind k
 

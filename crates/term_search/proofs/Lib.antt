@@ -1,3 +1,2 @@
--- Laws that belong to no one function.
-pub mod Uses
-pub mod Repeats
+-- Laws of the searches among term rows.
+pub mod Laws

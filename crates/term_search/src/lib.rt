@@ -4,8 +4,7 @@
 ghost use Rattle.std.specs.Prelude.{◌≡◌, not, ◌+◌, ◌*◌, ◌<◌, ◌≤◌, length};
 ghost use Rattle.calculus.specs.Terms.{head};
 ghost use Rattle.rows.specs.Rows.{Whole};
-ghost use Rattle.term_buckets.specs.Buckets.{buckets};
-ghost use Rattle.term_search.specs.Found.{FirstUse, Noted, Linked, noted, smaller, least, most_rows, agree, first_repeat};
+ghost use Rattle.term_search.specs.Found.{FirstUse, FirstRepeat, Noted, Linked, noted, smaller, least, mixed, mix, most_rows, column, agree};
 
 use calculus::Row;
 use rows::BLANK;
@@ -51,41 +50,72 @@ pub fn first_use(slots: &mut [u16; 1024], terms: &[u16], t: Row) -> Row
 
 // ---- the first row that repeats an earlier one
 
-// Whether rows t and u differ in column k.
-fn differ(terms: &[u16], t: Row, u: Row, k: usize) -> bool
-    requires { Whole terms.now t.0 × (u.0 < t.0) × (k < 6) }
-    ensures { result ≡ not (agree terms.now t.0 u.0 k) }
+// The k-th column that rows are compared by: the arguments, then the head.
+fn column_of(k: usize) -> usize
+    requires { k < 5 }
+    ensures { (result ≡ column k) × (result < 6) }
 {
-    !(terms[t.0 as usize * 6 + k] == terms[u.0 as usize * 6 + k])
+    if k == 4 { 0 } else { k + 2 }
 }
 
-// Row t is put into bucket b, behind the last row there, which is returned: BLANK where there is none.
-fn chain(lasts: &mut [u16; 1024], backs: &mut [u16; 1024], b: usize, t: Row) -> u16
-    requires { (b < buckets) × (t.0 < most_rows) }
-    ensures { Linked lasts.old lasts.new backs.old backs.new b t.0 result }
+// Whether rows t and u differ in the k-th of these columns.
+fn differ(terms: &[u16], t: Row, u: Row, k: usize) -> bool
+    requires { Whole terms.now t.0 × (u.0 < t.0) × (k < 5) }
+    ensures { result ≡ not (agree terms.now t.0 u.0 k) }
 {
+    let j = column_of(k);
+    !(terms[t.0 as usize * 6 + j] == terms[u.0 as usize * 6 + j])
+}
+
+// The mix of a head and four arguments, the key that equal rows are sought by.
+fn mixed_of(head: u16, a: u16, b: u16, c: u16, d: u16) -> u32
+    ensures { result ≡ mixed head a b c d }
+{
+    head as u32 + 3 * a as u32 + 5 * b as u32 + 7 * c as u32 + 11 * d as u32
+}
+
+// The mix of row t.
+fn mix_of(terms: &[u16], t: Row) -> u32
+    requires { Whole terms.now t.0 }
+    ensures { result ≡ mix terms.now t.0 }
+{
+    let i = t.0 as usize * 6;
+    mixed_of(
+        terms[i],
+        terms[i + 2],
+        terms[i + 3],
+        terms[i + 4],
+        terms[i + 5],
+    )
+}
+
+// Row t, whose key is k, is chained to the last row of the key's slot, which is returned: BLANK where there is none.
+fn chain(lasts: &mut [u16; 1024], backs: &mut [u16; 256], k: u32, t: Row) -> u16
+    requires { t.0 < most_rows }
+    ensures { Linked lasts.old lasts.new backs.old backs.new k t.0 result }
+{
+    let s = (k % 1024) as usize;
     let i = t.0 as usize;
-    let u = lasts[b];
-    lasts[b] = t.0;
+    let u = lasts[s];
+    lasts[s] = t.0;
     backs[i] = u;
     u
 }
 
-// The first of the first n rows that has the six numbers of an earlier one; n where there is none.
+// The first of the first n rows with the same head and arguments as an earlier one; n where there is none.
 pub fn first_repeat(terms: &[u16], n: u16) -> Row
     requires { (n ≤ most_rows) × (n * 6 ≤ length terms.now) }
-    ensures { result.0 ≡ first_repeat terms.now n }
+    ensures { FirstRepeat terms.now n result.0 }
 {
     let mut lasts = [BLANK; 1024];
-    let mut backs = [BLANK; 1024];
+    let mut backs = [BLANK; 256];
     let mut t: u16 = 0;
     'rows: while t < n {
-        // Equal rows are in one bucket: row t is compared with the rows of its own, the last one first.
-        let b = term_buckets::bucket_of(rows::whole_term_at(terms, Row(t)));
-        let mut u = chain(&mut lasts, &mut backs, b, Row(t));
+        // Rows in another slot than row t have another mix, so that they differ from it; those in its slot are compared, the last one first.
+        let mut u = chain(&mut lasts, &mut backs, mix_of(terms, Row(t)), Row(t));
         'pairs: while u < t {
             let mut k: usize = 0;
-            while k < 6 {
+            while k < 5 {
                 if differ(terms, Row(t), Row(u), k) {
                     u = backs[u as usize];
                     continue 'pairs;

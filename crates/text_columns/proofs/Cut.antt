@@ -82,8 +82,8 @@ name_ends l = record { here = run_stop l; further = λ p h n. run_more l p h (go
   go false n = absurd (n refl)
 
 -- what a test of a byte tells
-pub no_name : {b x : Bool} → b ≡ x → not b ≡ true → x ≡ false
-no_name e h = sym e ∙ not-true _ h
+pub no_name : {b x : Bool} → b ≡ x → b ≡ false → x ≡ false
+no_name e h = sym e ∙ h
 
-pub a_name : {b x : Bool} → b ≡ x → not b ≡ false → x ≡ false → ⊥
-a_name e h q = let z : ◌≡◌ {A = Bool} true false = sym (not-false _ h) ∙ e ∙ q in absurd (let y : ◌≡◌ {A = ℕ} 0 1 = cc in omega arith)
+pub a_name : {b x : Bool} → b ≡ x → b ≡ true → x ≡ false → ⊥
+a_name e h q = let z : ◌≡◌ {A = Bool} true false = sym h ∙ e ∙ q in absurd (let y : ◌≡◌ {A = ℕ} 0 1 = cc in omega arith)

@@ -63,16 +63,16 @@ module _ (l m : List ℕ) (v n : ℕ) (fit : length (pieces 32 l) ≡ n) (marked
       told : (k : ℕ) → k + 1 ≡ v → is_number (value (get_or (pieces 32 l) k [])) ≡ b
       told k e = let z : v - 1 ≡ k = omega arith in sym (b_is ∙ rw (f_is, z))
 
-      pub value_good : not b ≡ false → 0 ≡ first_malformed v 1 (pieces 32 l)
-      value_good t = formed_all (λ i h e. told i e ∙ not-false b t)
+      pub value_good : b ≡ true → 0 ≡ first_malformed v 1 (pieces 32 l)
+      value_good t = formed_all (λ i h e. told i e ∙ t)
 
-      pub value_bad : not b ≡ true → v ≡ first_malformed v 1 (pieces 32 l)
+      pub value_bad : b ≡ false → v ≡ first_malformed v 1 (pieces 32 l)
       value_bad t =
           let k = v - 1 in
           let z : k + 1 ≡ v = omega arith in
           sym
           (formed_past k (omega arith) (λ i h e. absurd (omega arith))
-          ∙ formed_stop (pieces 32 l) k v (omega arith) (rw (eq-eqb (k + 1) v z) (told k z ∙ not-true b t)) ∙ z)
+          ∙ formed_stop (pieces 32 l) k v (omega arith) (rw (eq-eqb (k + 1) v z) (told k z ∙ t)) ∙ z)
 
 -- the shape of a line
 module _ (columns v : ℕ) (fs : List (List ℕ)) where

@@ -54,11 +54,11 @@ module _ (v p : ℕ) (l : List ℕ) {h : Bool} (h_is : h ≡ holds 13 l) where
 -- the bytes from the ith on
 module _ (l : List ℕ) (i : ℕ) where
   module _ (h : i < length l) {b : Bool} (b_is : b ≡ is_plain (class_of (get_or l i 0))) where
-    pub plain_not : not b ≡ true → false ≡ plain (drop i l)
-    plain_not e = rw (drop-cons l i 0, sym b_is ∙ not-true b e)
+    pub plain_not : b ≡ false → false ≡ plain (drop i l)
+    plain_not e = rw (drop-cons l i 0, sym b_is ∙ e)
 
-    pub plain_on : not b ≡ false → plain (drop (i + 1) l) ≡ plain (drop i l)
-    plain_on e = rw (drop-cons l i 0, sym b_is ∙ not-false b e, add-one)
+    pub plain_on : b ≡ true → plain (drop (i + 1) l) ≡ plain (drop i l)
+    plain_on e = rw (drop-cons l i 0, sym b_is ∙ e, add-one)
 
   pub plain_end : length l ≤ i → true ≡ plain (drop i l)
   plain_end h = rw drop_of_length-le

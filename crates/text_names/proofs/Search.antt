@@ -209,12 +209,12 @@ module _ {t : List ℕ} {base count : ℕ} {name : List ℕ} {tag : ℕ} where
     seek_over h = sym (seek_past t base count name l.fuel low place d h) ∙ l.left
 
     module _ {e : ℕ} (e_is : e ≡ number_at t place) {b : Bool} (b_is : b ≡ leads_on t base count tag low e) where
-      pub seek_stops : not b ≡ true → Free place ≡ spot_of t base count name
-      seek_stops h = sym (seek_ends t base count name low place d l.fuel (rw (l.tag_is, e_is) at (sym b_is ∙ not-true b h))) ∙ l.left
+      pub seek_stops : b ≡ false → Free place ≡ spot_of t base count name
+      seek_stops h = sym (seek_ends t base count name low place d l.fuel (rw (l.tag_is, e_is) at (sym b_is ∙ h))) ∙ l.left
 
-      module _ (b_leads : not b ≡ false) where
+      module _ (b_leads : b ≡ true) where
         leads : leads_on t base count (tag_of name) low (number_at t place) ≡ true
-        leads = rw (l.tag_is, e_is) at (sym b_is ∙ not-false b b_leads)
+        leads = rw (l.tag_is, e_is) at (sym b_is ∙ b_leads)
 
         pub seek_low : (low ≤ e) × (e < count)
         seek_low = let k = leads_to t base count (tag_of name) low (number_at t place) leads in rw e_is (k.0, k.1)

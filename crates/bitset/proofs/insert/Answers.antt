@@ -1,0 +1,7 @@
+-- `bitset::insert` meets its contract. Assumes nothing.
+use Rattle.bitset.proofs.Windows.{insert_at}
+use borrow.Author.Rules.{rules}
+use Rattle.bitset.proofs.insert.Goals as goal
+
+pub returns : goal.returns
+returns c = insert_at _ _ _ _ c.requires.0 c.requires.1

@@ -1,0 +1,7 @@
+-- `bitset::remove` meets its contract. Assumes nothing.
+use Rattle.bitset.proofs.Windows.{remove_at}
+use borrow.Author.Rules.{rules}
+use Rattle.bitset.proofs.remove.Goals as goal
+
+pub returns : goal.returns
+returns c = remove_at _ _ _ _ c.requires.0 c.requires.1

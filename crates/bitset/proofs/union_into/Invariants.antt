@@ -1,0 +1,16 @@
+-- `bitset::union_into` meets its contract. The words passed are or-ed with those at `from`, and nothing else has changed. Assumes nothing.
+use Prim.Native.Nat.{◌+◌, ◌-◌, ◌≤◌}
+use mathlib.Core.Path.{◌≡◌, ap₂}
+use native.Mathlib.Omega.{arith}
+use borrow.Author.Rules.{rules}
+use mathlib.Core.Logic.{inl, inr}
+use lib.ListN.{get_or}
+use lib.Bits.{bit_or}
+use Rattle.bitset.proofs.Windows.{Filled, filled_none, filled_more, still, united}
+use Rattle.bitset.proofs.union_into.Given as goal
+
+abbrev pub invariant-loop-i : goal.invariant-loop-i
+invariant-loop-i l = (l.i ≤ l.w) × Filled l.initial.work l.work l.to l.i (λ j x. x ≡ bit_or (get_or l.initial.work (l.to + j) 0) (get_or l.initial.work (l.from + j) 0))
+
+abbrev pub decreases-loop-i : goal.decreases-loop-i
+decreases-loop-i l = l.w - l.i

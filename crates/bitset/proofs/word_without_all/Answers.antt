@@ -1,0 +1,28 @@
+-- `bitset::word_without_all` meets its contract. The rows passed are removed, none of them blank. Assumes nothing.
+use Prim.Native.Nat.{◌-◌}
+use mathlib.Core.Path.{◌≡◌}
+use native.Mathlib.Omega.{arith}
+use borrow.Author.Rules.{rules}
+use lib.ListN.{length}
+use Rattle.calculus.specs.Terms.{filled}
+use Rattle.bitset.specs.Members.{word_of}
+use Rattle.bitset.proofs.Members.{none_left}
+use Rattle.bitset.proofs.Removals.{empty_rest, Removing, removing_none, removed_blank, removed_more, removed_all}
+use Rattle.bitset.proofs.word_without_all.Goals as goal
+
+pub returns-then-x-eq0 : goal.returns-then-x-eq0
+returns-then-x-eq0 c = empty_rest _ (filled c.args.ps.now) (none_left c.args.k c.args.x (omega (arith, c.if-x-eq0.true)))
+
+pub loop-i-init : goal.loop-i-init
+loop-i-init c = removing_none _ _
+
+pub returns-then-p : goal.returns-then-p
+returns-then-p c = removed_blank c.loop-i.invariant c.loop-i-test.true c.if-p.true
+
+pub loop-i-preserved : goal.loop-i-preserved
+loop-i-preserved c = removed_more c.loop-i.invariant c.loop-i-test.true c.if-p.false c.word_without-y.ensures
+
+pub returns : goal.returns
+returns c =
+    let e : c.loop-i.i ≡ length c.args.ps.now = omega (arith, c.loop-i.invariant.so_far) in
+    removed_all c.loop-i.invariant e

@@ -1,0 +1,28 @@
+-- `decisions::holds_first_order` meets its contract. No word passed has such a decision. Assumes nothing.
+use Prim.Native.Nat.{◌-◌}
+use borrow.Author.Rules.{rules}
+use Rattle.calculus.specs.Trail.{first_order}
+use Rattle.bitset.specs.Windows.{set_at}
+use Rattle.bitset.proofs.Windows.{set_past}
+use Rattle.bitset.proofs.Members.{set_word}
+use Rattle.trail.specs.Words.{trail_in}
+use Rattle.trail.proofs.Walks.{word_within}
+use Rattle.decisions.proofs.Laws.{Passed, passed_start, passed_found, passed_more, passed_all}
+use Rattle.decisions.proofs.holds_first_order.Goals as goal
+
+pub loop-k-init : goal.loop-k-init
+loop-k-init c = passed_start _ _ _ _
+
+pub word_holds-requires : goal.word_holds-requires
+word_holds-requires c = (c.requires.0, c.requires.1, word_within _ _ _ _ (set_word _ c.args.e _ _ c.loop-k-test.true) c.requires.3)
+
+pub returns-then-word_holds : goal.returns-then-word_holds
+returns-then-word_holds c = passed_found c.loop-k.invariant _ (set_word _ _ _ _ c.loop-k-test.true) c.word_holds.ensures c.if-word_holds.true
+
+pub loop-k-preserved : goal.loop-k-preserved
+loop-k-preserved c =
+    let less = c.loop-k-test.true in
+    passed_more c.loop-k.invariant _ less (set_word _ _ _ _ less) c.word_holds.ensures c.if-word_holds.false
+
+pub returns : goal.returns
+returns c = passed_all c.loop-k.invariant c.loop-k-test.false (set_past _ _ _)

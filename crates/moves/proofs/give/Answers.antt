@@ -1,0 +1,25 @@
+-- `moves::give` meets its contract. Assumes nothing.
+use native.Mathlib.Omega.{arith}
+use Rattle.trail.proofs.Laws.{why_in_lem}
+use Rattle.trail.proofs.Frames.{built}
+use Rattle.moves.proofs.Laws.{given_stands}
+use borrow.Author.Rules.{rules}
+use Rattle.moves.proofs.give.Goals as goal
+
+pub overflow_mul-t : goal.overflow_mul-t
+overflow_mul-t c = omega (arith, why_in_lem c.args.w _ _ c.requires.1, c.requires.0.enough)
+
+pub clear-requires : goal.clear-requires
+clear-requires c = omega (arith, why_in_lem c.args.w _ _ c.requires.1, c.requires.0.enough)
+
+pub push-requires : goal.push-requires
+push-requires c =
+    let p = c.requires in
+    let a = built _ _ _ _ _ _ p.0 p.1 p.2 c.clear.ensures.only in
+    (a.laid, p.1, rw a.trail p.2)
+
+pub returns : goal.returns
+returns c =
+    let p = c.requires in
+    let a = built _ _ _ _ _ _ p.0 p.1 p.2 c.clear.ensures.only in
+    given_stands _ _ _ _ _ _ _ _ a.trail p.3 c.clear.ensures.set c.push.ensures

@@ -1,0 +1,6 @@
+-- `needs::equal` meets its contract.
+use borrow.Author.Rules.{rules}
+use Rattle.needs.proofs.equal.Goals as goal
+
+pub returns : goal.returns
+returns c = rw c.find_equation.ensures at c.with.ensures

@@ -1,0 +1,7 @@
+-- `needs::part` meets its contract.
+use Rattle.needs.proofs.Rules.{part_needs}
+use borrow.Author.Rules.{rules}
+use Rattle.needs.proofs.part.Goals as goal
+
+pub returns : goal.returns
+returns c = search part_needs

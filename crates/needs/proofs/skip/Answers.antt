@@ -1,0 +1,7 @@
+-- `needs::skip` meets its contract.
+use Rattle.needs.proofs.Rules.{skip_needs}
+use borrow.Author.Rules.{rules}
+use Rattle.needs.proofs.skip.Goals as goal
+
+pub returns : goal.returns
+returns c = search skip_needs

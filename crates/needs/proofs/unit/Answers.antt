@@ -1,0 +1,7 @@
+-- `needs::unit` meets its contract.
+use Rattle.needs.proofs.Rules.{unit_needs}
+use borrow.Author.Rules.{rules}
+use Rattle.needs.proofs.unit.Goals as goal
+
+pub returns : goal.returns
+returns c = search unit_needs

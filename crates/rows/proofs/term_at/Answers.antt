@@ -1,0 +1,6 @@
+-- `rows::term_at` meets its contract.
+use borrow.Author.Rules.{rules}
+use Rattle.rows.proofs.term_at.Goals as goal
+
+pub returns : goal.returns
+returns c = rw (c.cell-6.ensures, c.cell-5.ensures, c.cell-4.ensures, c.cell-3.ensures, c.cell-2.ensures, c.cell.ensures)

@@ -1,0 +1,16 @@
+-- `rule_evaluation::late_and` meets its contract.
+use mathlib.Core.List.{[]}
+use Rattle.rule_claims.specs.Claims.{stated}
+use Rattle.rule_evaluation.proofs.Laws.{stated_none}
+use borrow.Author.Tests.{eq-eqb}
+use borrow.Author.Rules.{rules}
+use Rattle.rule_evaluation.proofs.late_and.Goals as goal
+
+pub returns-then-x-eq-BLANK : goal.returns-then-x-eq-BLANK
+unfolding stated
+returns-then-x-eq-BLANK c = rw (eq-eqb _ _ c.if-x-eq-BLANK.true)
+
+pub returns : goal.returns
+returns c =
+    let t = c.more_and-t.ensures [] (rw stated_none) in
+    c.more_and.ensures _ (c.more_and-s.ensures _ t)

@@ -1,0 +1,6 @@
+-- `term_search::differ` meets its contract.
+use borrow.Author.Rules.{rules}
+use Rattle.term_search.proofs.differ.Goals as goal
+
+pub returns : goal.returns
+returns c = rw c.column_of-j.ensures.0

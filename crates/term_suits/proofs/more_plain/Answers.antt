@@ -1,0 +1,14 @@
+-- `term_suits::more_plain` meets its contract.
+use Rattle.calculus.proofs.Forms.{all_blank, all_filled}
+use mathlib.Core.Bool.{not}
+use Rattle.calculus.specs.Terms.{prop}
+use mathlib.Core.Path.{sym}
+use borrow.Author.Tests.{eq-eqb, ne_eqb}
+use borrow.Author.Rules.{rules}
+use Rattle.term_suits.proofs.more_plain.Goals as goal
+
+pub returns-then-x-eq-BLANK : goal.returns-then-x-eq-BLANK
+returns-then-x-eq-BLANK c xs e = sym (all_blank (λ a. not (prop c.args.terms.now a)) c.args.x xs (eq-eqb _ _ c.if-x-eq-BLANK.true))
+
+pub returns : goal.returns
+returns c xs e = rw (c.sort_of-s.ensures, e) (sym (all_filled (λ a. not (prop c.args.terms.now a)) c.args.x xs (ne_eqb _ _ c.if-x-eq-BLANK.false)))

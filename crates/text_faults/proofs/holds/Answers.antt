@@ -1,0 +1,6 @@
+-- Whether a byte stands in a line.
+use borrow.Author.Rules.{rules}
+use Rattle.text_faults.proofs.holds.Goals as goal
+
+pub returns : goal.returns
+returns c = rw c.scan.ensures.value

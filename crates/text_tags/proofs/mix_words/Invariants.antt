@@ -1,0 +1,14 @@
+-- The bytes of a name are mixed, word after word.
+use Prim.Native.Nat.{◌<◌, ◌≤◌, ◌-◌, ◌*◌, ◌/◌, ◌%◌}
+use mathlib.Core.Path.{◌≡◌, refl}
+use native.Mathlib.Omega.{arith}
+use lib.ListN.{length}
+use Rattle.text_tags.specs.Tags.{mix_words}
+use Rattle.text_tags.proofs.Laws.{words_on, words_end}
+use Rattle.text_tags.proofs.mix_words.Given as goal
+
+abbrev pub invariant-loop-i : goal.invariant-loop-i
+invariant-loop-i l = (l.i < length l.name) × (l.i % 4 ≡ 0) × (l.h ≤ 4294967295 * 2654435761) × (l.h ≡ mix_words l.name (l.i / 4))
+
+abbrev pub decreases-loop-i : goal.decreases-loop-i
+decreases-loop-i l = length l.name - l.i

@@ -1,0 +1,7 @@
+-- `trail::decided` meets its contract. Assumes nothing.
+use Rattle.trail.proofs.Frames.{decided_word}
+use borrow.Author.Rules.{rules}
+use Rattle.trail.proofs.decided.Goals as goal
+
+pub returns : goal.returns
+returns c = decided_word _ _ _ _ _ c.requires.0 c.requires.1

@@ -1,0 +1,14 @@
+-- `trail::wipe` meets its contract. The words passed are 0. Assumes nothing.
+use Prim.Native.Nat.{◌-◌, ◌≤◌}
+use mathlib.Core.Path.{◌≡◌}
+use native.Mathlib.Omega.{arith}
+use borrow.Author.Rules.{rules}
+use lib.ListN.{length}
+use Rattle.trail.proofs.Frames.{Wiped, wiped_none, wiped_more, wiped_all}
+use Rattle.trail.proofs.wipe.Given as goal
+
+abbrev pub invariant-loop-k : goal.invariant-loop-k
+invariant-loop-k l = (l.k ≤ length l.initial.work) × Wiped l.initial.work l.work l.k
+
+abbrev pub decreases-loop-k : goal.decreases-loop-k
+decreases-loop-k l = length l.initial.work - l.k

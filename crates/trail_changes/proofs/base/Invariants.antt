@@ -1,0 +1,11 @@
+-- `trail_changes::base` meets its contract. The base is not among the entries passed. Assumes nothing.
+use native.Mathlib.Omega.{arith}
+use borrow.Author.Rules.{rules}
+use Rattle.trail_changes.proofs.Bases.{Seeking, seek_start, seek_small, seek_on, seek_found, seek_end}
+use Rattle.trail_changes.proofs.base.Given as goal
+
+abbrev pub invariant-loop-i : goal.invariant-loop-i
+invariant-loop-i l = Seeking l.w l.terms l.work l.n l.m.0 l.i
+
+abbrev pub decreases-loop-i : goal.decreases-loop-i
+decreases-loop-i l = l.i
