@@ -16,19 +16,19 @@ present-requires c =
 
 pub returns-in_default-g : goal.returns-in_default-g
 returns-in_default-g c =
-    row_given _ _ _ _ _ _ _ c.args.v c.check_input-c.ensures c.enum_told-1.c.1
-    c.present.ensures _ c.check_given-g.ensures c.enum_told-in_default-g-1.c.1
+    row_given _ _ _ _ _ _ _ c.args.v c.check_input-c.ensures c.in-Passed.is
+    c.present.ensures _ c.check_given-g.ensures c.in_default-g.is
 
 pub give-requires : goal.give-requires
 give-requires c =
-    let fit = fit_term _ _ c.args.v (sym c.check_input-c.ensures ∙ c.enum_told-1.c.1) in (
+    let fit = fit_term _ _ c.args.v (sym c.check_input-c.ensures ∙ c.in-Passed.is) in (
       search rules,
       omega (arith, c.requires.1),
-      sym c.present.ensures ∙ not_given c.check_given-g.ensures c.enum_told-in-Passed-g-1.c.1,
+      sym c.present.ensures ∙ not_given c.check_given-g.ensures c.in-Passed-g.is,
       c.requires.2,
     )
 
 pub returns : goal.returns
 returns c =
-    row_loaded _ _ _ _ _ _ _ c.args.v c.check_input-c.ensures c.enum_told-1.c.1
-    c.present.ensures c.check_given-g.ensures c.enum_told-in-Passed-g-1.c.1 c.give.ensures
+    row_loaded _ _ _ _ _ _ _ c.args.v c.check_input-c.ensures c.in-Passed.is
+    c.present.ensures c.check_given-g.ensures c.in-Passed-g.is c.give.ensures

@@ -1,0 +1,12 @@
+-- `acceptance::skip` meets its contract. No entry passed has t as an argument. Assumes nothing.
+use Prim.Native.Nat.{◌-◌}
+use native.Mathlib.Omega.{arith}
+use Rattle.acceptance.specs.Added.{Skipped}
+use Rattle.acceptance.proofs.Laws.{skipped_none, skipped_four}
+use Rattle.acceptance.proofs.skip.Given as goal
+
+abbrev pub invariant-loop-i : goal.invariant-loop-i
+invariant-loop-i l = Skipped l.w l.n l.terms l.work l.count l.t.0 l.from l.i
+
+abbrev pub decreases-loop-i : goal.decreases-loop-i
+decreases-loop-i l = l.count - l.i

@@ -1,0 +1,39 @@
+-- `conflicts::all_in_conflict` meets its contract. The rows passed are in the conflict, and those that are left are rows. Assumes nothing.
+use Prim.Native.Nat.{◌-◌}
+use mathlib.Core.Path.{refl, sym}
+use mathlib.Core.Bool.{true}
+use native.Mathlib.Omega.{arith}
+use borrow.Author.Rules.{rules}
+use borrow.Author.Tests.{ltb-true}
+use lib.Dec.{ltb}
+use lib.ListN.{length}
+use Rattle.calculus.specs.Lists.{all}
+use Rattle.calculus.specs.Terms.{filled}
+use Rattle.calculus.proofs.Walks.{Passed, passed_blank, passed_all, passed_more, passed_no, passed_at}
+use Rattle.moves.specs.Post.{conflict_in}
+use Rattle.state.proofs.Tests.{told_not, told_yes}
+use Rattle.conflicts.proofs.all_in_conflict.Goals as goal
+
+pub loop-k-init : goal.loop-k-init
+loop-k-init c = (record { so_far = omega arith; left = refl }, record { so_far = omega arith; left = sym c.requires.2 })
+
+pub returns-then-p : goal.returns-then-p
+returns-then-p c = passed_blank c.loop-k.invariant.0 c.loop-k-test.true c.if-p.true
+
+pub in_conflict-requires : goal.in_conflict-requires
+in_conflict-requires c =
+    let known = passed_at c.loop-k.invariant.1 c.loop-k-test.true c.if-p.false in
+    (c.requires.0, c.requires.1, ltb-true _ _ known.0)
+
+pub returns-then-not-in_conflict : goal.returns-then-not-in_conflict
+returns-then-not-in_conflict c = passed_no c.loop-k.invariant.0 c.loop-k-test.true c.if-p.false (told_not c.in_conflict.ensures c.if-not-in_conflict.true)
+
+pub loop-k-preserved : goal.loop-k-preserved
+loop-k-preserved c =
+    let inv = c.loop-k.invariant in
+    let k = c.loop-k-test.true in
+    let ne = c.if-p.false in
+    (passed_more inv.0 k ne (told_yes c.in_conflict.ensures c.if-not-in_conflict.false), (passed_at inv.1 k ne).1)
+
+pub returns : goal.returns
+returns c = passed_all c.loop-k.invariant.0 c.loop-k-test.false

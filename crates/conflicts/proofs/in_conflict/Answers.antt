@@ -1,0 +1,6 @@
+-- `conflicts::in_conflict` meets its contract.
+use borrow.Author.Rules.{rules}
+use Rattle.conflicts.proofs.in_conflict.Goals as goal
+
+pub returns : goal.returns
+returns c = rw c.place-e.ensures at c.member.ensures

@@ -1,0 +1,7 @@
+-- `places::claim` meets its contract.
+use Rattle.places.proofs.Laid.{claimed}
+use borrow.Author.Rules.{rules}
+use Rattle.places.proofs.claim.Goals as goal
+
+pub returns : goal.returns
+returns c = search claimed

@@ -1,0 +1,12 @@
+-- `places::first_unfit` meets its contract.
+use borrow.Author.Rules.{rules}
+use Prim.Native.Nat.{◌-◌, ◌≤◌}
+use native.Mathlib.Omega.{arith}
+use Rattle.places.proofs.Search.{AllFound, all_found_yet, all_found_more, unfit_found, unfit_none}
+use Rattle.places.proofs.first_unfit.Given as goal
+
+abbrev pub invariant-loop-j : goal.invariant-loop-j
+invariant-loop-j l = (l.j ≤ 7) × AllFound l.terms l.k l.x l.j
+
+abbrev pub decreases-loop-j : goal.decreases-loop-j
+decreases-loop-j l = 7 - l.j

@@ -1,0 +1,13 @@
+-- `places::followed` meets its contract.
+use mathlib.Core.Path.{refl}
+use borrow.Author.Rules.{rules}
+use Prim.Native.Nat.{◌-◌, ◌≤◌}
+use native.Mathlib.Omega.{arith}
+use Rattle.places.proofs.Search.{NoWay, no_way_more, followed_yes, followed_no}
+use Rattle.places.proofs.followed.Given as goal
+
+abbrev pub invariant-loop-i : goal.invariant-loop-i
+invariant-loop-i l = (l.i ≤ l.w) × NoWay l.terms l.k l.l.0 l.v l.known l.f l.i
+
+abbrev pub decreases-loop-i : goal.decreases-loop-i
+decreases-loop-i l = l.w - l.i

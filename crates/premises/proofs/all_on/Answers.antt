@@ -1,0 +1,31 @@
+-- `premises::all_on` meets its contract: the columns passed stand on the trail.
+use Prim.Native.Nat.{◌-◌}
+use mathlib.Core.Path.{refl}
+use native.Mathlib.Omega.{arith}
+use borrow.Author.Rules.{rules}
+use Rattle.calculus.specs.Lists.{all}
+use Rattle.calculus.specs.Terms.{filled}
+use Rattle.calculus.specs.Trail.{on}
+use Rattle.calculus.specs.Steps.{premises}
+use Rattle.calculus.proofs.Walks.{Passed, passed_blank, passed_all, passed_more, passed_no}
+use Rattle.state.proofs.Tests.{told_not, told_yes}
+use Rattle.trail.specs.Words.{trail_in}
+use Rattle.premises.proofs.all_on.Goals as goal
+
+pub loop-k-init : goal.loop-k-init
+loop-k-init c = record { so_far = omega arith; left = refl }
+
+pub returns-then-p : goal.returns-then-p
+unfolding premises
+returns-then-p c = passed_blank c.loop-k.invariant c.loop-k-test.true c.if-p.true
+
+pub returns-then-not-stands : goal.returns-then-not-stands
+unfolding premises
+returns-then-not-stands c = passed_no c.loop-k.invariant c.loop-k-test.true c.if-p.false (told_not c.stands.ensures c.if-not-stands.true)
+
+pub loop-k-preserved : goal.loop-k-preserved
+loop-k-preserved c = passed_more c.loop-k.invariant c.loop-k-test.true c.if-p.false (told_yes c.stands.ensures c.if-not-stands.false)
+
+pub returns : goal.returns
+unfolding premises
+returns c = passed_all c.loop-k.invariant c.loop-k-test.false
