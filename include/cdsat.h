@@ -6,7 +6,7 @@
  *
  * Link the library behind what calls it; it needs the C library alone:
  *
- *   cc -Iinclude program.c target/staticlib/libcdsat.a
+ *   cc -Iinclude program.c crates/cdsat/out/libcdsat.a
  *
  * A complete program stands at the end.
  *

@@ -9,13 +9,13 @@ fn main() {
     let folder = match env::var_os("CDSAT_LIB_DIR") {
         Some(folder) => PathBuf::from(folder),
         None => PathBuf::from(env::var_os("CARGO_MANIFEST_DIR").expect("set by cargo"))
-            .join("../../target/staticlib"),
+            .join("../../crates/cdsat/out"),
     };
     let library = folder.join("libcdsat.a");
     println!("cargo::rerun-if-changed={}", library.display());
     if !library.is_file() {
         println!(
-            "cargo::error=there is no {}: run `rt staticlib cdsat` in the repository's root, \
+            "cargo::error=there is no {}: run `rt lib` in the repository's crates/cdsat, \
              or let CDSAT_LIB_DIR name the folder that holds libcdsat.a",
             library.display()
         );

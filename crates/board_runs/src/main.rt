@@ -5,8 +5,8 @@
 ghost use Rattle.std.specs.Prelude.{◌<◌, ◌≤◌, length};
 
 use calculus::Outcome;
-use libc::STDOUT_FILENO;
 use rows::BLANK;
+use std::io;
 
 // ---- sheets as texts: a character for each column, a digit for 0 to 9, a letter for 10 and on, and a point for blank
 
@@ -64,56 +64,58 @@ fn part_next(end: usize, all: usize) -> usize
 // ---- printing
 
 // The verdict's word.
-fn print_verdict(v: u16) {
+fn print_verdict(rt: &impl Print, v: u16) -> io::Result<()> {
     match v {
-        0 => {
-            io::write_all(STDOUT_FILENO, b"open");
-        }
-        1 => {
-            io::write_all(STDOUT_FILENO, b"refuted");
-        }
-        _ => {
-            io::write_all(STDOUT_FILENO, b"refused");
-        }
+        0 => rt.write_all(b"open"),
+        1 => rt.write_all(b"refuted"),
+        _ => rt.write_all(b"refused"),
     }
 }
 
 // A space and a number.
-fn print_number(x: u16) {
-    io::write_all(STDOUT_FILENO, b" ");
-    io::print_decimal(STDOUT_FILENO, x as u64);
+fn print_number(rt: &impl Print, x: u16) -> io::Result<()> {
+    print!(rt; " {x}")
 }
 
 // The name of a run and what the call answered.
-fn print_outcome(name: &[u8], o: Outcome) {
-    io::write_all(STDOUT_FILENO, name);
-    io::write_all(STDOUT_FILENO, b": ");
-    print_verdict(o.verdict);
-    print_number(o.steps);
-    print_number(o.number);
-    print_number(o.entries);
-    print_number(o.place);
+fn print_outcome(rt: &impl Print, name: &[u8], o: Outcome) -> io::Result<()> {
+    rt.write_all(name)?;
+    rt.write_all(b": ")?;
+    print_verdict(rt, o.verdict)?;
+    print_number(rt, o.steps)?;
+    print_number(rt, o.number)?;
+    print_number(rt, o.entries)?;
+    print_number(rt, o.place)
 }
 
 // Entry i of the trail buffer, where there is one.
-fn print_entry(trail: &[u16; 1028], i: usize, entries: u16)
+fn print_entry(rt: &impl Print, trail: &[u16; 1028], i: usize, entries: u16) -> io::Result<()>
     requires { i < 257 }
 {
     if i < entries as usize {
         let k = 4 * i;
-        io::write_all(STDOUT_FILENO, b",");
-        print_number(trail[k]);
-        print_number(trail[k + 1]);
-        print_number(trail[k + 2]);
-        print_number(trail[k + 3]);
+        rt.write_all(b",")?;
+        print_number(rt, trail[k])?;
+        print_number(rt, trail[k + 1])?;
+        print_number(rt, trail[k + 2])?;
+        print_number(rt, trail[k + 3])?;
     }
+    Ok(())
 }
 
 // ---- runs
 
 // The call on these sheets, with so much of the buffers lent. The workspace holds something before it. No run here has more than four
 // entries.
-fn run_lent(name: &[u8], terms: &[u16], input: &[u16], log: &[u16], words: usize, numbers: usize)
+fn run_lent(
+    rt: &impl Print,
+    name: &[u8],
+    terms: &[u16],
+    input: &[u16],
+    log: &[u16],
+    words: usize,
+    numbers: usize,
+) -> io::Result<()>
     requires { (words ≤ 2068) × (numbers ≤ 1028) }
 {
     let sorts = [BLANK, BLANK];
@@ -127,16 +129,23 @@ fn run_lent(name: &[u8], terms: &[u16], input: &[u16], log: &[u16], words: usize
         &mut work[0..words],
         &mut trail[0..numbers],
     );
-    print_outcome(name, o);
-    print_entry(&trail, 0, o.entries);
-    print_entry(&trail, 1, o.entries);
-    print_entry(&trail, 2, o.entries);
-    print_entry(&trail, 3, o.entries);
-    io::write_all(STDOUT_FILENO, b"\n");
+    print_outcome(rt, name, o)?;
+    print_entry(rt, &trail, 0, o.entries)?;
+    print_entry(rt, &trail, 1, o.entries)?;
+    print_entry(rt, &trail, 2, o.entries)?;
+    print_entry(rt, &trail, 3, o.entries)?;
+    rt.write_all(b"\n")
 }
 
 // An input and a log on the small board: a, b, e is a = b, then F(a), F(b), g is F(a) = F(b), not(e), or(e, g).
-fn run_board(name: &[u8], input: &[u8], log: &[u8], words: usize, numbers: usize)
+fn run_board(
+    rt: &impl Print,
+    name: &[u8],
+    input: &[u8],
+    log: &[u8],
+    words: usize,
+    numbers: usize,
+) -> io::Result<()>
     requires { (words ≤ 2068) × (numbers ≤ 1028) }
 {
     let terms = columns(b"g1....h1....0001..i10...i11...0034..102...3025..");
@@ -144,12 +153,12 @@ fn run_board(name: &[u8], input: &[u8], log: &[u8], words: usize, numbers: usize
     let rows = columns(log);
     let g = filled(input);
     let n = filled(log);
-    run_lent(name, &terms, &given[0..g], &rows[0..n], words, numbers);
+    run_lent(rt, name, &terms, &given[0..g], &rows[0..n], words, numbers)
 }
 
 // A run on the board from a text of three parts: its name, its input rows, each a term and its value, and its step rows, each step, rule,
 // term, value and five premises.
-fn run_lines(text: &[u8], words: usize, numbers: usize)
+fn run_lines(rt: &impl Print, text: &[u8], words: usize, numbers: usize) -> io::Result<()>
     requires { (words ≤ 2068) × (numbers ≤ 1028) }
 {
     let all = text.len();
@@ -157,43 +166,64 @@ fn run_lines(text: &[u8], words: usize, numbers: usize)
     let b = part_next(a, all);
     let c = part_end(text, b);
     let d = part_next(c, all);
-    run_board(&text[0..a], &text[b..c], &text[d..all], words, numbers);
+    run_board(rt, &text[0..a], &text[b..c], &text[d..all], words, numbers)
 }
 
 // With 8N + 12 words and 4N numbers lent.
-fn run(text: &[u8]) {
-    run_lines(text, 76, 32);
+fn run(rt: &impl Print, text: &[u8]) -> io::Result<()> {
+    run_lines(rt, text, 76, 32)
 }
 
 // The rows of the table.
-fn table() {
-    run(b"nothing given//");
-    run(b"fail/2150/79512....");
-    run(b"opposite absent/21/79512....");
-    run(b"jump over a decision/50/0.21.....29512....5.2......");
-    run(b"decided twice//0.07.....0.07.....");
-    run(b"resolve in search//3.0......");
-    run(b"resolve barred/50/0.07.....0.17.....102101...29512....3.2......");
-    run(b"jump over e/50/0.07.....0.17.....102101...29512....5.2......");
-    run(b"clear b/61/0.07.....0.17.....15206....202101...4.1......");
-    run(b"clear a/61/0.07.....0.17.....15206....202101...4.0......");
-    run(b"unit/7120/175172...");
-    run(b"e given 2/22/0.07.....");
-    run(b"e given twice/2121/0.07.....");
-    run(b"clash at level 0/2150/29512....");
-    run(b"fail above level 0/50/0.21.....79512....");
-    run(b"fail after a jump/5060/0.21.....29512....5.2......75216....29512....");
-    run(b"learn what is there/71/0.20.....0.50.....287025...8.7025...");
-    run(b"learn by one member/71/0.20.....0.50.....287025...8.702....");
+fn table(rt: &impl Print) -> io::Result<()> {
+    run(rt, b"nothing given//")?;
+    run(rt, b"fail/2150/79512....")?;
+    run(rt, b"opposite absent/21/79512....")?;
+    run(rt, b"jump over a decision/50/0.21.....29512....5.2......")?;
+    run(rt, b"decided twice//0.07.....0.07.....")?;
+    run(rt, b"resolve in search//3.0......")?;
+    run(
+        rt,
+        b"resolve barred/50/0.07.....0.17.....102101...29512....3.2......",
+    )?;
+    run(
+        rt,
+        b"jump over e/50/0.07.....0.17.....102101...29512....5.2......",
+    )?;
+    run(
+        rt,
+        b"clear b/61/0.07.....0.17.....15206....202101...4.1......",
+    )?;
+    run(
+        rt,
+        b"clear a/61/0.07.....0.17.....15206....202101...4.0......",
+    )?;
+    run(rt, b"unit/7120/175172...")?;
+    run(rt, b"e given 2/22/0.07.....")?;
+    run(rt, b"e given twice/2121/0.07.....")?;
+    run(rt, b"clash at level 0/2150/29512....")?;
+    run(rt, b"fail above level 0/50/0.21.....79512....")?;
+    run(
+        rt,
+        b"fail after a jump/5060/0.21.....29512....5.2......75216....29512....",
+    )?;
+    run(
+        rt,
+        b"learn what is there/71/0.20.....0.50.....287025...8.7025...",
+    )?;
+    run(
+        rt,
+        b"learn by one member/71/0.20.....0.50.....287025...8.702....",
+    )
 }
 
 // Rows that went wrong, each at another place.
-fn places() {
-    run(b"no such premise/21/19512a...");
-    run(b"premise absent//19512....");
-    run(b"cong of another term/21/19212....");
-    run(b"cong false/21/19502....");
-    run(b"a premise too many/21/195122...");
+fn places(rt: &impl Print) -> io::Result<()> {
+    run(rt, b"no such premise/21/19512a...")?;
+    run(rt, b"premise absent//19512....")?;
+    run(rt, b"cong of another term/21/19212....")?;
+    run(rt, b"cong false/21/19502....")?;
+    run(rt, b"a premise too many/21/195122...")
 }
 
 // ---- ceilings
@@ -210,28 +240,28 @@ fn constants() -> [u16; 1542] {
 }
 
 // So many free constants, and buffers that suffice for any number of them.
-fn run_constants(name: &[u8], count: usize)
+fn run_constants(rt: &impl Print, name: &[u8], count: usize) -> io::Result<()>
     requires { count ≤ 257 }
 {
     let terms = constants();
     let none = [0u16; 1];
     let rows = &none[0..0];
     let n = count * 6;
-    run_lent(name, &terms[0..n], rows, rows, 2068, 1028);
+    run_lent(rt, name, &terms[0..n], rows, rows, 2068, 1028)
 }
 
 // As many terms as there may be and one more; buffers that just suffice, and each of them one short.
-fn ceilings() {
-    run_constants(b"256 terms", 256);
-    run_constants(b"257 terms", 257);
-    run_lines(b"8N+12 words, 4N numbers//", 76, 32);
-    run_lines(b"8N+11 words//", 75, 32);
-    run_lines(b"4N-1 numbers//", 76, 31);
+fn ceilings(rt: &impl Print) -> io::Result<()> {
+    run_constants(rt, b"256 terms", 256)?;
+    run_constants(rt, b"257 terms", 257)?;
+    run_lines(rt, b"8N+12 words, 4N numbers//", 76, 32)?;
+    run_lines(rt, b"8N+11 words//", 75, 32)?;
+    run_lines(rt, b"4N-1 numbers//", 76, 31)
 }
 
 // Every row of the table in order, then the places and the ceilings.
-fn main() {
-    table();
-    places();
-    ceilings();
+fn main(rt: HostRuntime) -> io::Result<()> {
+    table(&rt)?;
+    places(&rt)?;
+    ceilings(&rt)
 }

@@ -7,7 +7,8 @@ ghost use Rattle.text_rows.specs.View.{Bounded};
 ghost use Rattle.text_stream.specs.Stream.{stream_of};
 ghost use Rattle.check_log.specs.Input.{Fed, Spoken};
 
-use libc::{STDERR_FILENO, STDIN_FILENO, STDOUT_FILENO};
+use std::io;
+use std::io::Stdin;
 use text_stream::Progress;
 
 // After a read: whether it failed, how many bytes it gave, 0 at the end of the input, and what the reader carries.
@@ -37,6 +38,7 @@ struct Spell {
 
 // One read: the bytes that it gives are fed.
 fn read_piece(
+    input: &mut Stdin,
     f: Progress,
     line: &mut [u8; 526],
     names: &mut [u8; 55392],
@@ -55,12 +57,14 @@ fn read_piece(
         (stream_of result.f
         line.new names.new sorts.new terms.new inputs.new steps.new) }
 {
-    let mut buf = io::large_buffer();
-    let got = libc::read(STDIN_FILENO, &mut buf);
-    let size = io::count(got, &buf);
+    let mut buf = [0u8; 65536];
+    let (failed, size) = match io::Read::read(input, &mut buf) {
+        Ok(size) => (false, size),
+        Err(_) => (true, 0),
+    };
     let after = text_stream::feed(f, &buf[..size], line, names, sorts, terms, inputs, steps);
     Piece {
-        failed: got < 0,
+        failed,
         size,
         f: after,
     }
@@ -68,6 +72,7 @@ fn read_piece(
 
 // Reads to the end. Nothing says that the input ends, so the bytes are counted, up to a number that no run comes to.
 fn read_all(
+    input: &mut Stdin,
     start: Progress,
     line: &mut [u8; 526],
     names: &mut [u8; 55392],
@@ -88,7 +93,7 @@ fn read_all(
     let mut f = start;
     let mut bytes = 0;
     while bytes < 1 << 63 {
-        let p = read_piece(f, line, names, sorts, terms, inputs, steps);
+        let p = read_piece(input, f, line, names, sorts, terms, inputs, steps);
         f = p.f;
         if p.size == 0 {
             return Read {
@@ -107,7 +112,7 @@ fn read_all(
 }
 
 // All of standard input, read and answered: what is printed, and what is told.
-fn answer_input(out: &mut [u8; 128], said: &mut [u8; 256]) -> Spell
+fn answer_input(input: &mut Stdin, out: &mut [u8; 128], said: &mut [u8; 256]) -> Spell
     ensures { Spoken result.bytes result.printed result.told out.new said.new }
 {
     let mut line = [0u8; 526];
@@ -118,6 +123,7 @@ fn answer_input(out: &mut [u8; 128], said: &mut [u8; 256]) -> Spell
     let mut steps = [0u16; 9216];
     let start = reader::begin(&mut sorts, &mut terms, &mut inputs, &mut steps);
     let end = read_all(
+        input,
         start,
         &mut line,
         &mut names,
@@ -157,17 +163,17 @@ fn first(buffer: &[u8], n: usize) -> &[u8]
     }
 }
 
-fn main() {
+fn main(rt: HostRuntime) {
     let mut out = [0u8; 128];
     let mut said = [0u8; 256];
-    let s = answer_input(&mut out, &mut said);
+    let s = answer_input(&mut rt.stdin(), &mut out, &mut said);
     if s.failed {
-        io::write_all(STDERR_FILENO, b"standard input could not be read\n");
+        let _ = rt.stderr().write_all(b"standard input could not be read\n");
         return;
     }
-    if !io::write_all(STDOUT_FILENO, first(&out, s.printed)) {
-        io::write_all(STDERR_FILENO, b"the result could not be written\n");
+    if rt.stdout().write_all(first(&out, s.printed)).is_err() {
+        let _ = rt.stderr().write_all(b"the result could not be written\n");
         return;
     }
-    io::write_all(STDERR_FILENO, first(&said, s.told));
+    let _ = rt.stderr().write_all(first(&said, s.told));
 }

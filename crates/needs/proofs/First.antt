@@ -1,4 +1,4 @@
--- The first number of which a test holds, as a loop finds it: firstWhere n p ≡ n says that it holds of none below n.
+-- The first number of which a test holds, as a loop finds it: `first_where n p ≡ n` says that it holds of none below n.
 use mathlib.Core.Path.{◌≡◌, refl}
 use mathlib.Core.Bool.{Bool, true, false, cond}
 use Prim.Native.Nat.{ℕ, zero, suc, ◌+◌, ◌<◌}

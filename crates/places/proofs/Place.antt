@@ -1,25 +1,16 @@
 -- The place of a row that does not fit: the term by deep, and by any other rule the first unfit column.
 use mathlib.Core.Path.{◌≡◌, refl, sym, ◌∙◌}
 use mathlib.Core.Bool.{false}
-use mathlib.Core.List.{List, [], ◌∷◌}
+use mathlib.Core.List.{List}
 use Prim.Native.Nat.{ℕ}
-use types.Run.{OneOf, miss}
-use denote.Enum.Declared.{tag_of}
 use Rattle.calculus.specs.declared.Premise.{Premise}
 use Rattle.calculus.specs.declared.Rule.{Rule}
 use Rattle.calculus.specs.declared.Rule.TheVariants.{Same, Differ, Reflexivity, Symmetry, Transitivity, Negated, Part, Unit, Evaluation, Congruence, Predicate, Read, Skip, Deep, Unlisted}
 use Rattle.calculus.specs.Place.{at_term, first_unfit, unfit_place}
-use Rattle.calculus.specs.contracts.Rule.{the_type}
 use Rattle.completions.proofs.Theorem.{unfit_first}
 
--- the rules but deep, as a match numbers them
-abbrev other_tags : List ℕ
-other_tags = 0 ∷ 1 ∷ 2 ∷ 3 ∷ 4 ∷ 5 ∷ 6 ∷ 7 ∷ 8 ∷ 9 ∷ 10 ∷ 11 ∷ 12 ∷ 14 ∷ []
-
-abbrev pub Other : Rule → Type 0
-Other k = OneOf other_tags (tag_of the_type k)
-
-pub not_at_term : (k : Rule) → Other k → at_term k ≡ false
+-- any rule but deep
+pub not_at_term : (k : Rule) → (k ≡ Deep → ⊥) → at_term k ≡ false
 not_at_term Same t = refl
 not_at_term Differ t = refl
 not_at_term Reflexivity t = refl
@@ -33,7 +24,7 @@ not_at_term Congruence t = refl
 not_at_term Predicate t = refl
 not_at_term Read t = refl
 not_at_term Skip t = refl
-not_at_term Deep t = absurd (miss other_tags 13 tt t)
+not_at_term Deep t = absurd (t refl)
 not_at_term Unlisted t = refl
 
 module _ (ts : List ℕ) (k : Rule) (l v : ℕ) (ps : List Premise) where
@@ -41,5 +32,5 @@ module _ (ts : List ℕ) (k : Rule) (l v : ℕ) (ps : List Premise) where
   unfolding unfit_place
   place_deep e = rw e
 
-  pub place_other : {c : ℕ} → Other k → c ≡ first_unfit ts k l v ps → c ≡ unfit_place ts k l v ps
+  pub place_other : {c : ℕ} → (k ≡ Deep → ⊥) → c ≡ first_unfit ts k l v ps → c ≡ unfit_place ts k l v ps
   place_other t h = h ∙ sym (unfit_first ts k l v ps (not_at_term k t))

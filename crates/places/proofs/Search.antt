@@ -133,12 +133,12 @@ module _ (ts : List ℕ) (k : Rule) (x : Claim) where
 
   module _ {j : ℕ} {b : Bool} (s : b ≡ findable ts k x.term.0 x.value (premises_of x) (3 + j)) (h : AllFound j) where
     pub all_found_more : b ≡ true → AllFound (j + 1)
-    all_found_more e = where_more lost j h (ap not (sym s) ∙ e)
+    all_found_more e = where_more lost j h (ap not (sym s ∙ e))
 
-    pub unfit_found : {n m : ℕ} → Tested ts n x → at_term k ≡ false → Counted x m → j < 7 → not b ≡ true
+    pub unfit_found : {n m : ℕ} → Tested ts n x → at_term k ≡ false → Counted x m → j < 7 → b ≡ false
         → 3 + j ≡ first_unfit ts k x.term.0 x.value (premises_of x)
     unfolding found_place
-    unfit_found t a c l e = ap (λ n. 3 + n) (sym (where_found lost 7 j l h (ap not (sym s) ∙ e))) ∙ first_is ts k x t a c
+    unfit_found t a c l e = ap (λ n. 3 + n) (sym (where_found lost 7 j l h (ap not (sym s ∙ e)))) ∙ first_is ts k x t a c
 
   pub unfit_none : {j n m : ℕ} → Tested ts n x → at_term k ≡ false → Counted x m → j ≤ 7 → 7 ≤ j → AllFound j
       → 10 ≡ first_unfit ts k x.term.0 x.value (premises_of x)

@@ -30,10 +30,10 @@ module _ (core : Core) (t : List ℕ) (whole : Bool) (n : ℕ) where
     fault_sheet h is = is ∙ rw (eq-eqb core.number 0 good, sym steps_is ∙ h)
 
     module _ (in_steps : steps ≡ true) where
-      pub fault_header : {r : Fault} → core.headed ≡ false → r ≡ end_fault whole n → r ≡ fault_of (control_of core t) whole n
+      pub fault_header : {r : Fault} → not core.headed ≡ true → r ≡ end_fault whole n → r ≡ fault_of (control_of core t) whole n
       fault_header h is = is ∙ rw (eq-eqb core.number 0 good, sym steps_is ∙ in_steps, not-true core.headed h)
 
-      module _ (has_header : core.headed ≡ true) where
+      module _ (has_header : not core.headed ≡ false) where
         pub fault_rest : {r : Fault} → whole ≡ false → r ≡ end_fault whole n → r ≡ fault_of (control_of core t) whole n
         fault_rest h is =
             let e = h in

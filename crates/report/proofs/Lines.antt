@@ -56,12 +56,14 @@ module _ (table : List ℕ) (at r : ℕ) (h : at ≤ length table) (is : r ≡ b
 -- a line is passed, none is left to pass, and the line reaches to its newline
 module _ (table : List ℕ) (n : ℕ) where
   pub line_passed : (k at r : ℕ) → LineFrom table n k at → 0 < k → NextLine table at r → LineFrom table n (k - 1) r
+  line_passed zero at r l h next = absurd (omega arith)
   line_passed (suc k) at r l h next =
       let e : suc k - 1 ≡ k = omega arith in
       record { inside = next.inside; line_is = rw (next.rest_is, e) (sym (later_line (drop at table) k) ∙ l.line_is) }
 
   pub line_reached : (k at : ℕ) → LineFrom table n k at → k ≤ 0 → LineFrom table n 0 at
   line_reached zero at l h = l
+  line_reached (suc k) at l h = absurd (omega arith)
 
   pub line_cut : (at r : ℕ) → LineFrom table n 0 at → r ≡ before 10 (part table at) → IsLine table n (take (at + r - at) (drop at table))
   line_cut at r l is =

@@ -5,8 +5,6 @@ use mathlib.Core.List.{List, [], ◌∷◌}
 use mathlib.Core.Logic.{inl, inr}
 use Prim.Native.Nat.{ℕ, ◌<◌}
 use native.Mathlib.Omega.{arith}
-use types.Run.{OneOf, miss}
-use denote.Enum.Declared.{tag_of}
 use Rattle.calculus.specs.declared.Kind.{Kind}
 use Rattle.calculus.specs.declared.Kind.TheVariants.{Deduce, Clash, Fail}
 use Rattle.calculus.specs.declared.Refusal.{Refusal}
@@ -17,7 +15,6 @@ use Rattle.calculus.specs.Place.{place_of}
 use Rattle.calculus.specs.WellFormed.{Within}
 use Rattle.calculus.specs.Steps as calculus
 use Rattle.calculus.specs.Steps.{premises, clash_set, decide_refusal, inference_refusal, deduce_refusal, contradiction_refusal, clash_refusal, fail_refusal}
-use Rattle.calculus.specs.contracts.Kind.{the_type}
 use Rattle.calculus.proofs.Facts.{T_false, T_true, unless_ok}
 use Rattle.calculus.proofs.WellFormed.{top_length, inference_ok, contradiction_ok}
 use Rattle.trail.specs.Words.{trail_in, Laid}
@@ -79,21 +76,11 @@ module _ (w n : ℕ) (ts ws : List ℕ) (count : ℕ) (x : Step) {at : ℕ → �
 
 -- ---- the kinds
 
--- the tags of the kinds that are neither deduce nor clash
-abbrev other_tags : List ℕ
-other_tags = 0 ∷ 3 ∷ 4 ∷ 5 ∷ 6 ∷ 7 ∷ 8 ∷ 9 ∷ []
-
 -- of those that infer, fail alone is left
-last_kind : {k : Kind} → Inference k → OneOf other_tags (tag_of the_type k) → k ≡ Fail
-last_kind {k} g t = go g
-  where
-    tag : {j : Kind} → k ≡ j → OneOf other_tags (tag_of the_type j)
-    tag e = subst (λ j. OneOf other_tags (tag_of the_type j)) e t
-
-    go : Inference k → k ≡ Fail
-    go (inl e) = absurd (miss other_tags 1 tt (tag e))
-    go (inr (inl e)) = absurd (miss other_tags 2 tt (tag e))
-    go (inr (inr e)) = e
+last_kind : {k : Kind} → Inference k → (k ≡ Deduce → ⊥) → (k ≡ Clash → ⊥) → k ≡ Fail
+last_kind (inl e) d c = absurd (d e)
+last_kind (inr (inl e)) d c = absurd (c e)
+last_kind (inr (inr e)) d c = e
 
 -- ---- the steps
 
@@ -240,6 +227,6 @@ module _ (w n : ℕ) (ts ws : List ℕ) (st : Status) where
       unfolding calculus.step_by
       infer_clashes e h = rw e h
 
-      pub infer_fails : Inference k → OneOf other_tags (tag_of the_type k) → Answers w n ts ws vs at the_fail r → Answers w n ts ws vs at (the_inference k) r
+      pub infer_fails : Inference k → (k ≡ Deduce → ⊥) → (k ≡ Clash → ⊥) → Answers w n ts ws vs at the_fail r → Answers w n ts ws vs at (the_inference k) r
       unfolding calculus.step_by
-      infer_fails g t h = rw (last_kind g t) h
+      infer_fails g d c h = rw (last_kind g d c) h

@@ -43,7 +43,7 @@ pub fn advance(pos: &mut Position, byte: u8)
     *pos = step_position(pos.line, pos.at, byte);
 }
 
-// The same with plain parameters: whoever calls this needs no walk.
+// The same with plain parameters.
 pub fn advanced_by(line: usize, at: usize, byte: u8) -> Position
     ensures { result ≡ advanced (record { line = line; at = at }) byte }
 {
@@ -59,7 +59,7 @@ pub fn end_line(pos: &mut Position)
     *pos = step_line(pos.line);
 }
 
-// The same with plain parameters: whoever calls this needs no walk.
+// The same with plain parameters.
 pub fn next_line(line: usize, at: usize) -> Position
     ensures { result ≡ next_start (record { line = line; at = at }) }
 {

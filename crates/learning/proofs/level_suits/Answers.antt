@@ -1,0 +1,6 @@
+-- `learning::level_suits` meets its contract.
+use borrow.Author.Rules.{rules}
+use Rattle.learning.proofs.level_suits.Goals as goal
+
+pub returns : goal.returns
+returns c = rw c.level-h.ensures

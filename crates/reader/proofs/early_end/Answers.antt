@@ -1,0 +1,6 @@
+-- A text that ends too early.
+use borrow.Author.Rules.{rules}
+use Rattle.reader.proofs.early_end.Goals as goal
+
+pub returns : goal.returns
+returns c = rw c.end_why.ensures

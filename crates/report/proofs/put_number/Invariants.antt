@@ -1,0 +1,10 @@
+-- The digits are found one after the other, from the right.
+use borrow.Author.Rules.{rules}
+use Rattle.report.proofs.Digits.{Spelling, spelling_starts, place_left, row_kept, spelling_on, spelling_done}
+use Rattle.report.proofs.put_number.Given as goal
+
+abbrev pub invariant-loop-rest : goal.invariant-loop-rest
+invariant-loop-rest l = Spelling l.n l.digits l.i l.rest
+
+abbrev pub decreases-loop-rest : goal.decreases-loop-rest
+decreases-loop-rest l = l.rest

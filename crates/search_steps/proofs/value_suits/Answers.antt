@@ -1,0 +1,6 @@
+-- `search_steps::value_suits` meets its contract.
+use borrow.Author.Rules.{rules}
+use Rattle.search_steps.proofs.value_suits.Goals as goal
+
+pub returns : goal.returns
+returns c = rw c.is_prop-p.ensures
