@@ -1,10 +1,6 @@
 -- A run, a row at a time.
 use mathlib.Core.Path.{◌≡◌, refl, sym, ap, subst, ◌∙◌}
-use mathlib.Core.Logic.{⊎_elim}
-use mathlib.Core.List.{List, [], ◌∷◌}
-use types.Run.{OneOf}
-use denote.Enum.Declared.{tag_of}
-use Rattle.state.specs.contracts.Answer.{the_type}
+use mathlib.Core.List.{List}
 use Prim.Native.Nat.{ℕ, ◌+◌, ◌-◌, ◌≤◌, ◌<◌}
 use native.Mathlib.Omega.{arith}
 use Rattle.calculus.specs.declared.Refusal.{Refusal}
@@ -102,13 +98,13 @@ module _ (w n : ℕ) (ts log : List ℕ) (e : Ending) where
           unmoved a.2 _ (ended (stopped_by (answer.Refused c) k st) refl (sym r.same ∙ number_is ∙ ap placed (the_place c.number ∙ sym a.1)))
 
       -- any answer that lets the run not go on
-      pub stops : {y : Ended} (a : Answer) → OneOf (1 ∷ 2 ∷ []) (tag_of the_type a) → Said a → y ≡ stopped_by a k st → Ends w n ts vs e y
+      pub stops : {y : Ended} (a : Answer) → ((next : Status) → a ≡ answer.Allowed next → ⊥) → Said a → y ≡ stopped_by a k st → Ends w n ts vs e y
       stops a t s q = rw q (go a t s)
         where
-          go : (b : Answer) → OneOf (1 ∷ 2 ∷ []) (tag_of the_type b) → Said b → Ends w n ts vs e (stopped_by b k st)
+          go : (b : Answer) → ((next : Status) → b ≡ answer.Allowed next → ⊥) → Said b → Ends w n ts vs e (stopped_by b k st)
           go (answer.Refused c) t a = refuses c a
           go answer.Refuted t a = refutes a
-          go (answer.Allowed next) t a = absurd (⊎_elim (λ (z : ◌≡◌ {A = ℕ} 0 1). omega arith) (λ (z : ◌≡◌ {A = ℕ} 0 2). omega arith) t)
+          go (answer.Allowed next) t a = absurd (t next refl)
 
 -- no row is behind
 pub starts : (w n : ℕ) (ts log ws : List ℕ) (st : Status) → Standing w n ts ws st → Running w n ts log (run_in w n ts log ws st) ws st 0

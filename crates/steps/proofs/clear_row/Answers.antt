@@ -1,0 +1,17 @@
+-- `steps::clear_row` meets its contract.
+use Rattle.calculus.specs.Steps.{shaped}
+use Rattle.steps.proofs.Laws.{row_refused, row_conflict, clear_by}
+use borrow.Author.Rules.{rules}
+use Rattle.steps.proofs.clear_row.Goals as goal
+
+pub returns-then-c-ne0 : goal.returns-then-c-ne0
+unfolding shaped
+returns-then-c-ne0 c = search row_refused
+
+pub clear-requires : goal.clear-requires
+unfolding shaped
+clear-requires c = search row_conflict
+
+pub returns : goal.returns
+unfolding shaped
+returns c = search clear_by
