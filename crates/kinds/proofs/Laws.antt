@@ -1,15 +1,11 @@
 -- Numbers past those that a match lists.
 use mathlib.Core.Path.{◌≡◌, sym, ap, ◌∙◌}
 use mathlib.Core.Bool.{Bool, cond}
-use Prim.Native.Nat.{ℕ, ◌+◌, ◌≤◌}
-use native.Mathlib.Omega.{arith}
+use Prim.Native.Nat.{ℕ, ◌≤◌}
 use Rattle.calculus.specs.declared.Head.TheVariants.{Free, Unlisted}
 use Rattle.calculus.specs.Terms.{head_of}
 use Rattle.calculus.proofs.Forms as forms
 use Rattle.calculus.proofs.Forms.{free_number}
-
-pub past : {k n : ℕ} → k ≤ n → (n ≡ k → ⊥) → k + 1 ≤ n
-past h e = omega arith
 
 -- a head past the listed ones is free or not listed
 pub head_past : (h : ℕ) (b : Bool) → 6 ≤ h → free_number h ≡ b → cond b Free Unlisted ≡ head_of h

@@ -19,7 +19,8 @@ pub eval_like : (ts : List ℕ) (l v : ℕ) (ps : List Premise) → eq_list (map
 unfolding fits cells args
 eval_like ts l v ps e = rw e
 
-pub eval_unlike : (ts : List ℕ) (l v : ℕ) (ps : List Premise) → eq_list (map row_of ps) (args_of (term_at ts l)) ≡ false → false ≡ fits ts rule.Evaluation l v ps
+pub eval_unlike : (ts : List ℕ) (l v : ℕ) (ps : List Premise) → eq_list (map row_of ps) (args_of (term_at ts l)) ≡ false
+    → false ≡ fits ts rule.Evaluation l v ps
 unfolding fits cells args
 eval_unlike ts l v ps e = rw e
 
@@ -48,7 +49,8 @@ and_more p ps = go (gap p)
     go true = refl
     go false = refl
 
-pub or_more : (p : Premise) (ps : List Premise) → or_of (map value_of (stated (p ∷ ps))) ≡ (not (gap p) && (is_true p.value || or_of (map value_of (stated ps))))
+pub or_more : (p : Premise) (ps : List Premise) → or_of (map value_of (stated (p ∷ ps)))
+    ≡ (not (gap p) && (is_true p.value || or_of (map value_of (stated ps))))
 unfolding stated
 or_more p ps = go (gap p)
   where

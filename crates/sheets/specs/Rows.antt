@@ -26,6 +26,7 @@ both true false x = refl
 both false b x = refl
 
 -- the number of the n-th input row
-pub input_row : (ts is : List ℕ) (n : ℕ) → input_refusal ts is n ≡ input_row_refusal ts (input_term is n) (input_value is n) (on (input_trail is n) (input_term is n))
+pub input_row : (ts is : List ℕ) (n : ℕ) → input_refusal ts is n
+    ≡ input_row_refusal ts (input_term is n) (input_value is n) (on (input_trail is n) (input_term is n))
 unfolding input_refusal input_row_refusal fit_refusal given_refusal
 input_row ts is n = both _ _ _

@@ -183,6 +183,7 @@ module _ (ss ts : List ℕ) (t : ℕ) {w : ℕ} {r : Check} (F : FirstRepeat ts 
   repeat_later q = let d = row_passed ss ts t w (sym here ∙ q) in omega (arith, d)
 
 -- no row is in trouble
-pub terms_passed : (ss ts : List ℕ) {t : ℕ} → t ≤ term_rows ts → term_rows ts ≤ t → first_refusal t (term_refusal ss ts) ≡ 0 → Passed ≡ check_of (terms_refusal ss ts)
+pub terms_passed : (ss ts : List ℕ) {t : ℕ} → t ≤ term_rows ts → term_rows ts ≤ t → first_refusal t (term_refusal ss ts) ≡ 0
+    → Passed ≡ check_of (terms_refusal ss ts)
 unfolding terms_refusal
 terms_passed ss ts {t} l h e = let s : t ≡ term_rows ts = omega arith in sym (ap check_of (rw s at e))

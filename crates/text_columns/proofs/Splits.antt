@@ -40,7 +40,8 @@ unnamed : (l : List ℕ) → run l < length l → is_space (class_of (get_or l (
 unnamed [] h e = absurd (omega arith)
 unnamed (b ∷ bs) h e = go (unnamed bs) (is_name (class_of b)) refl h e where
   go : (run bs < length bs → is_space (class_of (get_or bs (run bs) 0)) ≡ false → named (get_or (pieces 32 bs) 0 []) ≡ false)
-      → (t : Bool) → is_name (class_of b) ≡ t → pick t (suc (run bs)) 0 < suc (length bs) → is_space (class_of (get_or (b ∷ bs) (pick t (suc (run bs)) 0) 0)) ≡ false
+      → (t : Bool) → is_name (class_of b) ≡ t → pick t (suc (run bs)) 0 < suc (length bs)
+      → is_space (class_of (get_or (b ∷ bs) (pick t (suc (run bs)) 0) 0)) ≡ false
       → named (get_or (pick (eqb b 32) ([] ∷ pieces 32 bs) (prepend b (pieces 32 bs))) 0 []) ≡ false
   go ih true p h e = rw (name_parted b p, prepended b (pieces 32 bs) (head_of_lem 32 bs), p) (ih (omega arith) e)
   go ih false p h e = rw (sym (space_is b) ∙ e, prepended b (pieces 32 bs) (head_of_lem 32 bs), p)
@@ -193,7 +194,8 @@ module _ (l : List ℕ) (n : ℕ) (m : List ℕ) (from k e : ℕ) (s : Splitting
 pub split_over : (l : List ℕ) (n : ℕ) (m : List ℕ) (from k : ℕ) → Splitting l n m from k → n ≤ k → false ≡ fields_are n (pieces 32 l)
 split_over l n m from k s h =
     let z : n - k ≡ 0 = omega arith in
-    sym (rw z (pick_both (spaced (pieces 32 (drop from l))) (ne_eqb (length (pieces 32 (drop from l))) 0 (λ e. omega (arith, head_of_lem 32 (drop from l)))) refl))
+    sym (rw z (pick_both (spaced (pieces 32 (drop from l)))
+        (ne_eqb (length (pieces 32 (drop from l))) 0 (λ e. omega (arith, head_of_lem 32 (drop from l)))) refl))
     ∙ s.says
 
 pub no_marks : (l m : List ℕ) (n : ℕ) → ◌≡◌ {A = Bool} false true → Marked l m n

@@ -339,7 +339,8 @@ module _ (t : List ℕ) (base n : ℕ) (name : List ℕ) (size : length t ≡ 55
     at_new : (m low i d : ℕ) (r : Spot) → number_at after i ≡ n → found_at r ≡ Nothing → Kept (seek_from after base (suc n) x (suc m) low i d) r
     at_new m low i d r e none =
         rw e (go (leads_on after base (suc n) (tag_of x) low n) (held after (base + n) x)) where
-          go : (b c : Bool) → Kept (pick b (pick c (Held n) (seek_from after base (suc n) x m (suc n) (below_place (base + n) (digit_of x d)) (suc d))) (Free i)) r
+          go : (b c : Bool) → Kept
+              (pick b (pick c (Held n) (seek_from after base (suc n) x m (suc n) (below_place (base + n) (digit_of x d)) (suc d))) (Free i)) r
           go true true = inr (refl, none)
           go true false =
               inl (ap found_at (seek_past after base (suc n) x m (suc n) (below_place (base + n) (digit_of x d)) (suc d) (omega arith)) ∙ sym none)

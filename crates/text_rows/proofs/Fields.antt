@@ -56,7 +56,8 @@ shape_parts columns v fs e = one (spaced fs) refl e where
   two s true p q = record { is_spaced = s; is_long = eqb-true (length fs) columns p; is_formed = three (eqb (first_malformed v 1 fs) 0) refl q }
   two s false p q = faulty_good 0 q
 
-  one : (t : Bool) → spaced fs ≡ t → pick t (pick (eqb (length fs) columns) (shape_at (first_malformed v 1 fs)) (Faulty 0)) (Faulty 0) ≡ Good → Well columns v fs
+  one : (t : Bool) → spaced fs ≡ t → pick t (pick (eqb (length fs) columns) (shape_at (first_malformed v 1 fs)) (Faulty 0)) (Faulty 0) ≡ Good
+      → Well columns v fs
   one true p q = two p (eqb (length fs) columns) refl q
   one false p q = faulty_good 0 q
 

@@ -77,7 +77,8 @@ entry_same w N ws vs t v l k h x =
 
 -- the same order, and the same words for each term in it
 pub trail_same : (w N : ℕ) (ws vs : List ℕ) (n : ℕ) → ((i : ℕ) → i < n → get_or ws (order w N + i) 0 ≡ get_or vs (order w N + i) 0)
-    → ((i : ℕ) → i < n → entry_for w N ws (get_or ws (order w N + i) 0) ≡ entry_for w N vs (get_or ws (order w N + i) 0)) → trail_in w N ws n ≡ trail_in w N vs n
+    → ((i : ℕ) → i < n → entry_for w N ws (get_or ws (order w N + i) 0) ≡ entry_for w N vs (get_or ws (order w N + i) 0))
+    → trail_in w N ws n ≡ trail_in w N vs n
 unfolding trail_in
 trail_same w N ws vs zero o h = refl
 trail_same w N ws vs (suc n) o h =

@@ -98,7 +98,8 @@ module _ {w N : ℕ} {ws : List ℕ} {n m i : ℕ} (u : Seeking w N ws n m i) wh
 
     -- the entry of that row, one level above l if it is a decision
     module _ {l : ℕ} (below : l ≡ get_or ws (levels w N + t) 0 - 1) where
-      opened : base_of m (trail_in w N ws n) ≡ cond (eqb (get_or ws (kinds w N + t) 0) 2 && leb l m) (trail_in w N ws (i - 1)) (base_of m (trail_in w N ws (i - 1)))
+      opened : base_of m (trail_in w N ws n)
+          ≡ cond (eqb (get_or ws (kinds w N + t) 0) 2 && leb l m) (trail_in w N ws (i - 1)) (base_of m (trail_in w N ws (i - 1)))
       unfolding base_of
       opened =
           sym u.same

@@ -38,7 +38,8 @@ module _ (ws : List ℕ) (a b c d : ℕ) (x y z u : ℕ) where
   four_long = simp length-set
 
   four_else : (k : ℕ) → (k ≡ a → ⊥) → (k ≡ b → ⊥) → (k ≡ c → ⊥) → (k ≡ d → ⊥) → get_or (four ws a b c d x y z u) k 0 ≡ get_or ws k 0
-  four_else k na nb nc nd = get_or-set_other three d k u 0 nd ∙ get_or-set_other two c k z 0 nc ∙ get_or-set_other one b k y 0 nb ∙ get_or-set_other ws a k x 0 na
+  four_else k na nb nc nd = get_or-set_other three d k u 0 nd ∙ get_or-set_other two c k z 0 nc ∙ get_or-set_other one b k y 0 nb
+      ∙ get_or-set_other ws a k x 0 na
 
   module _ (p : a < b) (q : b < c) (r : c < d) (l : d < length ws) where
     four_a : get_or (four ws a b c d x y z u) a 0 ≡ x

@@ -10,7 +10,8 @@ use Rattle.bitset.proofs.Windows.{Filled, filled_none, filled_more, still, unite
 use Rattle.bitset.proofs.union_into.Given as goal
 
 abbrev pub invariant-loop-i : goal.invariant-loop-i
-invariant-loop-i l = (l.i ≤ l.w) × Filled l.initial.work l.work l.to l.i (λ j x. x ≡ bit_or (get_or l.initial.work (l.to + j) 0) (get_or l.initial.work (l.from + j) 0))
+invariant-loop-i l = (l.i ≤ l.w)
+    × Filled l.initial.work l.work l.to l.i (λ j x. x ≡ bit_or (get_or l.initial.work (l.to + j) 0) (get_or l.initial.work (l.from + j) 0))
 
 abbrev pub decreases-loop-i : goal.decreases-loop-i
 decreases-loop-i l = l.w - l.i

@@ -1,7 +1,6 @@
 -- `kinds::kind_of` meets its contract.
 use Rattle.calculus.specs.declared.Kind.TheVariants.{Unlisted}
 use Rattle.calculus.specs.Steps.{kinds, kind_of}
-use Rattle.kinds.proofs.Laws.{past}
 use lib.ListN.{get_or-eq_default}
 use native.Mathlib.Omega.{arith}
 use mathlib.Core.Path.{sym}
@@ -47,13 +46,5 @@ returns-in-8 c = rw c.in-8.is
 pub returns-in_default : goal.returns-in_default
 unfolding kind_of
 returns-in_default c =
-    let h1 : 1 ≤ c.args.n = past (omega arith) c.in_default.in_default-own.rest.0.0.0.0.0.0.0.0.1 in
-    let h2 : 2 ≤ c.args.n = past h1 c.in_default.in_default-own.rest.0.0.0.0.0.0.0.1 in
-    let h3 : 3 ≤ c.args.n = past h2 c.in_default.in_default-own.rest.0.0.0.0.0.0.1 in
-    let h4 : 4 ≤ c.args.n = past h3 c.in_default.in_default-own.rest.0.0.0.0.0.1 in
-    let h5 : 5 ≤ c.args.n = past h4 c.in_default.in_default-own.rest.0.0.0.0.1 in
-    let h6 : 6 ≤ c.args.n = past h5 c.in_default.in_default-own.rest.0.0.0.1 in
-    let h7 : 7 ≤ c.args.n = past h6 c.in_default.in_default-own.rest.0.0.1 in
-    let h8 : 8 ≤ c.args.n = past h7 c.in_default.in_default-own.rest.0.1 in
-    let h9 : 9 ≤ c.args.n = past h8 c.in_default.in_default-own.rest.1 in
-    sym (get_or-eq_default kinds Unlisted {n = c.args.n} h9)
+    let past : 9 ≤ c.args.n = omega arith in
+    sym (get_or-eq_default kinds Unlisted {n = c.args.n} past)

@@ -1,7 +1,6 @@
 -- `kinds::rule_of` meets its contract.
 use Rattle.calculus.specs.declared.Rule.TheVariants.{Unlisted}
 use Rattle.calculus.specs.Rules.{rules, rule_of}
-use Rattle.kinds.proofs.Laws.{past}
 use lib.ListN.{get_or-eq_default}
 use native.Mathlib.Omega.{arith}
 use mathlib.Core.Path.{sym}
@@ -67,18 +66,5 @@ returns-in-13 c = rw c.in-13.is
 pub returns-in_default : goal.returns-in_default
 unfolding rule_of
 returns-in_default c =
-    let h1 : 1 ≤ c.args.n = past (omega arith) c.in_default.in_default-own.rest.0.0.0.0.0.0.0.0.0.0.0.0.0.1 in
-    let h2 : 2 ≤ c.args.n = past h1 c.in_default.in_default-own.rest.0.0.0.0.0.0.0.0.0.0.0.0.1 in
-    let h3 : 3 ≤ c.args.n = past h2 c.in_default.in_default-own.rest.0.0.0.0.0.0.0.0.0.0.0.1 in
-    let h4 : 4 ≤ c.args.n = past h3 c.in_default.in_default-own.rest.0.0.0.0.0.0.0.0.0.0.1 in
-    let h5 : 5 ≤ c.args.n = past h4 c.in_default.in_default-own.rest.0.0.0.0.0.0.0.0.0.1 in
-    let h6 : 6 ≤ c.args.n = past h5 c.in_default.in_default-own.rest.0.0.0.0.0.0.0.0.1 in
-    let h7 : 7 ≤ c.args.n = past h6 c.in_default.in_default-own.rest.0.0.0.0.0.0.0.1 in
-    let h8 : 8 ≤ c.args.n = past h7 c.in_default.in_default-own.rest.0.0.0.0.0.0.1 in
-    let h9 : 9 ≤ c.args.n = past h8 c.in_default.in_default-own.rest.0.0.0.0.0.1 in
-    let h10 : 10 ≤ c.args.n = past h9 c.in_default.in_default-own.rest.0.0.0.0.1 in
-    let h11 : 11 ≤ c.args.n = past h10 c.in_default.in_default-own.rest.0.0.0.1 in
-    let h12 : 12 ≤ c.args.n = past h11 c.in_default.in_default-own.rest.0.0.1 in
-    let h13 : 13 ≤ c.args.n = past h12 c.in_default.in_default-own.rest.0.1 in
-    let h14 : 14 ≤ c.args.n = past h13 c.in_default.in_default-own.rest.1 in
-    sym (get_or-eq_default rules Unlisted {n = c.args.n} h14)
+    let past : 14 ≤ c.args.n = omega arith in
+    sym (get_or-eq_default rules Unlisted {n = c.args.n} past)

@@ -30,7 +30,8 @@ pub loop-k-preserved : goal.loop-k-preserved
 loop-k-preserved c =
     let told = formed_by (eqb (c.loop-k.k + 1) c.args.column) c.field.ensures c.is_well_formed.ensures in
     let fs = pieces 32 c.args.line.now in
-    (omega arith, sym (formed_more fs c.loop-k.k c.args.column (omega (arith, c.requires.line_len)) (told ∙ c.if-not-is_well_formed.false)) ∙ c.loop-k.invariant.1)
+    (omega arith, sym (formed_more fs c.loop-k.k c.args.column (omega (arith, c.requires.line_len)) (told ∙ c.if-not-is_well_formed.false))
+        ∙ c.loop-k.invariant.1)
 
 pub returns : goal.returns
 returns c = sym (formed_end (pieces 32 c.args.line.now) c.loop-k.k c.args.column (omega (arith, c.requires.line_len))) ∙ c.loop-k.invariant.1

@@ -35,8 +35,10 @@ returns-then-end-line c =
     let is = c.name_end-end.ensures in
     let ends : c.name_end-end.result ≡ name_end t c.loop-k.from = is.value in
     let w : c.loop-k.from < c.name_end-end.result = omega (arith, c.if-end-from.false) in record {
-      value = split_last t n _ c.loop-k.from c.loop-k.k _ c.loop-k.invariant.1 is.value (omega arith) c.requires.columns_bound w is.upper_bound c.if-end-line.true;
-      marked = last_marked t n _ c.loop-k.from c.loop-k.k _ c.loop-k.invariant.1 is.value (omega arith) c.requires.columns_bound w is.upper_bound c.if-end-line.true;
+      value = split_last t n _ c.loop-k.from c.loop-k.k _ c.loop-k.invariant.1 is.value (omega arith)
+          c.requires.columns_bound w is.upper_bound c.if-end-line.true;
+      marked = last_marked t n _ c.loop-k.from c.loop-k.k _ c.loop-k.invariant.1 is.value (omega arith)
+          c.requires.columns_bound w is.upper_bound c.if-end-line.true;
     }
 
 pub bounds-line-end : goal.bounds-line-end
@@ -65,7 +67,8 @@ loop-k-preserved c =
     let w : c.loop-k.from < e = omega (arith, c.if-end-from.false) in
     let more : e < length t = omega (arith, is.upper_bound, c.if-end-line.false) in
     let space = eqb-true (get_or t e 0) 32 (sym (space_is (get_or t e 0)) ∙ sym c.is_space.ensures ∙ c.if-not-is_space.false) in
-    (omega arith, split_more t _ c.loop-k.marks c.loop-k.from c.loop-k.k e c.loop-k.invariant.1 is.value (omega arith) c.requires.columns_bound w is.upper_bound more space)
+    (omega arith, split_more t _ c.loop-k.marks c.loop-k.from c.loop-k.k e c.loop-k.invariant.1 is.value (omega arith)
+        c.requires.columns_bound w is.upper_bound more space)
 
 pub returns : goal.returns
 returns c =

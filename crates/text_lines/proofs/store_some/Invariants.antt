@@ -10,7 +10,8 @@ use Rattle.buffers.proofs.Room.{sets_more, sets_end}
 use Rattle.text_lines.proofs.store_some.Given as goal
 
 abbrev pub invariant-loop-j : goal.invariant-loop-j
-invariant-loop-j l = (l.j ≤ length l.cells) × (length l.sheet ≡ length l.initial.sheet) × (sets l.sheet (l.at + l.j) (drop l.j l.cells) ≡ sets l.initial.sheet l.at l.cells)
+invariant-loop-j l = (l.j ≤ length l.cells) × (length l.sheet ≡ length l.initial.sheet)
+    × (sets l.sheet (l.at + l.j) (drop l.j l.cells) ≡ sets l.initial.sheet l.at l.cells)
 
 abbrev pub decreases-loop-j : goal.decreases-loop-j
 decreases-loop-j l = length l.cells - l.j

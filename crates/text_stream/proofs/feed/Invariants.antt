@@ -16,7 +16,9 @@ invariant-loop-i l = (l.i ≤ length l.piece)
     × (length l.inputs ≡ length l.initial.inputs)
     × (length l.steps ≡ length l.initial.steps)
     × Bounded l.f.core.counts
-    × (feed_all (stream_of l.f l.line l.names l.sorts l.terms l.inputs l.steps) (drop l.i l.piece) ≡ feed_all (stream_of l.initial.f l.initial.line l.initial.names l.initial.sorts l.initial.terms l.initial.inputs l.initial.steps) l.piece)
+    × (feed_all (stream_of l.f l.line l.names l.sorts l.terms l.inputs l.steps) (drop l.i l.piece)
+      ≡ feed_all (stream_of l.initial.f l.initial.line l.initial.names l.initial.sorts l.initial.terms l.initial.inputs l.initial.steps)
+          l.piece)
 
 abbrev pub decreases-loop-i : goal.decreases-loop-i
 decreases-loop-i l = length l.piece - l.i
