@@ -46,7 +46,7 @@ module _ (k x : ℕ) (p : 0 < x) (small : x < 2 ^ 64) where
       ⊎_elim
       (λ q. let e : u / 64 ≡ k = eqb-true _ _ q in
       let r : eqb (u % 64) (count_trailing_zeros 64 x) ≡ eqb u (first_of k x) = ap (eqb (u % 64)) (sym first_bit)
-          ∙ same_row u (first_of k x) (e ∙ sym first_word) in
+      ∙ same_row u (first_of k x) (e ∙ sym first_word) in
       rw q (bit_rest x p small (u % 64) ∙ ap (◌||◌ (bit_at (bit_and x (x - 1)) (u % 64))) r))
       (λ q. let n : u / 64 ≡ k → ⊥ = eqb-false _ _ q in
       rw q (sym (ne_eqb u (first_of k x) (λ e. n (ap (λ (v : ℕ). v / 64) e ∙ first_word)))))

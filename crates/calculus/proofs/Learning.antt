@@ -16,7 +16,7 @@ use Rattle.calculus.specs.Steps
 use Rattle.calculus.specs.Steps.{trail_of}
 use Rattle.calculus.specs.Run
 use Rattle.calculus.specs.Run.{ending}
-use Rattle.calculus.proofs.Boards.{Case, sheets, call_of, given, asked, nothing, plain, row, differ, unit, eval, decide, deduce, clash, fail, resolve, learn, remains, refuses, entry}
+use Rattle.calculus.proofs.Boards.{Case, sheets, call_of, given, asked, nothing, plain, row, differ, unit, eval, decide, deduce, clash, resolve, learn, remains, refuses, entry}
 
 -- ---- the board
 

@@ -1,10 +1,7 @@
 -- Laws of bytes that are read piece by piece.
-use Prim.Native.Nat.{ℕ, ◌+◌}
-use mathlib.Core.Path.{◌≡◌, refl, ap, sym, subst, ◌∙◌}
-use mathlib.Core.List.{List, [], ◌++◌}
-use native.Mathlib.Omega.{arith}
-use lib.ListN.{take, length-append}
-use Rattle.io.specs.Counts.{IsPrefixLen}
+use Rattle.std.specs.Prelude.{ℕ, ◌+◌, ◌≡◌, List, [], ◌++◌}
+use Rattle.std.proofs.Common.{arith, refl, ap, sym, subst, ◌∙◌}
+use Rattle.std.proofs.lemmas.List.{length-append}
 use Rattle.text_stream.specs.Stream.{Stream, feed_all, fresh_stream, stream_of}
 use Rattle.text_stream.proofs.Bytes.{feed_append}
 use Rattle.text_stream.specs.declared.Progress.{Progress}
@@ -19,10 +16,6 @@ use Rattle.verdict.specs.Verdict.{most}
 use Rattle.verdict.specs.Contract.{answer_of, Concluded}
 use Rattle.verdict.proofs.Answers.{answered}
 use Rattle.check_log.specs.Input.{Fed, Spoken}
-
--- the first n bytes of a buffer
-pub piece_fed : (s s' : Stream) (n : ℕ) (buffer : List ℕ) → IsPrefixLen n buffer → s' ≡ feed_all s (take n buffer) → Fed s n s'
-piece_fed s s' n buffer counts is = record { bytes = take n buffer; size = sym counts.1; all = is }
 
 -- before the first piece
 pub none_fed : (s : Stream) → Fed s 0 s
@@ -41,7 +34,7 @@ more_fed {s} p q =
 pub end_fed : {s s' s'' : Stream} {n m : ℕ} → Fed s n s' → Fed s' m s'' → m ≡ 0 → Fed s n s''
 end_fed p q e =
     let both = more_fed p q in
-    record { bytes = both.bytes; size = omega (arith, both.size); all = both.all }
+    record { bytes = both.bytes; size = omega (arith, both.size, e); all = both.all }
 
 -- all bytes read and answered
 module _ {a b c d : List ℕ} (lent : lent_of a b c d ≡ most) {f : Progress} {a₀ b₀ c₀ d₀ : List ℕ} (begun : Begun a b c d f a₀ b₀ c₀ d₀)

@@ -48,7 +48,7 @@ module _ (ws₀ ws : List ℕ) (b w : ℕ) (ps : List ℕ) (k : ℕ) (h : k < le
         ap (λ (l : List ℕ). has l (get_or ps k 0)) opened
         ∙ has_append (take k ps) _ (get_or ps k 0)
         ∙ ap (λ (x : Bool). has (take k ps) (get_or ps k 0) || (x || has (filled (drop (suc k) ps)) (get_or ps k 0)))
-            (eq-eqb (get_or ps k 0) (get_or ps k 0) refl)
+        (eq-eqb (get_or ps k 0) (get_or ps k 0) refl)
         ∙ or-true (has (take k ps) (get_or ps k 0))
 
     pub gather_more : (vs : List ℕ) → Holds ws vs b w (insert (set_at ws b w) (get_or ps k 0)) → Gathering ws₀ vs b w ps (k + 1)

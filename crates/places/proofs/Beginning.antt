@@ -1,10 +1,9 @@
 -- Rows that cannot be the first premise of trans and pred.
 use mathlib.Core.Path.{◌≡◌, refl, sym}
-use mathlib.Core.Bool.{Bool, true, false, not, ◌&&◌}
+use mathlib.Core.Bool.{Bool, true, false, ◌&&◌}
 use mathlib.Core.List.{List, []}
 use Prim.Native.Nat.{ℕ}
 use lib.Dec.{T, eqb, T_not, not_T}
-use borrow.Author.Tests.{not-true}
 use Rattle.calculus.specs.declared.Rule.{Rule}
 use Rattle.calculus.specs.declared.Rule.TheVariants.{Transitivity, Predicate}
 use Rattle.calculus.specs.declared.Term.{Term}

@@ -5,7 +5,7 @@ use Prim.Native.Nat.{ℕ, ◌+◌, ◌-◌, ◌≤◌, ◌<◌}
 use native.Mathlib.Omega.{arith}
 use Rattle.calculus.specs.declared.Refusal.{Refusal}
 use Rattle.calculus.specs.declared.Step.{Step}
-use Rattle.calculus.specs.declared.Verdict.TheVariants.{Open, Refuted, Refused}
+use Rattle.calculus.specs.declared.Verdict.TheVariants.{Open, Refused}
 use Rattle.calculus.specs.Sheets.{step_rows}
 use Rattle.calculus.specs.Steps as calculus
 use Rattle.calculus.specs.Steps.{trail_of, step_at, step}

@@ -15,7 +15,6 @@ use Rattle.bitset.specs.Windows.{set_at}
 use Rattle.trail.specs.Words
 use Rattle.trail.specs.Words.{trail_in}
 use Rattle.state.specs.declared.Status.{Status}
-use Rattle.state.specs.declared.Answer.{Answer}
 use Rattle.state.specs.States.{state_in}
 
 -- ---- the state

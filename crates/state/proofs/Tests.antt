@@ -1,8 +1,7 @@
 -- A row of tests with early returns: each test is passed, or it stops the row with its number.
 use Prim.Native.Nat.{ℕ}
 use mathlib.Core.Path.{◌≡◌, sym, ◌∙◌}
-use mathlib.Core.Bool.{Bool, true, false, not}
-use borrow.Author.Tests.{not-true, not-false}
+use mathlib.Core.Bool.{Bool, true, false}
 use Rattle.calculus.specs.Numbers.{unless}
 use Rattle.calculus.proofs.Facts.{unless_yes, unless_no}
 

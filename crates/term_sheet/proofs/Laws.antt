@@ -5,7 +5,7 @@ use mathlib.Core.List.{List, [], ◌∷◌}
 use Prim.Native.Nat.{ℕ, ◌+◌, ◌≤◌, ◌<◌}
 use native.Mathlib.Omega.{arith}
 use lib.Dec.{eqb, ltb}
-use borrow.Author.Tests.{eqb-true, eqb-false, ne_eqb, eq-eqb, not-true, not-false}
+use borrow.Author.Tests.{eqb-true, eqb-false, ne_eqb, eq-eqb}
 use Rattle.calculus.specs.declared.Check.{Check}
 use Rattle.calculus.specs.declared.Check.TheVariants.{Passed, Refused}
 use Rattle.calculus.specs.declared.Head.{Head}

@@ -195,7 +195,7 @@ pub split_over : (l : List ℕ) (n : ℕ) (m : List ℕ) (from k : ℕ) → Spli
 split_over l n m from k s h =
     let z : n - k ≡ 0 = omega arith in
     sym (rw z (pick_both (spaced (pieces 32 (drop from l)))
-        (ne_eqb (length (pieces 32 (drop from l))) 0 (λ e. omega (arith, head_of_lem 32 (drop from l)))) refl))
+    (ne_eqb (length (pieces 32 (drop from l))) 0 (λ e. omega (arith, head_of_lem 32 (drop from l)))) refl))
     ∙ s.says
 
 pub no_marks : (l m : List ℕ) (n : ℕ) → ◌≡◌ {A = Bool} false true → Marked l m n

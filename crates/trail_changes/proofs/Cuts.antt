@@ -175,7 +175,7 @@ module _ {w N : ℕ} {ws₀ ws : List ℕ} {n m j i top : ℕ} (u : Cutting w N 
                 long = length-set ws (kinds w N + t) 0 ∙ u.only.long;
                 rest = λ k o.
                     get_or-set_other ws (kinds w N + t) k 0 0
-                        (λ e. ⊎_elim (λ (l : k < kinds w N). omega arith) (λ (l : kinds w N + (N + j) ≤ k). omega arith) o)
+                    (λ e. ⊎_elim (λ (l : k < kinds w N). omega arith) (λ (l : kinds w N + (N + j) ≤ k). omega arith) o)
                     ∙ still k o;
               };
           kept =

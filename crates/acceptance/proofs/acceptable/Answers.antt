@@ -1,10 +1,7 @@
 -- `acceptance::acceptable` meets its contract. No entry passed opposes the decision. Assumes nothing.
-use Prim.Native.Nat.{◌-◌}
 use native.Mathlib.Omega.{arith}
-use Rattle.calculus.specs.Steps.{opposes}
 use Rattle.trail.proofs.Laws.{on_at}
-use Rattle.acceptance.specs.Added.{added}
-use Rattle.acceptance.proofs.Laws.{Passed, passed_none, passed_skip, passed_found, passed_more, passed_all, is_row, prop_accepted, accepted, refused}
+use Rattle.acceptance.proofs.Laws.{passed_none, passed_skip, passed_found, passed_more, passed_all, is_row, prop_accepted, accepted, refused}
 use Rattle.acceptance.proofs.acceptable.Goals as goal
 
 pub is_prop-requires : goal.is_prop-requires

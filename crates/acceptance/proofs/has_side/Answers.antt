@@ -1,6 +1,5 @@
 -- `acceptance::has_side` meets its contract. Assumes nothing.
 use native.Mathlib.Omega.{arith}
-use borrow.Author.Rules.{rules}
 use Rattle.calculus.specs.Terms.{cells, arg}
 use Rattle.acceptance.proofs.Laws.{row_there}
 use Rattle.acceptance.proofs.has_side.Goals as goal

@@ -1,5 +1,4 @@
 -- `acceptance::misfits` meets its contract. Assumes nothing.
-use borrow.Author.Rules.{rules}
 use Rattle.acceptance.proofs.Laws.{misfits_told}
 use Rattle.acceptance.proofs.misfits.Goals as goal
 

@@ -1,6 +1,5 @@
 -- `acceptance::opposes` meets its contract. Assumes nothing.
 use native.Mathlib.Omega.{arith}
-use borrow.Author.Rules.{rules}
 use Rattle.calculus.proofs.Trails.{on_below}
 use Rattle.acceptance.proofs.Laws.{whole, no_equation, other_sides, equation}
 use Rattle.acceptance.proofs.opposes.Goals as goal

@@ -1,6 +1,5 @@
 -- `acceptance::row_at` meets its contract. Assumes nothing.
 use native.Mathlib.Omega.{arith}
-use borrow.Author.Rules.{rules}
 use Rattle.acceptance.proofs.Laws.{word_there}
 use Rattle.acceptance.proofs.row_at.Goals as goal
 

@@ -1,7 +1,5 @@
 -- `acceptance::skip` meets its contract. No entry passed has t as an argument. Assumes nothing.
-use Prim.Native.Nat.{◌-◌}
 use native.Mathlib.Omega.{arith}
-use Rattle.acceptance.specs.Added.{Skipped}
 use Rattle.acceptance.proofs.Laws.{skipped_none, skipped_four}
 use Rattle.acceptance.proofs.skip.Goals as goal
 

@@ -1,8 +1,6 @@
 -- `acceptance::skip` meets its contract. No entry passed has t as an argument. Assumes nothing.
 use Prim.Native.Nat.{◌-◌}
-use native.Mathlib.Omega.{arith}
 use Rattle.acceptance.specs.Added.{Skipped}
-use Rattle.acceptance.proofs.Laws.{skipped_none, skipped_four}
 use Rattle.acceptance.proofs.skip.Given as goal
 
 abbrev pub invariant-loop-i : goal.invariant-loop-i

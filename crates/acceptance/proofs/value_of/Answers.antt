@@ -1,5 +1,4 @@
 -- `acceptance::value_of` meets its contract. Assumes nothing.
-use borrow.Author.Rules.{rules}
 use Rattle.acceptance.proofs.Laws.{value_itself, value_other}
 use Rattle.acceptance.proofs.value_of.Goals as goal
 

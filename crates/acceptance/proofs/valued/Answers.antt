@@ -1,5 +1,4 @@
 -- `acceptance::valued` meets its contract. Assumes nothing.
-use borrow.Author.Rules.{rules}
 use Rattle.acceptance.proofs.valued.Goals as goal
 
 pub returns : goal.returns

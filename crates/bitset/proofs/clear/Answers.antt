@@ -1,9 +1,8 @@
 -- `bitset::clear` meets its contract. The words passed are 0, and nothing else has changed. Assumes nothing.
-use Prim.Native.Nat.{◌-◌, ◌≤◌}
 use mathlib.Core.Path.{◌≡◌, refl}
 use native.Mathlib.Omega.{arith}
 use borrow.Author.Rules.{rules}
-use Rattle.bitset.proofs.Windows.{Filled, filled_none, filled_more, cleared}
+use Rattle.bitset.proofs.Windows.{filled_none, filled_more, cleared}
 use Rattle.bitset.proofs.clear.Goals as goal
 
 pub loop-k-init : goal.loop-k-init

@@ -1,9 +1,7 @@
 -- `bitset::clear` meets its contract. The words passed are 0, and nothing else has changed. Assumes nothing.
 use Prim.Native.Nat.{◌-◌, ◌≤◌}
-use mathlib.Core.Path.{◌≡◌, refl}
-use native.Mathlib.Omega.{arith}
-use borrow.Author.Rules.{rules}
-use Rattle.bitset.proofs.Windows.{Filled, filled_none, filled_more, cleared}
+use mathlib.Core.Path.{◌≡◌}
+use Rattle.bitset.proofs.Windows.{Filled}
 use Rattle.bitset.proofs.clear.Given as goal
 
 abbrev pub invariant-loop-k : goal.invariant-loop-k

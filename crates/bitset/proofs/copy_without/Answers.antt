@@ -1,14 +1,10 @@
 -- `bitset::copy_without` meets its contract. The words passed are those of the set, and nothing else has changed. Assumes nothing.
-use Prim.Native.Nat.{◌+◌, ◌-◌, ◌≤◌}
+use Prim.Native.Nat.{◌+◌}
 use mathlib.Core.Path.{◌≡◌}
 use native.Mathlib.Omega.{arith}
 use borrow.Author.Rules.{rules}
 use mathlib.Core.Logic.{inr}
-use Rattle.calculus.specs.Terms.{filled}
-use Rattle.calculus.specs.Trail.{without}
-use Rattle.bitset.specs.Windows.{set_at}
-use Rattle.bitset.specs.Members.{IsWord}
-use Rattle.bitset.proofs.Windows.{Filled, filled_none, filled_more, still, stored, set_past}
+use Rattle.bitset.proofs.Windows.{filled_none, filled_more, still, stored, set_past}
 use Rattle.bitset.proofs.Members.{set_word, part_word}
 use Rattle.bitset.proofs.copy_without.Goals as goal
 

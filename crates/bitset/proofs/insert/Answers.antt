@@ -1,6 +1,5 @@
 -- `bitset::insert` meets its contract. Assumes nothing.
 use Rattle.bitset.proofs.Windows.{insert_at}
-use borrow.Author.Rules.{rules}
 use Rattle.bitset.proofs.insert.Goals as goal
 
 pub returns : goal.returns

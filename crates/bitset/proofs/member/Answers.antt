@@ -2,7 +2,6 @@
 use mathlib.Core.Path.{sym}
 use Rattle.bitset.specs.Windows.{bit_at}
 use Rattle.bitset.proofs.Windows.{set_in}
-use borrow.Author.Rules.{rules}
 use Rattle.bitset.proofs.member.Goals as goal
 
 pub returns : goal.returns

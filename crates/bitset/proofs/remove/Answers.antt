@@ -1,6 +1,5 @@
 -- `bitset::remove` meets its contract. Assumes nothing.
 use Rattle.bitset.proofs.Windows.{remove_at}
-use borrow.Author.Rules.{rules}
 use Rattle.bitset.proofs.remove.Goals as goal
 
 pub returns : goal.returns

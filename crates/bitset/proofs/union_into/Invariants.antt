@@ -1,12 +1,9 @@
 -- `bitset::union_into` meets its contract. The words passed are or-ed with those at `from`, and nothing else has changed. Assumes nothing.
 use Prim.Native.Nat.{◌+◌, ◌-◌, ◌≤◌}
-use mathlib.Core.Path.{◌≡◌, ap₂}
-use native.Mathlib.Omega.{arith}
-use borrow.Author.Rules.{rules}
-use mathlib.Core.Logic.{inl, inr}
+use mathlib.Core.Path.{◌≡◌}
 use lib.ListN.{get_or}
 use lib.Bits.{bit_or}
-use Rattle.bitset.proofs.Windows.{Filled, filled_none, filled_more, still, united}
+use Rattle.bitset.proofs.Windows.{Filled}
 use Rattle.bitset.proofs.union_into.Given as goal
 
 abbrev pub invariant-loop-i : goal.invariant-loop-i

@@ -1,5 +1,4 @@
 -- `bitset::word_without` meets its contract. Assumes nothing.
-use borrow.Author.Rules.{rules}
 use Rattle.bitset.proofs.Members.{word_less, word_other}
 use Rattle.bitset.proofs.word_without.Goals as goal
 

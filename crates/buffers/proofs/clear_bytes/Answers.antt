@@ -1,9 +1,6 @@
 -- `buffers::clear_bytes` meets its contract.
-use mathlib.Core.Path.{◌≡◌, refl}
-use mathlib.Core.List.{◌++◌}
+use mathlib.Core.Path.{refl}
 use native.Mathlib.Omega.{arith}
-use Prim.Native.Nat.{◌-◌, ◌≤◌}
-use lib.ListN.{length, drop, replicate}
 use Rattle.buffers.proofs.Clear.{clear_length, clear_more, clear_end}
 use Rattle.buffers.proofs.clear_bytes.Goals as goal
 

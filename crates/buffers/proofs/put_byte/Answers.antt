@@ -1,7 +1,6 @@
 -- `buffers::put_byte` meets its contract.
 use mathlib.Core.Path.{sym}
 use lib.Seq.{set_out}
-use borrow.Author.Rules.{rules}
 use Rattle.buffers.proofs.put_byte.Goals as goal
 
 pub returns-else-at-d : goal.returns-else-at-d

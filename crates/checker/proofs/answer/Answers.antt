@@ -1,6 +1,5 @@
 -- `checker::answer` meets its contract.
 use Rattle.checker.proofs.Answers.{lengths_passed, lengths_away, cleared}
-use borrow.Author.Rules.{rules}
 use Rattle.checker.proofs.answer.Goals as goal
 
 pub run_sheets-r-requires : goal.run_sheets-r-requires

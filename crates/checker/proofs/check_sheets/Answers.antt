@@ -1,6 +1,5 @@
 -- `checker::check_sheets` meets its contract.
 use Rattle.checker.proofs.Laws.{check_first, check_second}
-use borrow.Author.Rules.{rules}
 use Rattle.checker.proofs.check_sheets.Goals as goal
 
 pub returns-in_default : goal.returns-in_default

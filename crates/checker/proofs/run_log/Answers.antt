@@ -1,7 +1,6 @@
 -- `checker::run_log` meets its contract.
 use Rattle.checker.proofs.Laws.{standing_small, seen, left_written}
 use native.Mathlib.Omega.{arith}
-use borrow.Author.Rules.{rules}
 use Rattle.checker.proofs.run_log.Goals as goal
 
 pub write-requires : goal.write-requires

@@ -4,7 +4,6 @@ use Rattle.sheets.proofs.Lengths.{lengths_passed}
 use Rattle.calculus.specs.Numbers.{check_of}
 use native.Mathlib.Omega.{arith}
 use mathlib.Core.Path.{refl, ap}
-use borrow.Author.Rules.{rules}
 use Rattle.checker.proofs.run_sheets.Goals as goal
 
 pub check_sheets-c-requires : goal.check_sheets-c-requires

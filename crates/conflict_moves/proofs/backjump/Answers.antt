@@ -4,7 +4,6 @@ use native.Mathlib.Omega.{arith}
 use Rattle.calculus.specs.Trail.{top_level}
 use Rattle.trail.proofs.Laws.{why_in_lem, room_one}
 use Rattle.conflict_moves.proofs.Laws.{readied, landed}
-use borrow.Author.Rules.{rules}
 use Rattle.conflict_moves.proofs.backjump.Goals as goal
 
 pub overflow_mul-b : goal.overflow_mul-b

@@ -2,7 +2,6 @@
 use Prim.Native.Nat.{ℕ, ◌-◌}
 use mathlib.Core.Path.{ap, ◌∙◌}
 use Rattle.conflict_moves.proofs.Laws.{cut_stands}
-use borrow.Author.Rules.{rules}
 use Rattle.conflict_moves.proofs.clear.Goals as goal
 
 pub returns : goal.returns

@@ -3,7 +3,6 @@ use mathlib.Core.Path.{ap, ◌∙◌}
 use native.Mathlib.Omega.{arith}
 use Rattle.calculus.specs.Lists.{opposite}
 use Rattle.conflict_moves.proofs.Laws.{flip_stands, gone_after, top_after, kept_after}
-use borrow.Author.Rules.{rules}
 use Rattle.conflict_moves.proofs.flip.Goals as goal
 
 pub value-old-requires : goal.value-old-requires

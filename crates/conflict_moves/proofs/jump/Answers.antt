@@ -2,7 +2,6 @@
 use mathlib.Core.Path.{ap, ◌∙◌}
 use Rattle.calculus.specs.Lists.{opposite}
 use Rattle.conflict_moves.proofs.Laws.{jump_back, jump_stands}
-use borrow.Author.Rules.{rules}
 use Rattle.conflict_moves.proofs.jump.Goals as goal
 
 pub value-v-requires : goal.value-v-requires

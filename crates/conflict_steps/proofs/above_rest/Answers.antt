@@ -1,6 +1,5 @@
 -- `conflict_steps::above_rest` meets its contract.
 use Rattle.conflict_steps.proofs.Laws.{stands}
-use borrow.Author.Rules.{rules}
 use Rattle.conflict_steps.proofs.above_rest.Goals as goal
 
 pub returns : goal.returns

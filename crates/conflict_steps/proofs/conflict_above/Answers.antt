@@ -1,6 +1,5 @@
 -- `conflict_steps::conflict_above` meets its contract.
 use Rattle.conflict_steps.proofs.Laws.{not_above}
-use borrow.Author.Rules.{rules}
 use Rattle.conflict_steps.proofs.conflict_above.Goals as goal
 
 pub returns-then-top-own : goal.returns-then-top-own

@@ -1,7 +1,6 @@
 -- `conflict_steps::flip_refusal` meets its contract.
 use Rattle.conflict_steps.proofs.Laws.{member, justified}
 use Rattle.conflict_steps.proofs.Tests.{flip_17_l, flip_17_k, flip_22, flip_18_l, flip_18_k, flip_23_same, flip_23_apart, flip_0}
-use borrow.Author.Rules.{rules}
 use Rattle.conflict_steps.proofs.flip_refusal.Goals as goal
 
 pub returns-then-not-in_conflict : goal.returns-then-not-in_conflict

@@ -1,16 +1,8 @@
 -- `conflicts::all_in_conflict` meets its contract. The rows passed are in the conflict, and those that are left are rows. Assumes nothing.
-use Prim.Native.Nat.{◌-◌}
 use mathlib.Core.Path.{refl, sym}
-use mathlib.Core.Bool.{true}
 use native.Mathlib.Omega.{arith}
-use borrow.Author.Rules.{rules}
 use borrow.Author.Tests.{ltb-true}
-use lib.Dec.{ltb}
-use lib.ListN.{length}
-use Rattle.calculus.specs.Lists.{all}
-use Rattle.calculus.specs.Terms.{filled}
-use Rattle.calculus.proofs.Walks.{Passed, passed_blank, passed_all, passed_more, passed_no, passed_at}
-use Rattle.moves.specs.Post.{conflict_in}
+use Rattle.calculus.proofs.Walks.{passed_blank, passed_all, passed_more, passed_no, passed_at}
 use Rattle.state.proofs.Tests.{told_not, told_yes}
 use Rattle.conflicts.proofs.all_in_conflict.Goals as goal
 

@@ -1,5 +1,4 @@
 -- `conflicts::conflict_level` meets its contract.
-use borrow.Author.Rules.{rules}
 use Rattle.conflicts.proofs.conflict_level.Goals as goal
 
 pub level_of-requires : goal.level_of-requires

@@ -1,5 +1,4 @@
 -- `conflicts::in_conflict` meets its contract.
-use borrow.Author.Rules.{rules}
 use Rattle.conflicts.proofs.in_conflict.Goals as goal
 
 pub returns : goal.returns

@@ -1,5 +1,4 @@
 -- `conflicts::level_of_rest` meets its contract.
-use borrow.Author.Rules.{rules}
 use Rattle.conflicts.proofs.level_of_rest.Goals as goal
 
 pub level_without_all-requires : goal.level_without_all-requires

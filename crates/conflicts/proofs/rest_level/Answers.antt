@@ -1,5 +1,4 @@
 -- `conflicts::rest_level` meets its contract.
-use borrow.Author.Rules.{rules}
 use Rattle.conflicts.proofs.rest_level.Goals as goal
 
 pub level_without-requires : goal.level_without-requires

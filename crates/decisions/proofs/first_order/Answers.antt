@@ -1,6 +1,5 @@
 -- `decisions::first_order` meets its contract. Assumes nothing.
 use Rattle.decisions.proofs.Laws.{decision_word, justified_word}
-use borrow.Author.Rules.{rules}
 use Rattle.decisions.proofs.first_order.Goals as goal
 
 pub returns-then-work-b-eq2 : goal.returns-then-work-b-eq2

@@ -1,13 +1,8 @@
 -- `decisions::holds_first_order` meets its contract. No word passed has such a decision. Assumes nothing.
-use Prim.Native.Nat.{◌-◌}
-use borrow.Author.Rules.{rules}
-use Rattle.calculus.specs.Trail.{first_order}
-use Rattle.bitset.specs.Windows.{set_at}
 use Rattle.bitset.proofs.Windows.{set_past}
 use Rattle.bitset.proofs.Members.{set_word}
-use Rattle.trail.specs.Words.{trail_in}
 use Rattle.trail.proofs.Walks.{word_within}
-use Rattle.decisions.proofs.Laws.{Passed, passed_start, passed_found, passed_more, passed_all}
+use Rattle.decisions.proofs.Laws.{passed_start, passed_found, passed_more, passed_all}
 use Rattle.decisions.proofs.holds_first_order.Goals as goal
 
 pub loop-k-init : goal.loop-k-init

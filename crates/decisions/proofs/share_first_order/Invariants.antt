@@ -1,11 +1,9 @@
 -- `decisions::share_first_order` meets its contract. No word passed has such a decision in both sets. Assumes nothing.
 use Prim.Native.Nat.{◌-◌}
-use borrow.Author.Rules.{rules}
 use Rattle.bitset.specs.Windows.{set_at}
 use Rattle.calculus.specs.Trail.{intersection, first_order}
 use Rattle.trail.specs.Words.{trail_in}
-use Rattle.trail.proofs.Walks.{word_within}
-use Rattle.decisions.proofs.Laws.{Passed, passed_start, passed_found, passed_more, passed_all, shared_word, shared_within, shared_past}
+use Rattle.decisions.proofs.Laws.{Passed}
 use Rattle.decisions.proofs.share_first_order.Given as goal
 
 abbrev pub invariant-loop-k : goal.invariant-loop-k

@@ -1,11 +1,7 @@
 -- `decisions::word_holds` meets its contract. No member that is taken off is such a decision. Assumes nothing.
-use native.Mathlib.Omega.{arith}
-use borrow.Author.Rules.{rules}
 use Rattle.calculus.specs.Trail.{first_order}
-use Rattle.bitset.proofs.Members.{rest_less}
 use Rattle.trail.specs.Words.{trail_in}
-use Rattle.trail.proofs.Walks.{first_on, first_row}
-use Rattle.decisions.proofs.Laws.{Walked, walk_start, walk_found, walk_next, walk_end}
+use Rattle.decisions.proofs.Laws.{Walked}
 use Rattle.decisions.proofs.word_holds.Given as goal
 
 abbrev pub invariant-loop-rest : goal.invariant-loop-rest

@@ -1,12 +1,10 @@
 -- `inputs::load` meets its contract.
 use borrow.Author.Rules.{rules}
 use Rattle.inputs.specs.Loaded.{RowLoaded}
-use Rattle.inputs.proofs.Laws.{Loading, loading_none, loading_more, loading_stop, loading_all}
+use Rattle.inputs.proofs.Laws.{loading_none, loading_more, loading_stop, loading_all}
 use Rattle.calculus.specs.Trail.{top_level}
-use lib.ListN.{length}
-use Prim.Native.Nat.{◌≤◌, ◌-◌}
 use native.Mathlib.Omega.{arith}
-use mathlib.Core.Path.{◌≡◌, refl, sym, ap, subst, ◌∙◌}
+use mathlib.Core.Path.{refl, sym, ap, subst, ◌∙◌}
 use Rattle.inputs.proofs.load.Goals as goal
 
 pub loop-k-init : goal.loop-k-init

@@ -1,12 +1,8 @@
 -- `inputs::load` meets its contract.
-use borrow.Author.Rules.{rules}
-use Rattle.inputs.specs.Loaded.{RowLoaded}
-use Rattle.inputs.proofs.Laws.{Loading, loading_none, loading_more, loading_stop, loading_all}
-use Rattle.calculus.specs.Trail.{top_level}
+use Rattle.inputs.proofs.Laws.{Loading}
 use lib.ListN.{length}
 use Prim.Native.Nat.{◌≤◌, ◌-◌}
-use native.Mathlib.Omega.{arith}
-use mathlib.Core.Path.{◌≡◌, refl, sym, ap, subst, ◌∙◌}
+use mathlib.Core.Path.{◌≡◌}
 use Rattle.inputs.proofs.load.Given as goal
 
 abbrev pub invariant-loop-k : goal.invariant-loop-k

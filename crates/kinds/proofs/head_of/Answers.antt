@@ -3,7 +3,6 @@ use mathlib.Core.Bool.{true, false}
 use Rattle.kinds.proofs.Laws.{head_past}
 use native.Mathlib.Omega.{arith}
 use Prim.Native.Nat.{◌≤◌}
-use borrow.Author.Rules.{rules}
 use Rattle.kinds.proofs.head_of.Goals as goal
 
 pub returns-then-h : goal.returns-then-h

@@ -1,5 +1,4 @@
 -- `learning::form_suits` meets its contract.
-use borrow.Author.Rules.{rules}
 use Rattle.learning.proofs.Laws.{columns}
 use Rattle.learning.proofs.form_suits.Goals as goal
 

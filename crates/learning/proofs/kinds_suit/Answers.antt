@@ -1,5 +1,4 @@
 -- `learning::kinds_suit` meets its contract.
-use borrow.Author.Rules.{rules}
 use Rattle.learning.proofs.Laws.{columns}
 use Rattle.learning.proofs.kinds_suit.Goals as goal
 

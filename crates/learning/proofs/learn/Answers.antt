@@ -1,6 +1,5 @@
 -- `learning::learn` meets its contract.
 use mathlib.Core.Path.{refl}
-use borrow.Author.Rules.{rules}
 use Rattle.conflicts.proofs.Laws.{found}
 use Rattle.learning.proofs.Laws.{learn_refused, learn_back, learn_done}
 use Rattle.learning.proofs.learn.Goals as goal

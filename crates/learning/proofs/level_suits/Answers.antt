@@ -1,5 +1,4 @@
 -- `learning::level_suits` meets its contract.
-use borrow.Author.Rules.{rules}
 use Rattle.learning.proofs.level_suits.Goals as goal
 
 pub returns : goal.returns

@@ -1,5 +1,4 @@
 -- `learning::members` meets its contract.
-use borrow.Author.Rules.{rules}
 use Rattle.learning.proofs.Laws.{four_members}
 use Rattle.learning.proofs.members.Goals as goal
 

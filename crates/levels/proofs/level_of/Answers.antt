@@ -1,12 +1,8 @@
 -- `levels::level_of` meets its contract. The greatest level so far is that of the members in the words passed. Assumes nothing.
-use Prim.Native.Nat.{◌-◌}
-use borrow.Author.Rules.{rules}
-use Rattle.bitset.specs.Windows.{set_at}
-use Rattle.trail.specs.Words.{trail_in}
 use Rattle.bitset.proofs.Windows.{set_past}
 use Rattle.bitset.proofs.Members.{set_word}
 use Rattle.trail.proofs.Walks.{word_within}
-use Rattle.levels.proofs.Laws.{Levels, levels_start, levels_more, levels_all}
+use Rattle.levels.proofs.Laws.{levels_start, levels_more, levels_all}
 use Rattle.levels.proofs.level_of.Goals as goal
 
 pub loop-k-init : goal.loop-k-init

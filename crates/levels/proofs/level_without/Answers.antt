@@ -1,12 +1,7 @@
 -- `levels::level_without` meets its contract. The greatest level so far is that of the members in the words passed. Assumes nothing.
-use Prim.Native.Nat.{◌-◌}
-use borrow.Author.Rules.{rules}
-use Rattle.bitset.specs.Windows.{set_at}
-use Rattle.trail.specs.Words.{trail_in}
-use Rattle.calculus.specs.Trail.{remove}
 use Rattle.trail.proofs.Walks.{word_within}
 use Rattle.bitset.proofs.Members.{set_word, part_word}
-use Rattle.levels.proofs.Laws.{Levels, levels_start, levels_more, levels_all, part_within, part_past}
+use Rattle.levels.proofs.Laws.{levels_start, levels_more, levels_all, part_within, part_past}
 use Rattle.levels.proofs.level_without.Goals as goal
 
 pub loop-k-init : goal.loop-k-init

@@ -1,10 +1,6 @@
 -- `levels::word_level` meets its contract. The greatest level so far is that of the members that are taken off. Assumes nothing.
-use native.Mathlib.Omega.{arith}
-use borrow.Author.Rules.{rules}
-use Rattle.bitset.proofs.Members.{rest_less}
 use Rattle.trail.specs.Words.{trail_in}
-use Rattle.trail.proofs.Walks.{first_on, first_row}
-use Rattle.levels.proofs.Laws.{Walked, walk_start, walk_next, walk_end}
+use Rattle.levels.proofs.Laws.{Walked}
 use Rattle.levels.proofs.word_level.Given as goal
 
 abbrev pub invariant-loop-rest : goal.invariant-loop-rest

@@ -2,7 +2,6 @@
 use Rattle.calculus.specs.Terms.{filled}
 use native.Mathlib.Omega.{arith}
 use Rattle.moves.proofs.Laws.{rows_in, conflict_clash}
-use borrow.Author.Rules.{rules}
 use Rattle.moves.proofs.conflict.Goals as goal
 
 pub gather-requires : goal.gather-requires

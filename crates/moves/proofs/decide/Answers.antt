@@ -3,7 +3,6 @@ use mathlib.Core.Path.{refl}
 use native.Mathlib.Omega.{arith}
 use Rattle.trail.proofs.Laws.{room_one}
 use Rattle.moves.proofs.Laws.{decided_stands}
-use borrow.Author.Rules.{rules}
 use Rattle.moves.proofs.decide.Goals as goal
 
 pub overflow_add-result : goal.overflow_add-result

@@ -1,11 +1,10 @@
 -- `moves::gather` meets its contract. The set holds the rows passed, none of them blank. Assumes nothing.
-use Prim.Native.Nat.{◌-◌, ◌≤◌}
 use mathlib.Core.Path.{◌≡◌}
 use native.Mathlib.Omega.{arith}
 use borrow.Author.Rules.{rules}
 use lib.ListN.{length}
 use Rattle.bitset.proofs.Windows.{holds_twice}
-use Rattle.moves.proofs.Gathers.{Gathering, gather_none, gather_blank, gather_in, gather_more, gather_all}
+use Rattle.moves.proofs.Gathers.{gather_none, gather_blank, gather_in, gather_more, gather_all}
 use Rattle.moves.proofs.gather.Goals as goal
 
 pub loop-k-init : goal.loop-k-init
@@ -18,8 +17,7 @@ returns-then-p c =
 
 pub insert-requires : goal.insert-requires
 insert-requires c =
-    let inv = c.loop-k.invariant.1 in
-    (
+    let inv = c.loop-k.invariant.1 in (
       c.requires.1 _ (gather_in _ _ _ _ _ _ c.loop-k-test.true inv c.if-p.false),
       omega (arith, c.requires.0, inv.holds.only.long, c.clear.ensures.only.long),
     )

@@ -3,7 +3,6 @@ use native.Mathlib.Omega.{arith}
 use Rattle.trail.proofs.Laws.{why_in_lem}
 use Rattle.trail.proofs.Frames.{built}
 use Rattle.moves.proofs.Laws.{given_stands}
-use borrow.Author.Rules.{rules}
 use Rattle.moves.proofs.give.Goals as goal
 
 pub overflow_mul-t : goal.overflow_mul-t

@@ -3,18 +3,16 @@ use native.Mathlib.Omega.{arith}
 use Rattle.trail.proofs.Laws.{why_in_lem, room_one}
 use Rattle.trail.proofs.Frames.{built}
 use Rattle.moves.proofs.Laws.{rows_in, justified_stands}
-use borrow.Author.Rules.{rules}
 use Rattle.moves.proofs.propagate.Goals as goal
 
 pub overflow_mul-b : goal.overflow_mul-b
 overflow_mul-b c = omega (arith, why_in_lem c.args.w _ _ c.requires.1, c.requires.0.enough)
 
 pub gather-requires : goal.gather-requires
-gather-requires c =
-    (
-      omega (arith, why_in_lem c.args.w _ _ c.requires.1, c.requires.0.enough),
-      rows_in _ _ _ _ _ c.requires.0 c.requires.4,
-    )
+gather-requires c = (
+  omega (arith, why_in_lem c.args.w _ _ c.requires.1, c.requires.0.enough),
+  rows_in _ _ _ _ _ c.requires.0 c.requires.4,
+)
 
 pub push-requires : goal.push-requires
 push-requires c =

@@ -1,6 +1,5 @@
 -- `needs::arguments` meets its contract.
 use Rattle.needs.proofs.Listed.{arguments_listed}
-use borrow.Author.Rules.{rules}
 use Rattle.needs.proofs.arguments.Goals as goal
 
 pub returns : goal.returns

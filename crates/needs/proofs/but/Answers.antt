@@ -1,6 +1,5 @@
 -- `needs::but` meets its contract.
 use Rattle.needs.proofs.Listed.{but_0, but_1, but_2, but_3, but_4}
-use borrow.Author.Rules.{rules}
 use Rattle.needs.proofs.but.Goals as goal
 
 pub returns-in-0 : goal.returns-in-0

@@ -1,6 +1,5 @@
 -- `needs::cong` meets its contract.
 use Rattle.needs.proofs.Rules.{cong_needs}
-use borrow.Author.Rules.{rules}
 use Rattle.needs.proofs.cong.Goals as goal
 
 pub returns : goal.returns

@@ -1,6 +1,5 @@
 -- `needs::differ` meets its contract.
 use Rattle.needs.proofs.Rules.{differ_needs}
-use borrow.Author.Rules.{rules}
 use Rattle.needs.proofs.differ.Goals as goal
 
 pub returns : goal.returns

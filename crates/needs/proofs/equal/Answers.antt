@@ -1,5 +1,4 @@
 -- `needs::equal` meets its contract.
-use borrow.Author.Rules.{rules}
 use Rattle.needs.proofs.equal.Goals as goal
 
 pub returns : goal.returns

@@ -1,6 +1,5 @@
 -- `needs::equalities` meets its contract.
 use Rattle.needs.proofs.Listed.{equations_listed}
-use borrow.Author.Rules.{rules}
 use Rattle.needs.proofs.equalities.Goals as goal
 
 pub returns : goal.returns

@@ -1,6 +1,5 @@
 -- `needs::eval` meets its contract.
 use Rattle.needs.proofs.Rules.{eval_needs}
-use borrow.Author.Rules.{rules}
 use Rattle.needs.proofs.eval.Goals as goal
 
 pub returns : goal.returns

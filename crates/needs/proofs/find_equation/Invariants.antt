@@ -1,8 +1,6 @@
 -- `needs::find_equation` meets its contract.
-use borrow.Author.Rules.{rules}
 use Prim.Native.Nat.{◌-◌, ◌≤◌}
-use native.Mathlib.Omega.{arith}
-use Rattle.needs.proofs.Rules.{NoneBefore, none_yet, none_more, equation_found, equation_absent}
+use Rattle.needs.proofs.Rules.{NoneBefore}
 use Rattle.needs.proofs.find_equation.Given as goal
 
 abbrev pub invariant-loop-e : goal.invariant-loop-e

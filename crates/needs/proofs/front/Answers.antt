@@ -1,6 +1,5 @@
 -- `needs::front` meets its contract.
 use Rattle.needs.proofs.Listed.{front_lists}
-use borrow.Author.Rules.{rules}
 use Rattle.needs.proofs.front.Goals as goal
 
 pub returns : goal.returns

@@ -1,6 +1,5 @@
 -- `needs::is_equation` meets its contract.
 use Rattle.needs.proofs.Rules.{not_equal, maybe_equal}
-use borrow.Author.Rules.{rules}
 use Rattle.needs.proofs.is_equation.Goals as goal
 
 pub returns-then-terms-e-ne-EQ : goal.returns-then-terms-e-ne-EQ

@@ -1,6 +1,5 @@
 -- `needs::needed` meets its contract.
 use Rattle.needs.proofs.Rules.{named, refl_needs, read_needs, deep_needs, unlisted_needs}
-use borrow.Author.Rules.{rules}
 use Rattle.needs.proofs.needed.Goals as goal
 
 pub returns-in-Same : goal.returns-in-Same

@@ -1,6 +1,5 @@
 -- `needs::neg` meets its contract.
 use Rattle.needs.proofs.Rules.{neg_needs}
-use borrow.Author.Rules.{rules}
 use Rattle.needs.proofs.neg.Goals as goal
 
 pub returns : goal.returns

@@ -1,6 +1,5 @@
 -- `needs::part` meets its contract.
 use Rattle.needs.proofs.Rules.{part_needs}
-use borrow.Author.Rules.{rules}
 use Rattle.needs.proofs.part.Goals as goal
 
 pub returns : goal.returns

@@ -1,6 +1,5 @@
 -- `needs::pred` meets its contract.
 use Rattle.needs.proofs.Rules.{pred_needs}
-use borrow.Author.Rules.{rules}
 use Rattle.needs.proofs.pred.Goals as goal
 
 pub returns : goal.returns

@@ -1,6 +1,5 @@
 -- `needs::same` meets its contract.
 use Rattle.needs.proofs.Rules.{same_needs}
-use borrow.Author.Rules.{rules}
 use Rattle.needs.proofs.same.Goals as goal
 
 pub returns : goal.returns

@@ -1,6 +1,5 @@
 -- `needs::skip` meets its contract.
 use Rattle.needs.proofs.Rules.{skip_needs}
-use borrow.Author.Rules.{rules}
 use Rattle.needs.proofs.skip.Goals as goal
 
 pub returns : goal.returns

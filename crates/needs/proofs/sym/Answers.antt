@@ -1,6 +1,5 @@
 -- `needs::sym` meets its contract.
 use Rattle.needs.proofs.Rules.{sym_needs}
-use borrow.Author.Rules.{rules}
 use Rattle.needs.proofs.sym.Goals as goal
 
 pub returns : goal.returns

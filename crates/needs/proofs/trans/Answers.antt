@@ -1,6 +1,5 @@
 -- `needs::trans` meets its contract.
 use Rattle.needs.proofs.Rules.{trans_needs}
-use borrow.Author.Rules.{rules}
 use Rattle.needs.proofs.trans.Goals as goal
 
 pub returns : goal.returns

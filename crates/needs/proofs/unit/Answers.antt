@@ -1,6 +1,5 @@
 -- `needs::unit` meets its contract.
 use Rattle.needs.proofs.Rules.{unit_needs}
-use borrow.Author.Rules.{rules}
 use Rattle.needs.proofs.unit.Goals as goal
 
 pub returns : goal.returns

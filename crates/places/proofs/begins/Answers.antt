@@ -1,6 +1,5 @@
 -- `places::begins` meets its contract.
 use Rattle.places.proofs.Beginning.{begins_trans, begins_pred, begins_any}
-use borrow.Author.Rules.{rules}
 use Rattle.places.proofs.begins.Goals as goal
 
 pub returns-in-Transitivity : goal.returns-in-Transitivity

@@ -1,6 +1,5 @@
 -- `places::begun` meets its contract.
 use Rattle.places.proofs.Beginning.{begun_not, begun_follows}
-use borrow.Author.Rules.{rules}
 use Rattle.places.proofs.begun.Goals as goal
 
 pub returns-then-not-begins : goal.returns-then-not-begins

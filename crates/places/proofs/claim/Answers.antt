@@ -1,6 +1,5 @@
 -- `places::claim` meets its contract.
 use Rattle.places.proofs.Laid.{claimed}
-use borrow.Author.Rules.{rules}
 use Rattle.places.proofs.claim.Goals as goal
 
 pub returns : goal.returns

@@ -1,9 +1,7 @@
 -- `places::extensible` meets its contract.
 use mathlib.Core.Path.{refl}
-use borrow.Author.Rules.{rules}
-use Prim.Native.Nat.{◌-◌, ◌≤◌}
 use native.Mathlib.Omega.{arith}
-use Rattle.places.proofs.Search.{NoRow, no_row_more, extensible_known, extensible_yes, extensible_no}
+use Rattle.places.proofs.Search.{no_row_more, extensible_known, extensible_yes, extensible_no}
 use Rattle.places.proofs.extensible.Goals as goal
 
 pub returns-then-known-ne0 : goal.returns-then-known-ne0

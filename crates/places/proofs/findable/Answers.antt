@@ -1,6 +1,5 @@
 -- `places::findable` meets its contract.
 use Rattle.places.proofs.Search.{findable_term, findable_blank, findable_open}
-use borrow.Author.Rules.{rules}
 use Rattle.places.proofs.findable.Goals as goal
 
 pub returns-then-c-lt4 : goal.returns-then-c-lt4

@@ -1,8 +1,6 @@
 -- `places::first_unfit` meets its contract.
-use borrow.Author.Rules.{rules}
 use Prim.Native.Nat.{◌-◌, ◌≤◌}
-use native.Mathlib.Omega.{arith}
-use Rattle.places.proofs.Search.{AllFound, all_found_yet, all_found_more, unfit_found, unfit_none}
+use Rattle.places.proofs.Search.{AllFound}
 use Rattle.places.proofs.first_unfit.Given as goal
 
 abbrev pub invariant-loop-j : goal.invariant-loop-j

@@ -1,9 +1,7 @@
 -- `places::followed` meets its contract.
 use mathlib.Core.Path.{refl}
-use borrow.Author.Rules.{rules}
-use Prim.Native.Nat.{◌-◌, ◌≤◌}
 use native.Mathlib.Omega.{arith}
-use Rattle.places.proofs.Search.{NoWay, no_way_more, followed_yes, followed_no}
+use Rattle.places.proofs.Search.{no_way_more, followed_yes, followed_no}
 use Rattle.places.proofs.followed.Goals as goal
 
 pub loop-i-init : goal.loop-i-init

@@ -1,9 +1,6 @@
 -- `places::followed` meets its contract.
-use mathlib.Core.Path.{refl}
-use borrow.Author.Rules.{rules}
 use Prim.Native.Nat.{◌-◌, ◌≤◌}
-use native.Mathlib.Omega.{arith}
-use Rattle.places.proofs.Search.{NoWay, no_way_more, followed_yes, followed_no}
+use Rattle.places.proofs.Search.{NoWay}
 use Rattle.places.proofs.followed.Given as goal
 
 abbrev pub invariant-loop-i : goal.invariant-loop-i

@@ -1,6 +1,5 @@
 -- `places::laid_over` meets its contract.
 use Rattle.places.proofs.Laid.{over_listed}
-use borrow.Author.Rules.{rules}
 use Rattle.places.proofs.laid_over.Goals as goal
 
 pub returns : goal.returns

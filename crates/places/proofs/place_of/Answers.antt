@@ -1,6 +1,5 @@
 -- `places::place_of` meets its contract.
 use Rattle.places.proofs.Place.{not_at_term, place_deep, place_other}
-use borrow.Author.Rules.{rules}
 use Rattle.places.proofs.place_of.Goals as goal
 
 pub first_unfit-requires : goal.first_unfit-requires

@@ -1,6 +1,5 @@
 -- `places::serves` meets its contract.
 use Rattle.places.proofs.Laid.{serves_not, serves_fits}
-use borrow.Author.Rules.{rules}
 use Rattle.places.proofs.serves.Goals as goal
 
 pub returns-then-not-all_rows : goal.returns-then-not-all_rows

@@ -1,6 +1,5 @@
 -- `places::test` meets its contract.
 use Rattle.places.proofs.Claimed.{test_fits, test_unfit}
-use borrow.Author.Rules.{rules}
 use Rattle.places.proofs.test.Goals as goal
 
 pub returns-then-fits : goal.returns-then-fits

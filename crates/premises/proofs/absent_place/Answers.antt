@@ -1,6 +1,5 @@
 -- `premises::absent_place` meets its contract.
 use Rattle.premises.proofs.Laws.{absent_found}
-use borrow.Author.Rules.{rules}
 use Rattle.premises.proofs.absent_place.Goals as goal
 
 pub returns : goal.returns

@@ -1,15 +1,9 @@
 -- `premises::all_on` meets its contract: the columns passed stand on the trail.
-use Prim.Native.Nat.{◌-◌}
 use mathlib.Core.Path.{refl}
 use native.Mathlib.Omega.{arith}
-use borrow.Author.Rules.{rules}
-use Rattle.calculus.specs.Lists.{all}
-use Rattle.calculus.specs.Terms.{filled}
-use Rattle.calculus.specs.Trail.{on}
 use Rattle.calculus.specs.Steps.{premises}
-use Rattle.calculus.proofs.Walks.{Passed, passed_blank, passed_all, passed_more, passed_no}
+use Rattle.calculus.proofs.Walks.{passed_blank, passed_all, passed_more, passed_no}
 use Rattle.state.proofs.Tests.{told_not, told_yes}
-use Rattle.trail.specs.Words.{trail_in}
 use Rattle.premises.proofs.all_on.Goals as goal
 
 pub loop-k-init : goal.loop-k-init

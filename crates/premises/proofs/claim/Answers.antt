@@ -1,7 +1,6 @@
 -- `premises::claim` meets its contract.
 use Rattle.rule_claims.proofs.Laws.{premises_looked}
 use mathlib.Core.Path.{refl}
-use borrow.Author.Rules.{rules}
 use Rattle.premises.proofs.claim.Goals as goal
 
 pub returns : goal.returns

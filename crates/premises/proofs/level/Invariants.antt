@@ -1,9 +1,7 @@
 -- `premises::level` meets its contract: the level so far is that of the columns passed.
 use Prim.Native.Nat.{◌-◌}
-use borrow.Author.Rules.{rules}
-use Rattle.calculus.specs.Steps.{premises}
 use Rattle.trail.specs.Words.{trail_in}
-use Rattle.premises.proofs.Laws.{Levelled, levelled_none, levelled_blank, levelled_all, levelled_on, levelled_more}
+use Rattle.premises.proofs.Laws.{Levelled}
 use Rattle.premises.proofs.level.Given as goal
 
 abbrev pub invariant-loop-k : goal.invariant-loop-k

@@ -1,6 +1,5 @@
 -- `premises::more_absent` meets its contract.
 use Rattle.premises.proofs.Laws.{absent_later, absent_here}
-use borrow.Author.Rules.{rules}
 use Rattle.premises.proofs.more_absent.Goals as goal
 
 pub returns-then-p-s : goal.returns-then-p-s

@@ -1,6 +1,5 @@
 -- `premises::premise` meets its contract.
 use mathlib.Core.Path.{refl}
-use borrow.Author.Rules.{rules}
 use Rattle.premises.proofs.premise.Goals as goal
 
 pub returns : goal.returns

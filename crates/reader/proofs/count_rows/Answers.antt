@@ -1,6 +1,5 @@
 -- A count, 0 after a refusal.
 use borrow.Author.Tests.{eq-eqb, ne_eqb}
-use borrow.Author.Rules.{rules}
 use Rattle.reader.proofs.count_rows.Goals as goal
 
 pub returns-then-number-ne0 : goal.returns-then-number-ne0

@@ -1,5 +1,4 @@
 -- A text that ends too early.
-use borrow.Author.Rules.{rules}
 use Rattle.reader.proofs.early_end.Goals as goal
 
 pub returns : goal.returns

@@ -2,7 +2,6 @@
 use Prim.Native.Nat.{ℕ}
 use mathlib.Core.List.{List}
 use Rattle.reader.proofs.Ends.{fault_line, fault_sheet, fault_header, fault_rest, fault_none}
-use borrow.Author.Rules.{rules}
 use Rattle.reader.proofs.fault_of.Goals as goal
 
 pub returns-then-number-ne0 : goal.returns-then-number-ne0

@@ -4,7 +4,6 @@ use mathlib.Core.Path.{◌≡◌, ap, ◌∙◌}
 use native.Mathlib.Omega.{arith}
 use lib.ListN.{length, replicate}
 use Rattle.reader.proofs.Ends.{finished}
-use borrow.Author.Rules.{rules}
 use Rattle.reader.proofs.finish.Goals as goal
 
 pub outcome_of-requires : goal.outcome_of-requires

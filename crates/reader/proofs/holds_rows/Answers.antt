@@ -1,6 +1,5 @@
 -- Whether the sheets hold the rows, sheet after sheet.
 use borrow.Author.Tests.{le-leb, lt-leb}
-use borrow.Author.Rules.{rules}
 use Rattle.reader.proofs.holds_rows.Goals as goal
 
 pub returns-then-counts-a : goal.returns-then-counts-a

@@ -1,7 +1,6 @@
 -- A sheet at the end.
 use mathlib.Core.Path.{◌∙◌}
 use borrow.Author.Tests.{eq-eqb, ne_eqb}
-use borrow.Author.Rules.{rules}
 use Rattle.reader.proofs.leave_sheet.Goals as goal
 
 pub returns-then-number-ne0 : goal.returns-then-number-ne0

@@ -2,7 +2,6 @@
 use Prim.Native.Nat.{ℕ}
 use mathlib.Core.List.{List}
 use Rattle.reader.proofs.Ends.{outcome_counts}
-use borrow.Author.Rules.{rules}
 use Rattle.reader.proofs.outcome_of.Goals as goal
 
 pub returns : goal.returns

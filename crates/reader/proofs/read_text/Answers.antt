@@ -1,7 +1,6 @@
 -- A whole text: begun, fed and finished.
 use mathlib.Core.Path.{◌∙◌}
 use Rattle.reader.proofs.Final.{whole_read}
-use borrow.Author.Rules.{rules}
 use Rattle.reader.proofs.read_text.Goals as goal
 
 pub feed-f-requires : goal.feed-f-requires

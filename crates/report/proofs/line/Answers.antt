@@ -1,5 +1,4 @@
 -- The line reaches to its newline.
-use borrow.Author.Rules.{rules}
 use Rattle.report.proofs.Lines.{line_cut}
 use Rattle.report.proofs.line.Goals as goal
 

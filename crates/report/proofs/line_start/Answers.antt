@@ -1,6 +1,4 @@
 -- One line after the other is passed.
-use borrow.Author.Rules.{rules}
-use Rattle.report.specs.Lines.{LineFrom}
 use Rattle.report.proofs.Lines.{line_passed, line_reached}
 use Rattle.report.proofs.line_start.Goals as goal
 

@@ -1,5 +1,4 @@
 -- The newline that ends the line, or the end of the table.
-use borrow.Author.Rules.{rules}
 use Rattle.report.proofs.Lines.{behind_newline, behind_last}
 use Rattle.report.proofs.next_line.Goals as goal
 

@@ -1,5 +1,4 @@
 -- The line of the cause.
-use borrow.Author.Rules.{rules}
 use Rattle.report.proofs.Words.{cause_put}
 use Rattle.report.proofs.put_cause.Goals as goal
 

@@ -1,5 +1,4 @@
 -- Nothing, or the field.
-use borrow.Author.Rules.{rules}
 use Rattle.report.proofs.Complaints.{no_field, field_told}
 use Rattle.report.proofs.put_field.Goals as goal
 

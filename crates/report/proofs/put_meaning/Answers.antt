@@ -1,5 +1,4 @@
 -- The line of the number.
-use borrow.Author.Rules.{rules}
 use Rattle.report.proofs.Words.{meaning_put}
 use Rattle.report.proofs.put_meaning.Goals as goal
 

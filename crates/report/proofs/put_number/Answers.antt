@@ -1,6 +1,5 @@
 -- The digits are found one after the other, from the right.
-use borrow.Author.Rules.{rules}
-use Rattle.report.proofs.Digits.{Spelling, spelling_starts, place_left, row_kept, spelling_on, spelling_done}
+use Rattle.report.proofs.Digits.{spelling_starts, place_left, row_kept, spelling_on, spelling_done}
 use Rattle.report.proofs.put_number.Goals as goal
 
 pub loop-rest-init : goal.loop-rest-init

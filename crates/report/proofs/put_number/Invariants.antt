@@ -1,6 +1,5 @@
 -- The digits are found one after the other, from the right.
-use borrow.Author.Rules.{rules}
-use Rattle.report.proofs.Digits.{Spelling, spelling_starts, place_left, row_kept, spelling_on, spelling_done}
+use Rattle.report.proofs.Digits.{Spelling}
 use Rattle.report.proofs.put_number.Given as goal
 
 abbrev pub invariant-loop-rest : goal.invariant-loop-rest

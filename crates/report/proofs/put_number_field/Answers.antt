@@ -1,5 +1,4 @@
 -- The space, and the number.
-use borrow.Author.Rules.{rules}
 use Rattle.report.proofs.Printed.{number_field_put}
 use Rattle.report.proofs.put_number_field.Goals as goal
 

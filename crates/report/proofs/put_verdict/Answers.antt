@@ -1,5 +1,4 @@
 -- The word that the verdict has.
-use borrow.Author.Rules.{rules}
 use Rattle.report.proofs.Printed.{open_put, refuted_put, refused_put}
 use Rattle.report.proofs.put_verdict.Goals as goal
 

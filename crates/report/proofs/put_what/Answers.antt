@@ -1,5 +1,4 @@
 -- The number, and its words.
-use borrow.Author.Rules.{rules}
 use Rattle.report.proofs.Complaints.{what_told}
 use Rattle.report.proofs.put_what.Goals as goal
 

@@ -1,5 +1,4 @@
 -- Nothing, or the line and the field.
-use borrow.Author.Rules.{rules}
 use Rattle.report.proofs.Complaints.{no_line, where_told}
 use Rattle.report.proofs.put_where.Goals as goal
 

@@ -1,5 +1,4 @@
 -- Nothing, or the cause.
-use borrow.Author.Rules.{rules}
 use Rattle.report.proofs.Complaints.{no_cause, why_told}
 use Rattle.report.proofs.put_why.Goals as goal
 

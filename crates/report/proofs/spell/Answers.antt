@@ -1,5 +1,4 @@
 -- The names of the fields, and the fields.
-use borrow.Author.Rules.{rules}
 use Rattle.report.proofs.Printed.{spelled}
 use Rattle.report.proofs.spell.Goals as goal
 

@@ -1,5 +1,4 @@
 -- Nothing, or the parts of the complaint.
-use borrow.Author.Rules.{rules}
 use Rattle.report.proofs.Complaints.{told_nothing, told}
 use Rattle.report.proofs.tell.Goals as goal
 

@@ -3,7 +3,6 @@ use borrow.Author.Tests.{ltb-false}
 use lib.ListN.{get_or-eq_default}
 use native.Mathlib.Omega.{arith}
 use mathlib.Core.Path.{sym}
-use borrow.Author.Rules.{rules}
 use Rattle.rows.proofs.cell.Goals as goal
 
 pub returns-else-i-sheet : goal.returns-else-i-sheet

@@ -1,5 +1,4 @@
 -- `rows::term_at` meets its contract.
-use borrow.Author.Rules.{rules}
 use Rattle.rows.proofs.term_at.Goals as goal
 
 pub returns : goal.returns

@@ -2,7 +2,6 @@
 use Rattle.calculus.specs.Terms.{cells, arg}
 use Rattle.calculus.specs.Rules.{fits}
 use Rattle.rule_claims.proofs.Laws.{bare_flat}
-use borrow.Author.Rules.{rules}
 use Rattle.rule_arrays.proofs.read.Goals as goal
 
 pub returns : goal.returns

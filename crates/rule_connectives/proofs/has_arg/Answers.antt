@@ -1,7 +1,6 @@
 -- `rule_connectives::has_arg` meets its contract.
 use mathlib.Core.Path.{refl}
 use mathlib.Core.List.{[], ◌∷◌}
-use borrow.Author.Rules.{rules}
 use Rattle.rule_connectives.proofs.has_arg.Goals as goal
 
 pub returns : goal.returns

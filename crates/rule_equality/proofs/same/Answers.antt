@@ -2,7 +2,6 @@
 use Rattle.calculus.specs.Terms.{cells, arg}
 use Rattle.calculus.specs.Rules.{fits}
 use Rattle.rule_claims.proofs.Laws.{double_flat}
-use borrow.Author.Rules.{rules}
 use Rattle.rule_equality.proofs.same.Goals as goal
 
 pub returns : goal.returns

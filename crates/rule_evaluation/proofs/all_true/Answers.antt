@@ -1,5 +1,4 @@
 -- `rule_evaluation::all_true` meets its contract.
-use borrow.Author.Rules.{rules}
 use Rattle.rule_evaluation.proofs.all_true.Goals as goal
 
 pub returns : goal.returns

@@ -1,5 +1,4 @@
 -- `rule_evaluation::any_true` meets its contract.
-use borrow.Author.Rules.{rules}
 use Rattle.rule_evaluation.proofs.any_true.Goals as goal
 
 pub returns : goal.returns

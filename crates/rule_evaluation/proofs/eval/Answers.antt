@@ -1,8 +1,6 @@
 -- `rule_evaluation::eval` meets its contract.
 use Rattle.rule_evaluation.proofs.Laws.{eval_like, eval_unlike}
-use borrow.Author.Tests.{not-true, not-false}
 use mathlib.Core.Path.{sym, ◌∙◌}
-use borrow.Author.Rules.{rules}
 use Rattle.rule_evaluation.proofs.eval.Goals as goal
 
 pub returns-then-not-same_rows : goal.returns-then-not-same_rows

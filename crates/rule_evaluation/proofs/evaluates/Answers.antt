@@ -4,7 +4,6 @@ use Rattle.calculus.specs.Rules.{value_of}
 use Rattle.rule_claims.specs.Claims.{premises_of}
 use Rattle.rule_evaluation.proofs.Laws.{evaluates_not, evaluates_and, evaluates_or, evaluates_none}
 use borrow.Author.Tests.{ne_eqb}
-use borrow.Author.Rules.{rules}
 use Rattle.rule_evaluation.proofs.evaluates.Goals as goal
 
 pub returns-then-h-eq-NOT : goal.returns-then-h-eq-NOT

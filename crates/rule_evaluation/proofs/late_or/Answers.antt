@@ -3,7 +3,6 @@ use mathlib.Core.List.{[]}
 use Rattle.rule_claims.specs.Claims.{stated}
 use Rattle.rule_evaluation.proofs.Laws.{stated_none}
 use borrow.Author.Tests.{eq-eqb}
-use borrow.Author.Rules.{rules}
 use Rattle.rule_evaluation.proofs.late_or.Goals as goal
 
 pub returns-then-x-eq-BLANK : goal.returns-then-x-eq-BLANK

@@ -2,7 +2,6 @@
 use mathlib.Core.Path.{sym}
 use mathlib.Core.List.{[], ◌∷◌}
 use Rattle.rule_evaluation.proofs.Laws.{same_none, same_blank}
-use borrow.Author.Rules.{rules}
 use Rattle.rule_evaluation.proofs.late_same.Goals as goal
 
 pub returns-then-x-eq-BLANK : goal.returns-then-x-eq-BLANK

@@ -1,6 +1,5 @@
 -- `rule_evaluation::same_rows` meets its contract.
 use mathlib.Core.List.{[], ◌∷◌}
-use borrow.Author.Rules.{rules}
 use Rattle.rule_evaluation.proofs.same_rows.Goals as goal
 
 pub returns : goal.returns

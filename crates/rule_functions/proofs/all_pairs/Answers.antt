@@ -2,7 +2,6 @@
 use mathlib.Core.Path.{sym}
 use mathlib.Core.List.{[], ◌∷◌}
 use Rattle.rule_functions.proofs.Laws.{pairs_none}
-use borrow.Author.Rules.{rules}
 use Rattle.rule_functions.proofs.all_pairs.Goals as goal
 
 pub returns : goal.returns

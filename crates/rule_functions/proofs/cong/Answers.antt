@@ -1,7 +1,6 @@
 -- `rule_functions::cong` meets its contract.
 use Rattle.calculus.specs.Terms.{cells, arg, args}
 use Rattle.calculus.specs.Rules.{fits}
-use borrow.Author.Rules.{rules}
 use Rattle.rule_functions.proofs.cong.Goals as goal
 
 pub returns : goal.returns

@@ -3,7 +3,6 @@ use mathlib.Core.Path.{sym}
 use Rattle.calculus.specs.Terms.{cells, arg}
 use borrow.Author.Tests.{eq-eqb}
 use Rattle.rule_functions.proofs.Laws.{pairs_more, pairs_gap}
-use borrow.Author.Rules.{rules}
 use Rattle.rule_functions.proofs.more_pair.Goals as goal
 
 pub returns-then-p-eq-BLANK : goal.returns-then-p-eq-BLANK

@@ -2,7 +2,6 @@
 use Rattle.calculus.specs.Terms.{cells, args}
 use Rattle.calculus.specs.Rules.{fits}
 use Rattle.rule_claims.proofs.Laws.{leading_flat, stated_four}
-use borrow.Author.Rules.{rules}
 use Rattle.rule_functions.proofs.pred.Goals as goal
 
 pub returns : goal.returns

@@ -2,7 +2,6 @@
 use Rattle.rule_units.proofs.Laws.{unit_or, unit_and}
 use Rattle.rule_claims.proofs.Laws.{stated_four}
 use borrow.Author.Tests.{ne_eqb}
-use borrow.Author.Rules.{rules}
 use Rattle.rule_units.proofs.unit.Goals as goal
 
 pub returns-then-p-eq-OR : goal.returns-then-p-eq-OR

@@ -3,7 +3,6 @@ use mathlib.Core.Path.{sym}
 use Rattle.calculus.proofs.Forms.{unit_none}
 use mathlib.Core.List.{[], ◌∷◌}
 use Rattle.rule_units.proofs.Laws.{others_none}
-use borrow.Author.Rules.{rules}
 use Rattle.rule_units.proofs.unit_at.Goals as goal
 
 pub returns : goal.returns

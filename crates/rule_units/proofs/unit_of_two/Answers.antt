@@ -1,7 +1,6 @@
 -- `rule_units::unit_of_two` meets its contract.
 use mathlib.Core.List.{[], ◌∷◌}
 use Rattle.rule_units.proofs.Laws.{others_blank, unit_blank}
-use borrow.Author.Rules.{rules}
 use Rattle.rule_units.proofs.unit_of_two.Goals as goal
 
 pub returns : goal.returns

@@ -1,7 +1,6 @@
 -- `rules::fits` meets its contract.
 use Rattle.rules.proofs.Laws.{named}
 use Rattle.calculus.specs.Rules as calculus
-use borrow.Author.Rules.{rules}
 use Rattle.rules.proofs.fits.Goals as goal
 
 pub returns-in-Same : goal.returns-in-Same

@@ -1,11 +1,7 @@
 -- `run::run_steps` meets its contract.
-use Rattle.run.proofs.Laws.{Running, runs_out, goes_on, stops, starts}
-use Rattle.run.specs.Ends.{run_in}
-use lib.ListN.{length}
-use Prim.Native.Nat.{◌≤◌, ◌-◌}
+use Rattle.run.proofs.Laws.{runs_out, goes_on, stops, starts}
 use native.Mathlib.Omega.{arith}
-use mathlib.Core.Path.{◌≡◌, refl}
-use borrow.Author.Rules.{rules}
+use mathlib.Core.Path.{refl}
 use Rattle.run.proofs.run_steps.Goals as goal
 
 pub loop-k-init : goal.loop-k-init

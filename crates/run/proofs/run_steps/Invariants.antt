@@ -1,11 +1,9 @@
 -- `run::run_steps` meets its contract.
-use Rattle.run.proofs.Laws.{Running, runs_out, goes_on, stops, starts}
+use Rattle.run.proofs.Laws.{Running}
 use Rattle.run.specs.Ends.{run_in}
 use lib.ListN.{length}
 use Prim.Native.Nat.{◌≤◌, ◌-◌}
-use native.Mathlib.Omega.{arith}
-use mathlib.Core.Path.{◌≡◌, refl}
-use borrow.Author.Rules.{rules}
+use mathlib.Core.Path.{◌≡◌}
 use Rattle.run.proofs.run_steps.Given as goal
 
 abbrev pub invariant-loop-k : goal.invariant-loop-k

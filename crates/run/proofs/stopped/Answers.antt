@@ -1,5 +1,4 @@
 -- `run::stopped` meets its contract.
-use borrow.Author.Rules.{rules}
 use Rattle.run.proofs.stopped.Goals as goal
 
 pub returns-in-Refused : goal.returns-in-Refused

@@ -1,7 +1,6 @@
 -- `search_steps::clash_refusal` meets its contract.
 use Rattle.search_steps.proofs.Answers.{contradiction_premised, contradiction_on}
 use Rattle.search_steps.proofs.Tests.{clash_first, clash_26, clash_0}
-use borrow.Author.Rules.{rules}
 use Rattle.search_steps.proofs.clash_refusal.Goals as goal
 
 pub returns-then-c-ne0 : goal.returns-then-c-ne0

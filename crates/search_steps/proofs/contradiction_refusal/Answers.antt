@@ -1,6 +1,5 @@
 -- `search_steps::contradiction_refusal` meets its contract.
 use Rattle.search_steps.proofs.Tests.{contradiction_16, contradiction_0}
-use borrow.Author.Rules.{rules}
 use Rattle.search_steps.proofs.contradiction_refusal.Goals as goal
 
 pub returns-then-not-has_value : goal.returns-then-not-has_value

@@ -1,6 +1,5 @@
 -- `search_steps::decide_refusal` meets its contract.
 use Rattle.search_steps.proofs.Tests.{decide_22, decide_14, decide_27, decide_0}
-use borrow.Author.Rules.{rules}
 use Rattle.search_steps.proofs.decide_refusal.Goals as goal
 
 pub returns-then-not-value_suits : goal.returns-then-not-value_suits

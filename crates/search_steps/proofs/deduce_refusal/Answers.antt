@@ -1,6 +1,5 @@
 -- `search_steps::deduce_refusal` meets its contract.
 use Rattle.search_steps.proofs.Tests.{deduce_0, deduce_14, deduce_15}
-use borrow.Author.Rules.{rules}
 use Rattle.search_steps.proofs.deduce_refusal.Goals as goal
 
 pub returns-then-not-stands : goal.returns-then-not-stands

@@ -1,6 +1,5 @@
 -- `search_steps::fail` meets its contract.
 use Rattle.search_steps.proofs.Answers.{fail_refused, fail_refutes}
-use borrow.Author.Rules.{rules}
 use Rattle.search_steps.proofs.fail.Goals as goal
 
 pub returns-then-c-ne0 : goal.returns-then-c-ne0

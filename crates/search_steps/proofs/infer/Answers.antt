@@ -1,6 +1,5 @@
 -- `search_steps::infer` meets its contract.
 use Rattle.search_steps.proofs.Answers.{infer_refused, infer_deduces, infer_clashes, infer_fails}
-use borrow.Author.Rules.{rules}
 use Rattle.search_steps.proofs.infer.Goals as goal
 
 pub returns-then-c-ne0 : goal.returns-then-c-ne0

@@ -1,7 +1,6 @@
 -- `search_steps::inference_refusal` meets its contract.
 use Rattle.search_steps.proofs.Answers.{premised, to_test}
 use Rattle.search_steps.proofs.Tests.{inference_22, inference_12, inference_13, inference_0}
-use borrow.Author.Rules.{rules}
 use Rattle.search_steps.proofs.inference_refusal.Goals as goal
 
 pub returns-then-not-is_prop : goal.returns-then-not-is_prop

@@ -1,5 +1,4 @@
 -- `search_steps::value_suits` meets its contract.
-use borrow.Author.Rules.{rules}
 use Rattle.search_steps.proofs.value_suits.Goals as goal
 
 pub returns : goal.returns

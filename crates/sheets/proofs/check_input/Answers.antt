@@ -3,7 +3,6 @@ use mathlib.Core.Path.{refl, ap}
 use Rattle.calculus.specs.Numbers.{check_of}
 use Rattle.sheets.proofs.Laws.{stop, pass}
 use Rattle.sheets.specs.Rows.{fit_refusal}
-use borrow.Author.Rules.{rules}
 use borrow.Author.Tests.{lt-ltb, le-ltb}
 use Rattle.sheets.proofs.check_input.Goals as goal
 

@@ -3,7 +3,6 @@ use mathlib.Core.Path.{refl, ap}
 use Rattle.calculus.specs.Numbers.{check_of}
 use Rattle.sheets.proofs.Laws.{stop, pass}
 use Rattle.calculus.specs.Sheets.{length_refusal}
-use borrow.Author.Rules.{rules}
 use Rattle.sheets.proofs.check_lengths.Goals as goal
 
 pub returns-then-not-sorts-terms : goal.returns-then-not-sorts-terms

@@ -1,6 +1,5 @@
 -- `sort_sheet::check_sort` meets its contract.
 use Rattle.sort_sheet.proofs.Laws.{sort_refused, sort_passed}
-use borrow.Author.Rules.{rules}
 use Rattle.sort_sheet.proofs.check_sort.Goals as goal
 
 pub returns-then-not-a-p : goal.returns-then-not-a-p

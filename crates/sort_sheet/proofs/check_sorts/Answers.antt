@@ -2,10 +2,8 @@
 use lib.ListN.{length}
 use Rattle.calculus.specs.Numbers.{check_of}
 use Rattle.sheets.proofs.Laws.{first_none, checked_more, checked_found}
-use borrow.Author.Rules.{rules}
-use Rattle.calculus.specs.Sorts.{sort_refusal, sorts_refusal}
-use Rattle.calculus.specs.Numbers.{first_refusal}
-use Prim.Native.Nat.{◌≤◌, ◌-◌, ◌/◌}
+use Rattle.calculus.specs.Sorts.{sorts_refusal}
+use Prim.Native.Nat.{◌/◌}
 use native.Mathlib.Omega.{arith}
 use borrow.Author.Tests.{ltb-true, ltb-false}
 use mathlib.Core.Path.{◌≡◌, sym, ap}

@@ -1,14 +1,8 @@
 -- `sort_sheet::check_sorts` meets its contract.
-use lib.ListN.{length}
-use Rattle.calculus.specs.Numbers.{check_of}
-use Rattle.sheets.proofs.Laws.{first_none, checked_more, checked_found}
-use borrow.Author.Rules.{rules}
-use Rattle.calculus.specs.Sorts.{sort_refusal, sorts_refusal}
+use Rattle.calculus.specs.Sorts.{sort_refusal}
 use Rattle.calculus.specs.Numbers.{first_refusal}
-use Prim.Native.Nat.{◌≤◌, ◌-◌, ◌/◌}
-use native.Mathlib.Omega.{arith}
-use borrow.Author.Tests.{ltb-true, ltb-false}
-use mathlib.Core.Path.{◌≡◌, sym, ap}
+use Prim.Native.Nat.{◌≤◌, ◌-◌}
+use mathlib.Core.Path.{◌≡◌}
 use Rattle.sort_sheet.proofs.check_sorts.Given as goal
 
 abbrev pub invariant-loop-k : goal.invariant-loop-k

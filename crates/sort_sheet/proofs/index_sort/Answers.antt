@@ -1,5 +1,4 @@
 -- `sort_sheet::index_sort` meets its contract.
-use borrow.Author.Rules.{rules}
 use Rattle.sort_sheet.proofs.index_sort.Goals as goal
 
 pub returns : goal.returns

@@ -1,6 +1,5 @@
 -- `sort_sheet::is_array` meets its contract.
 use Rattle.sort_sheet.proofs.Laws.{array_is}
-use borrow.Author.Rules.{rules}
 use Rattle.sort_sheet.proofs.is_array.Goals as goal
 
 pub returns : goal.returns

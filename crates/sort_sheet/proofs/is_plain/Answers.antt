@@ -1,6 +1,5 @@
 -- `sort_sheet::is_plain` meets its contract.
 use Rattle.sort_sheet.proofs.Laws.{plain_is}
-use borrow.Author.Rules.{rules}
 use Rattle.sort_sheet.proofs.is_plain.Goals as goal
 
 pub returns : goal.returns

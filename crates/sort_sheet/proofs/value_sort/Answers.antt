@@ -1,5 +1,4 @@
 -- `sort_sheet::value_sort` meets its contract.
-use borrow.Author.Rules.{rules}
 use Rattle.sort_sheet.proofs.value_sort.Goals as goal
 
 pub returns : goal.returns

@@ -1,7 +1,6 @@
 -- `state::has_value` meets its contract.
 use native.Mathlib.Omega.{arith}
 use Rattle.state.proofs.States.{below_off}
-use borrow.Author.Rules.{rules}
 use Rattle.state.proofs.has_value.Goals as goal
 
 pub returns : goal.returns

@@ -2,7 +2,6 @@
 use mathlib.Core.Path.{sym}
 use native.Mathlib.Omega.{arith}
 use Rattle.state.proofs.States.{below_off}
-use borrow.Author.Rules.{rules}
 use Rattle.state.proofs.stands.Goals as goal
 
 pub returns : goal.returns

@@ -1,7 +1,6 @@
 -- `state::value_at` meets its contract.
 use native.Mathlib.Omega.{arith}
 use Rattle.calculus.proofs.Trails.{on_below}
-use borrow.Author.Rules.{rules}
 use Rattle.state.proofs.value_at.Goals as goal
 
 pub returns-then-t-n : goal.returns-then-t-n

@@ -1,5 +1,4 @@
 -- `step_rows::decision_shaped` meets its contract.
-use borrow.Author.Rules.{rules}
 use Rattle.step_rows.proofs.decision_shaped.Goals as goal
 
 pub returns : goal.returns

@@ -1,5 +1,4 @@
 -- `step_rows::learn_shaped` meets its contract.
-use borrow.Author.Rules.{rules}
 use Rattle.step_rows.proofs.learn_shaped.Goals as goal
 
 pub returns : goal.returns

@@ -1,5 +1,4 @@
 -- `step_rows::pair_shaped` meets its contract.
-use borrow.Author.Rules.{rules}
 use Rattle.step_rows.proofs.pair_shaped.Goals as goal
 
 pub returns : goal.returns

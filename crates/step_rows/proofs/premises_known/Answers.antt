@@ -2,7 +2,6 @@
 use mathlib.Core.List.{[], ◌∷◌}
 use Rattle.calculus.specs.Steps.{premises}
 use borrow.Author.Tests.{eq-eqb}
-use borrow.Author.Rules.{rules}
 use Rattle.step_rows.proofs.premises_known.Goals as goal
 
 pub returns-then-x-eq-BLANK : goal.returns-then-x-eq-BLANK

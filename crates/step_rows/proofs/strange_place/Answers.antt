@@ -1,7 +1,6 @@
 -- `step_rows::strange_place` meets its contract.
 use borrow.Author.Tests.{lt-ltb, le-ltb}
 use Rattle.calculus.specs.Place.{strange_place}
-use borrow.Author.Rules.{rules}
 use Rattle.step_rows.proofs.strange_place.Goals as goal
 
 pub returns-then-x-n : goal.returns-then-x-n

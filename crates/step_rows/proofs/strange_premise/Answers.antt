@@ -1,6 +1,5 @@
 -- `step_rows::strange_premise` meets its contract.
 use Rattle.calculus.proofs.Forms.{premise_fault_lem}
-use borrow.Author.Rules.{rules}
 use Rattle.step_rows.proofs.strange_premise.Goals as goal
 
 pub returns : goal.returns

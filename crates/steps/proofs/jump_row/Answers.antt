@@ -1,7 +1,6 @@
 -- `steps::jump_row` meets its contract.
 use Rattle.calculus.specs.Steps.{shaped}
 use Rattle.steps.proofs.Laws.{row_refused, row_conflict, jump_by}
-use borrow.Author.Rules.{rules}
 use Rattle.steps.proofs.jump_row.Goals as goal
 
 pub returns-then-c-ne0 : goal.returns-then-c-ne0

@@ -1,7 +1,6 @@
 -- `steps::learn_row` meets its contract.
 use Rattle.calculus.specs.Steps.{shaped}
 use Rattle.steps.proofs.Laws.{row_refused, row_learns, learn_by}
-use borrow.Author.Rules.{rules}
 use Rattle.steps.proofs.learn_row.Goals as goal
 
 pub returns-then-c-ne0 : goal.returns-then-c-ne0

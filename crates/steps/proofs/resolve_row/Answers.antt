@@ -1,7 +1,6 @@
 -- `steps::resolve_row` meets its contract.
 use Rattle.calculus.specs.Steps.{shaped}
 use Rattle.steps.proofs.Laws.{row_refused, row_conflict, resolve_by}
-use borrow.Author.Rules.{rules}
 use Rattle.steps.proofs.resolve_row.Goals as goal
 
 pub returns-then-c-ne0 : goal.returns-then-c-ne0

@@ -1,6 +1,5 @@
 -- `steps::row_refusal` meets its contract.
 use Rattle.steps.proofs.Laws.{row_9, row_10, row_11, row_0}
-use borrow.Author.Rules.{rules}
 use Rattle.steps.proofs.row_refusal.Goals as goal
 
 pub returns-then-not-shaped : goal.returns-then-not-shaped

@@ -1,6 +1,5 @@
 -- `steps::step` meets its contract.
 use Rattle.steps.proofs.Laws.{infers_told, infers_shaped, infers_ready, of_kind, row_refused, row_infers, infer_by, unlisted_row}
-use borrow.Author.Rules.{rules}
 use Rattle.steps.proofs.step.Goals as goal
 
 pub decide_row-requires : goal.decide_row-requires

@@ -1,5 +1,5 @@
 -- `term_buckets::bucket_of` meets its contract.
-use Rattle.std.proofs.Common.{◌/◌, ap, arith, rules}
+use Rattle.std.proofs.Common.{◌/◌, ap, arith}
 use Rattle.term_buckets.specs.Buckets.{bucket}
 use Rattle.term_buckets.proofs.bucket_of.Goals as goal
 

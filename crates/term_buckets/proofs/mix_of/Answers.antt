@@ -1,5 +1,4 @@
 -- `term_buckets::mix_of` meets its contract.
-use Rattle.std.proofs.Common.{rules}
 use Rattle.term_buckets.proofs.Laws.{row_mixed}
 use Rattle.term_buckets.proofs.mix_of.Goals as goal
 

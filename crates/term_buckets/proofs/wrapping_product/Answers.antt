@@ -1,5 +1,5 @@
 -- `term_buckets::wrapping_product` meets its contract.
-use Rattle.std.proofs.Common.{◌*◌, ◌≤◌, mul-le-mul_right, arith, rules}
+use Rattle.std.proofs.Common.{◌*◌, ◌≤◌, mul-le-mul_right, arith}
 use Rattle.term_buckets.proofs.wrapping_product.Goals as goal
 
 -- two numbers of 32 bits have a product of 64

@@ -1,7 +1,6 @@
 -- `term_search::column_of` meets its contract.
 use native.Mathlib.Omega.{arith}
 use borrow.Author.Tests.{eq-eqb, ne_eqb}
-use borrow.Author.Rules.{rules}
 use Rattle.term_search.proofs.column_of.Goals as goal
 
 pub returns-then-k-eq4 : goal.returns-then-k-eq4

@@ -1,5 +1,4 @@
 -- `term_search::differ` meets its contract.
-use borrow.Author.Rules.{rules}
 use Rattle.term_search.proofs.differ.Goals as goal
 
 pub returns : goal.returns

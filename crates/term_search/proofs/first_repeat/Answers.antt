@@ -1,15 +1,8 @@
 -- `term_search::first_repeat` meets its contract.
-use mathlib.Core.Path.{◌≡◌, refl}
-use mathlib.Core.Bool.{true, cond}
-use Prim.Native.Nat.{suc, ◌-◌, ◌≤◌}
+use mathlib.Core.Path.{refl}
 use native.Mathlib.Omega.{arith}
-use borrow.Author.Rules.{rules}
 use lib.ListN.{get_or-replicate}
-use lib.Dec.{ltb}
-use Rattle.calculus.specs.Lists.{below}
-use Rattle.calculus.specs.Terms.{fresh}
-use Rattle.term_search.specs.Found.{Chained, mix, agree}
-use Rattle.term_search.proofs.Laws.{Passed, chain_none, chain_next, pairs_first, pairs_next, pairs_fewer, row_fresh, columns_agree, repeat_none, repeat_found}
+use Rattle.term_search.proofs.Laws.{chain_none, chain_next, pairs_first, pairs_next, pairs_fewer, row_fresh, columns_agree, repeat_none, repeat_found}
 use Rattle.term_search.proofs.first_repeat.Goals as goal
 
 pub rows-init : goal.rows-init

@@ -2,11 +2,8 @@
 use mathlib.Core.Path.{◌≡◌}
 use mathlib.Core.Bool.{true}
 use Prim.Native.Nat.{◌-◌, ◌≤◌}
-use native.Mathlib.Omega.{arith}
-use borrow.Author.Rules.{rules}
 use Rattle.calculus.specs.Lists.{below}
 use Rattle.term_search.specs.Found.{other_head}
-use Rattle.term_search.proofs.Laws.{use_low, use_before, use_found, use_none, use_other, use_noted}
 use Rattle.term_search.proofs.first_use.Given as goal
 
 abbrev pub invariant-loop-u : goal.invariant-loop-u

@@ -1,6 +1,5 @@
 -- `term_search::mix_of` meets its contract.
 use Rattle.term_search.specs.Found.{mix}
-use borrow.Author.Rules.{rules}
 use Rattle.term_search.proofs.mix_of.Goals as goal
 
 pub returns : goal.returns

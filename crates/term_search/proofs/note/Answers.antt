@@ -1,6 +1,5 @@
 -- `term_search::note` meets its contract.
 use Rattle.term_search.specs.Found.{noted}
-use borrow.Author.Rules.{rules}
 use Rattle.term_search.proofs.note.Goals as goal
 
 pub returns : goal.returns

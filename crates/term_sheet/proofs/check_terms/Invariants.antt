@@ -1,14 +1,9 @@
 -- `term_sheet::check_terms` meets its contract.
-use mathlib.Core.Path.{◌≡◌, refl}
+use mathlib.Core.Path.{◌≡◌}
 use Prim.Native.Nat.{◌-◌, ◌≤◌}
-use native.Mathlib.Omega.{arith}
-use borrow.Author.Rules.{rules}
 use Rattle.calculus.specs.Numbers.{first_refusal}
 use Rattle.calculus.specs.Terms.{head, term_refusal}
-use Rattle.sheets.proofs.Laws.{first_none}
 use Rattle.term_search.specs.Found.{Noted}
-use Rattle.term_search.proofs.Laws.{note_none}
-use Rattle.term_sheet.proofs.Laws.{row_known, terms_found, terms_more, repeat_later, terms_passed}
 use Rattle.term_sheet.proofs.check_terms.Given as goal
 
 abbrev pub invariant-loop-t : goal.invariant-loop-t

@@ -5,7 +5,6 @@ use mathlib.Core.Bool.{not}
 use mathlib.Core.List.{[], ◌∷◌}
 use mathlib.Core.Path.{refl, sym}
 use borrow.Author.Tests.{eq-eqb}
-use borrow.Author.Rules.{rules}
 use Rattle.term_suits.proofs.all_plain.Goals as goal
 
 pub returns-then-e-eq-BLANK : goal.returns-then-e-eq-BLANK

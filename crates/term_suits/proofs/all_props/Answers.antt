@@ -1,7 +1,6 @@
 -- `term_suits::all_props` meets its contract.
 use mathlib.Core.List.{[], ◌∷◌}
 use mathlib.Core.Path.{refl}
-use borrow.Author.Rules.{rules}
 use Rattle.term_suits.proofs.all_props.Goals as goal
 
 pub returns : goal.returns

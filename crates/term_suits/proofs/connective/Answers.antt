@@ -1,5 +1,4 @@
 -- `term_suits::connective` meets its contract.
-use borrow.Author.Rules.{rules}
 use Rattle.term_suits.proofs.connective.Goals as goal
 
 pub returns : goal.returns

@@ -2,7 +2,6 @@
 use native.Mathlib.Numerals.{add-one}
 use borrow.Author.Tests.{eq-eqb, ne_eqb}
 use native.Mathlib.Omega.{arith}
-use borrow.Author.Rules.{rules}
 use Rattle.term_suits.proofs.more_count.Goals as goal
 
 pub returns-then-x-eq-BLANK : goal.returns-then-x-eq-BLANK

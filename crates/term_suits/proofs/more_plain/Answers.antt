@@ -4,7 +4,6 @@ use mathlib.Core.Bool.{not}
 use Rattle.calculus.specs.Terms.{prop}
 use mathlib.Core.Path.{sym}
 use borrow.Author.Tests.{eq-eqb, ne_eqb}
-use borrow.Author.Rules.{rules}
 use Rattle.term_suits.proofs.more_plain.Goals as goal
 
 pub returns-then-x-eq-BLANK : goal.returns-then-x-eq-BLANK

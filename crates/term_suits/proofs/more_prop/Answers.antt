@@ -3,7 +3,6 @@ use Rattle.calculus.proofs.Forms.{all_blank, all_filled}
 use Rattle.calculus.specs.Terms.{prop}
 use mathlib.Core.Path.{sym}
 use borrow.Author.Tests.{eq-eqb, ne_eqb}
-use borrow.Author.Rules.{rules}
 use Rattle.term_suits.proofs.more_prop.Goals as goal
 
 pub returns-then-x-eq-BLANK : goal.returns-then-x-eq-BLANK

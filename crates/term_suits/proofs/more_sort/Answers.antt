@@ -2,7 +2,6 @@
 use mathlib.Core.Path.{sym}
 use Rattle.calculus.specs.Terms.{sort}
 use Rattle.term_suits.proofs.Laws.{sorts_end, sorts_more, sorts_same}
-use borrow.Author.Rules.{rules}
 use Rattle.term_suits.proofs.more_sort.Goals as goal
 
 pub returns-then-x-y : goal.returns-then-x-y

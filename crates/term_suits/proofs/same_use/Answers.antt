@@ -2,7 +2,6 @@
 use Rattle.calculus.specs.Terms.{same_use, args, cells}
 use mathlib.Core.List.{[], ◌∷◌}
 use mathlib.Core.Path.{refl}
-use borrow.Author.Rules.{rules}
 use Rattle.term_suits.proofs.same_use.Goals as goal
 
 pub returns : goal.returns

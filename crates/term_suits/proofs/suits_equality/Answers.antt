@@ -1,5 +1,4 @@
 -- `term_suits::suits_equality` meets its contract.
-use borrow.Author.Rules.{rules}
 use Rattle.term_suits.proofs.suits_equality.Goals as goal
 
 pub returns : goal.returns

@@ -1,7 +1,6 @@
 -- `term_suits::suits_free` meets its contract.
 use Rattle.term_suits.proofs.Laws.{free_first, free_again}
 use Rattle.calculus.specs.Terms.{args, cells}
-use borrow.Author.Rules.{rules}
 use Rattle.term_suits.proofs.suits_free.Goals as goal
 
 pub returns-then-u-t : goal.returns-then-u-t

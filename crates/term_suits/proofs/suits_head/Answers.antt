@@ -1,7 +1,6 @@
 -- `term_suits::suits_head` meets its contract.
 use Rattle.term_suits.proofs.Laws.{suits_equality_is, suits_negation_is, suits_and_is, suits_or_is, suits_at, suits_unlisted}
 use mathlib.Core.Path.{◌∙◌}
-use borrow.Author.Rules.{rules}
 use Rattle.term_suits.proofs.suits_head.Goals as goal
 
 pub suits_free-requires : goal.suits_free-requires

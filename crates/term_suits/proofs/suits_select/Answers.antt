@@ -1,6 +1,5 @@
 -- `term_suits::suits_select` meets its contract.
 use Rattle.term_suits.proofs.Laws.{select_is}
-use borrow.Author.Rules.{rules}
 use Rattle.term_suits.proofs.suits_select.Goals as goal
 
 pub returns : goal.returns

@@ -1,10 +1,8 @@
 -- The shape of a line, test after test.
 use mathlib.Core.Path.{sym, ◌∙◌}
-use borrow.Author.Tests.{not-true, not-false}
 use Rattle.text_fields.specs.Split.{pieces}
 use Rattle.text_columns.proofs.Lines.{shape_unfit, fields_long, shape_good, shape_faulty}
 use Rattle.text_columns.proofs.Splits.{not_good}
-use borrow.Author.Rules.{rules}
 use Rattle.text_columns.proofs.check_line.Goals as goal
 
 pub returns-then-not-split : goal.returns-then-not-split

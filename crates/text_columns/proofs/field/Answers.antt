@@ -1,6 +1,5 @@
 -- The part of the line between the marks of a field.
 use mathlib.Core.Path.{sym}
-use borrow.Author.Rules.{rules}
 use Rattle.text_columns.proofs.field.Goals as goal
 
 pub returns : goal.returns

@@ -1,12 +1,9 @@
 -- Field after field: the fields from k on say the same as all of them.
-use Prim.Native.Nat.{◌≤◌, ◌-◌, ◌+◌}
-use mathlib.Core.Path.{◌≡◌, refl, sym, ◌∙◌}
+use Prim.Native.Nat.{◌+◌}
+use mathlib.Core.Path.{refl, sym, ◌∙◌}
 use native.Mathlib.Omega.{arith}
-use borrow.Author.Tests.{not-true, not-false}
 use lib.Dec.{eqb}
-use lib.ListN.{drop}
 use Rattle.text_fields.specs.Split.{pieces}
-use Rattle.text_fields.specs.Shape.{first_malformed}
 use Rattle.text_columns.proofs.Lines.{formed_by, formed_more, formed_stop, formed_end}
 use Rattle.text_columns.proofs.first_malformed.Goals as goal
 
@@ -29,9 +26,11 @@ returns-then-not-is_well_formed c =
 pub loop-k-preserved : goal.loop-k-preserved
 loop-k-preserved c =
     let told = formed_by (eqb (c.loop-k.k + 1) c.args.column) c.field.ensures c.is_well_formed.ensures in
-    let fs = pieces 32 c.args.line.now in
-    (omega arith, sym (formed_more fs c.loop-k.k c.args.column (omega (arith, c.requires.line_len)) (told ∙ c.if-not-is_well_formed.false))
-        ∙ c.loop-k.invariant.1)
+    let fs = pieces 32 c.args.line.now in (
+      omega arith,
+      sym (formed_more fs c.loop-k.k c.args.column (omega (arith, c.requires.line_len)) (told ∙ c.if-not-is_well_formed.false))
+          ∙ c.loop-k.invariant.1,
+    )
 
 pub returns : goal.returns
 returns c = sym (formed_end (pieces 32 c.args.line.now) c.loop-k.k c.args.column (omega (arith, c.requires.line_len))) ∙ c.loop-k.invariant.1

@@ -1,13 +1,9 @@
 -- Field after field: the fields from k on say the same as all of them.
 use Prim.Native.Nat.{◌≤◌, ◌-◌, ◌+◌}
-use mathlib.Core.Path.{◌≡◌, refl, sym, ◌∙◌}
-use native.Mathlib.Omega.{arith}
-use borrow.Author.Tests.{not-true, not-false}
-use lib.Dec.{eqb}
+use mathlib.Core.Path.{◌≡◌}
 use lib.ListN.{drop}
 use Rattle.text_fields.specs.Split.{pieces}
 use Rattle.text_fields.specs.Shape.{first_malformed}
-use Rattle.text_columns.proofs.Lines.{formed_by, formed_more, formed_stop, formed_end}
 use Rattle.text_columns.proofs.first_malformed.Given as goal
 
 abbrev pub invariant-loop-k : goal.invariant-loop-k

@@ -1,7 +1,6 @@
 -- Whether a field holds a value.
 use mathlib.Core.Path.{sym, ap, ◌∙◌}
 use Rattle.text_fields.specs.Number.{is_number}
-use borrow.Author.Rules.{rules}
 use Rattle.text_columns.proofs.holds_value.Goals as goal
 
 pub returns-in-Number : goal.returns-in-Number

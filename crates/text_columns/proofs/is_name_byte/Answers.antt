@@ -1,7 +1,6 @@
 -- Whether a byte's class is that of a name's part.
 use mathlib.Core.Path.{sym, ap, ◌∙◌}
 use Rattle.text_fields.specs.Class.{is_name}
-use borrow.Author.Rules.{rules}
 use Rattle.text_columns.proofs.is_name_byte.Goals as goal
 
 pub returns-in-Name : goal.returns-in-Name

@@ -1,7 +1,6 @@
 -- Whether a byte's class is that of a space.
 use mathlib.Core.Path.{sym, ap, ◌∙◌}
 use Rattle.text_fields.specs.Class.{is_space}
-use borrow.Author.Rules.{rules}
 use Rattle.text_columns.proofs.is_space.Goals as goal
 
 pub returns-in-Space : goal.returns-in-Space

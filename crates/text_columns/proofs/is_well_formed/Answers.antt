@@ -1,6 +1,5 @@
 -- A field of a value column, or of another.
 use mathlib.Core.Path.{◌∙◌}
-use borrow.Author.Rules.{rules}
 use Rattle.text_columns.proofs.is_well_formed.Goals as goal
 
 pub returns-then-valued : goal.returns-then-valued

@@ -1,7 +1,6 @@
 -- The value column is none of a line's, or its field is asked.
 use Prim.Native.Nat.{◌-◌}
 use native.Mathlib.Omega.{arith}
-use borrow.Author.Rules.{rules}
 use Rattle.text_columns.proofs.Lines.{value_none, value_outside, value_bad, value_good}
 use Rattle.text_columns.proofs.malformed_value.Goals as goal
 

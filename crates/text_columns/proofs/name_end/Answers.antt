@@ -1,9 +1,6 @@
 -- Four bytes at a time, then one: the bytes of names from i on end at the same place.
-use Prim.Native.Nat.{◌≤◌, ◌-◌, ◌+◌}
-use mathlib.Core.Path.{◌≡◌, refl, ◌∙◌}
+use mathlib.Core.Path.{refl, ◌∙◌}
 use native.Mathlib.Omega.{arith}
-use lib.ListN.{length, drop}
-use Rattle.text_fields.specs.Class.{run, name_end}
 use Rattle.text_fields.proofs.Fours.{ends_there, goes_on}
 use Rattle.text_columns.proofs.name_end.Goals as goal
 

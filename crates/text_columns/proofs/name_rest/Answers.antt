@@ -1,10 +1,6 @@
 -- The bytes one at a time: those of names from i on end at the same place.
-use Prim.Native.Nat.{◌≤◌, ◌-◌, ◌+◌}
-use mathlib.Core.Path.{◌≡◌, refl, sym, ◌∙◌}
+use mathlib.Core.Path.{refl, sym, ◌∙◌}
 use native.Mathlib.Omega.{arith}
-use borrow.Author.Tests.{not-true, not-false}
-use lib.ListN.{length, drop}
-use Rattle.text_fields.specs.Class.{run, name_end}
 use Rattle.text_columns.proofs.Cut.{run_more, run_stop, run_end}
 use Rattle.text_columns.proofs.name_rest.Goals as goal
 

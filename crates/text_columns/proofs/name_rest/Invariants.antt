@@ -1,11 +1,8 @@
 -- The bytes one at a time: those of names from i on end at the same place.
 use Prim.Native.Nat.{◌≤◌, ◌-◌, ◌+◌}
-use mathlib.Core.Path.{◌≡◌, refl, sym, ◌∙◌}
-use native.Mathlib.Omega.{arith}
-use borrow.Author.Tests.{not-true, not-false}
+use mathlib.Core.Path.{◌≡◌}
 use lib.ListN.{length, drop}
 use Rattle.text_fields.specs.Class.{run, name_end}
-use Rattle.text_columns.proofs.Cut.{run_more, run_stop, run_end}
 use Rattle.text_columns.proofs.name_rest.Given as goal
 
 abbrev pub invariant-loop-i : goal.invariant-loop-i

@@ -1,7 +1,4 @@
 -- Four bytes are asked one after the other.
-use mathlib.Core.Bool.{not}
-use mathlib.Core.Path.{ap}
-use borrow.Author.Rules.{rules}
 use Rattle.text_fields.proofs.Fours.{ends_first, ends_second, ends_third, ends_fourth, ends_past}
 use Rattle.text_columns.proofs.Cut.{name_ends, no_name, a_name}
 use Rattle.text_columns.proofs.names_of_four.Goals as goal

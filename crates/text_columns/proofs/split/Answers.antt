@@ -1,13 +1,12 @@
 -- A line is split: what is left of it says the same as the whole, and the fields so far are marked.
-use Prim.Native.Nat.{◌-◌, ◌≤◌, ◌<◌}
+use Prim.Native.Nat.{◌<◌}
 use mathlib.Core.Path.{◌≡◌, sym, ◌∙◌}
 use native.Mathlib.Omega.{arith}
-use borrow.Author.Rules.{rules}
-use borrow.Author.Tests.{not-true, not-false, eqb-true}
+use borrow.Author.Tests.{eqb-true}
 use lib.ListN.{length, get_or}
 use Rattle.text_fields.specs.Class.{name_end}
 use Rattle.text_fields.proofs.Laws.{space_is}
-use Rattle.text_columns.proofs.Splits.{Splitting, split_start, split_none, split_stop, split_last, last_marked, split_more, split_over, no_marks}
+use Rattle.text_columns.proofs.Splits.{split_start, split_none, split_stop, split_last, last_marked, split_more, split_over, no_marks}
 use Rattle.text_columns.proofs.split.Goals as goal
 
 pub loop-k-init : goal.loop-k-init
@@ -66,9 +65,11 @@ loop-k-preserved c =
     let ends : e ≡ name_end t c.loop-k.from = is.value in
     let w : c.loop-k.from < e = omega (arith, c.if-end-from.false) in
     let more : e < length t = omega (arith, is.upper_bound, c.if-end-line.false) in
-    let space = eqb-true (get_or t e 0) 32 (sym (space_is (get_or t e 0)) ∙ sym c.is_space.ensures ∙ c.if-not-is_space.false) in
-    (omega arith, split_more t _ c.loop-k.marks c.loop-k.from c.loop-k.k e c.loop-k.invariant.1 is.value (omega arith)
-        c.requires.columns_bound w is.upper_bound more space)
+    let space = eqb-true (get_or t e 0) 32 (sym (space_is (get_or t e 0)) ∙ sym c.is_space.ensures ∙ c.if-not-is_space.false) in (
+      omega arith,
+      split_more t _ c.loop-k.marks c.loop-k.from c.loop-k.k e c.loop-k.invariant.1 is.value (omega arith)
+          c.requires.columns_bound w is.upper_bound more space,
+    )
 
 pub returns : goal.returns
 returns c =

@@ -1,13 +1,6 @@
 -- A line is split: what is left of it says the same as the whole, and the fields so far are marked.
-use Prim.Native.Nat.{◌-◌, ◌≤◌, ◌<◌}
-use mathlib.Core.Path.{◌≡◌, sym, ◌∙◌}
-use native.Mathlib.Omega.{arith}
-use borrow.Author.Rules.{rules}
-use borrow.Author.Tests.{not-true, not-false, eqb-true}
-use lib.ListN.{length, get_or}
-use Rattle.text_fields.specs.Class.{name_end}
-use Rattle.text_fields.proofs.Laws.{space_is}
-use Rattle.text_columns.proofs.Splits.{Splitting, split_start, split_none, split_stop, split_last, last_marked, split_more, split_over, no_marks}
+use Prim.Native.Nat.{◌-◌, ◌≤◌}
+use Rattle.text_columns.proofs.Splits.{Splitting}
 use Rattle.text_columns.proofs.split.Given as goal
 
 abbrev pub invariant-loop-k : goal.invariant-loop-k

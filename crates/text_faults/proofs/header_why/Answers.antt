@@ -1,6 +1,5 @@
 -- Why a line is no header.
 use Rattle.text_faults.proofs.Causes.{header_marked, header_return, header_other}
-use borrow.Author.Rules.{rules}
 use Rattle.text_faults.proofs.header_why.Goals as goal
 
 pub returns-then-is_marked : goal.returns-then-is_marked

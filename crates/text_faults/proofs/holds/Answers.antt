@@ -1,5 +1,4 @@
 -- Whether a byte stands in a line.
-use borrow.Author.Rules.{rules}
 use Rattle.text_faults.proofs.holds.Goals as goal
 
 pub returns : goal.returns

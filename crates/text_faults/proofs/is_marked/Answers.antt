@@ -4,7 +4,6 @@ use mathlib.Core.Path.{ap, ◌∙◌}
 use mathlib.Core.List.{List}
 use Rattle.text_fields.specs.Split.{same}
 use Rattle.text_faults.specs.Why.{byte_order_mark}
-use borrow.Author.Rules.{rules}
 use Rattle.text_faults.proofs.is_marked.Goals as goal
 
 pub returns : goal.returns

@@ -1,9 +1,6 @@
 -- Whether all bytes are: those from i on say the same as all of them.
-use Prim.Native.Nat.{◌≤◌, ◌-◌}
-use mathlib.Core.Path.{◌≡◌, refl, ◌∙◌}
+use mathlib.Core.Path.{refl, ◌∙◌}
 use native.Mathlib.Omega.{arith}
-use lib.ListN.{length, drop}
-use Rattle.text_faults.specs.Why.{plain}
 use Rattle.text_faults.proofs.Causes.{plain_not, plain_on, plain_end}
 use Rattle.text_faults.proofs.is_plain.Goals as goal
 

@@ -1,10 +1,8 @@
 -- Whether all bytes are: those from i on say the same as all of them.
 use Prim.Native.Nat.{◌≤◌, ◌-◌}
-use mathlib.Core.Path.{◌≡◌, refl, ◌∙◌}
-use native.Mathlib.Omega.{arith}
+use mathlib.Core.Path.{◌≡◌}
 use lib.ListN.{length, drop}
 use Rattle.text_faults.specs.Why.{plain}
-use Rattle.text_faults.proofs.Causes.{plain_not, plain_on, plain_end}
 use Rattle.text_faults.proofs.is_plain.Given as goal
 
 abbrev pub invariant-loop-i : goal.invariant-loop-i

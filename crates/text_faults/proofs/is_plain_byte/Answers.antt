@@ -1,7 +1,6 @@
 -- Whether a byte is a space or part of a name.
 use mathlib.Core.Path.{sym, ap, ◌∙◌}
 use Rattle.text_faults.specs.Why.{is_plain}
-use borrow.Author.Rules.{rules}
 use Rattle.text_faults.proofs.is_plain_byte.Goals as goal
 
 pub returns-in-Space : goal.returns-in-Space

@@ -1,6 +1,5 @@
 -- Why a row is malformed.
 use Rattle.text_faults.proofs.Causes.{row_return, row_fields, row_byte, row_value, row_name}
-use borrow.Author.Rules.{rules}
 use Rattle.text_faults.proofs.row_why.Goals as goal
 
 pub returns-then-holds : goal.returns-then-holds

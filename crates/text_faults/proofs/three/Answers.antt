@@ -4,7 +4,6 @@ use native.Mathlib.Omega.{arith}
 use borrow.Author.Tests.{ltb-false}
 use lib.ListN.{length-take}
 use lib.Seq.{take_all}
-use borrow.Author.Rules.{rules}
 use Rattle.text_faults.proofs.three.Goals as goal
 
 pub slice_bounds-result-end : goal.slice_bounds-result-end

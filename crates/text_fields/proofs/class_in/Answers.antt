@@ -1,5 +1,4 @@
 -- The letter of a byte tells its class.
-use borrow.Author.Rules.{rules}
 use Rattle.text_fields.proofs.Table.{tells_space, tells_newline, tells_name, tells_other}
 use Rattle.text_fields.proofs.class_in.Goals as goal
 

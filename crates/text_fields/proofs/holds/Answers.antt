@@ -1,10 +1,5 @@
 -- Bytes are asked from the first to the last.
-use Prim.Native.Nat.{◌≤◌, ◌-◌, ◌+◌}
-use mathlib.Core.Path.{◌≡◌}
-use mathlib.Core.Bool.{false}
 use native.Mathlib.Omega.{arith}
-use lib.ListN.{length, drop}
-use Rattle.text_fields.specs.Split.{before}
 use Rattle.text_fields.proofs.Laws.{before_on, before_end}
 use Rattle.text_fields.proofs.holds.Goals as goal
 

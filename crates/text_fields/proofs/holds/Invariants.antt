@@ -2,10 +2,8 @@
 use Prim.Native.Nat.{◌≤◌, ◌-◌, ◌+◌}
 use mathlib.Core.Path.{◌≡◌}
 use mathlib.Core.Bool.{false}
-use native.Mathlib.Omega.{arith}
 use lib.ListN.{length, drop}
 use Rattle.text_fields.specs.Split.{before}
-use Rattle.text_fields.proofs.Laws.{before_on, before_end}
 use Rattle.text_fields.proofs.holds.Given as goal
 
 abbrev pub invariant-loop-i : goal.invariant-loop-i

@@ -1,7 +1,6 @@
 -- Whether a byte's class is that of a newline.
 use mathlib.Core.Path.{sym, ap, ◌∙◌}
 use Rattle.text_fields.specs.Class.{is_newline}
-use borrow.Author.Rules.{rules}
 use Rattle.text_fields.proofs.is_newline.Goals as goal
 
 pub returns-in-Newline : goal.returns-in-Newline

@@ -1,5 +1,4 @@
 -- Four bytes are asked one after the other.
-use borrow.Author.Rules.{rules}
 use Rattle.text_fields.proofs.Fours.{byte_ends, ends_first, ends_second, ends_third, ends_fourth, ends_past}
 use Rattle.text_fields.proofs.of_four.Goals as goal
 

@@ -1,11 +1,9 @@
 -- Bytes are compared from the first to the last.
 use Prim.Native.Nat.{◌≤◌, ◌-◌}
-use mathlib.Core.Path.{◌≡◌, refl, sym, ◌∙◌}
+use mathlib.Core.Path.{◌≡◌}
 use mathlib.Core.Bool.{false}
-use native.Mathlib.Omega.{arith}
 use lib.ListN.{length, drop}
 use Rattle.text_fields.specs.Split.{pick, same}
-use Rattle.text_fields.proofs.Laws.{same_length, same_on, same_done}
 use Rattle.text_fields.proofs.same.Given as goal
 
 abbrev pub invariant-loop-i : goal.invariant-loop-i

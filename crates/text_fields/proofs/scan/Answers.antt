@@ -1,10 +1,6 @@
 -- Sixteen bytes at a time, then four, then one: what is left to search ends where the whole search ends.
-use Prim.Native.Nat.{◌≤◌, ◌-◌, ◌+◌}
-use mathlib.Core.Path.{◌≡◌, ◌∙◌}
+use mathlib.Core.Path.{◌∙◌}
 use native.Mathlib.Omega.{arith}
-use borrow.Author.Rules.{rules}
-use lib.ListN.{length, drop}
-use Rattle.text_fields.specs.Split.{before}
 use Rattle.text_fields.proofs.Fours.{ends_there, goes_on}
 use Rattle.text_fields.proofs.scan.Goals as goal
 

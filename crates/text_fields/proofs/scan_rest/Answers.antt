@@ -1,9 +1,6 @@
 -- The bytes one at a time, from a place on.
-use Prim.Native.Nat.{◌≤◌, ◌-◌, ◌+◌}
-use mathlib.Core.Path.{◌≡◌, refl}
+use mathlib.Core.Path.{refl}
 use native.Mathlib.Omega.{arith}
-use lib.ListN.{length, drop}
-use Rattle.text_fields.specs.Split.{before}
 use Rattle.text_fields.proofs.Laws.{before_hit, before_miss, before_end}
 use Rattle.text_fields.proofs.scan_rest.Goals as goal
 

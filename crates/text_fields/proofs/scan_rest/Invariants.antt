@@ -1,10 +1,8 @@
 -- The bytes one at a time, from a place on.
 use Prim.Native.Nat.{◌≤◌, ◌-◌, ◌+◌}
-use mathlib.Core.Path.{◌≡◌, refl}
-use native.Mathlib.Omega.{arith}
+use mathlib.Core.Path.{◌≡◌}
 use lib.ListN.{length, drop}
 use Rattle.text_fields.specs.Split.{before}
-use Rattle.text_fields.proofs.Laws.{before_hit, before_miss, before_end}
 use Rattle.text_fields.proofs.scan_rest.Given as goal
 
 abbrev pub invariant-loop-i : goal.invariant-loop-i

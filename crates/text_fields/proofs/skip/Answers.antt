@@ -1,10 +1,7 @@
 -- Sixteen bytes without `c` are passed at a time.
-use Prim.Native.Nat.{◌≤◌, ◌-◌, ◌+◌}
+use Prim.Native.Nat.{◌-◌, ◌+◌}
 use mathlib.Core.Path.{◌≡◌}
 use native.Mathlib.Omega.{arith}
-use borrow.Author.Rules.{rules}
-use lib.ListN.{length, drop}
-use Rattle.text_fields.specs.Split.{before}
 use Rattle.text_fields.proofs.Laws.{before_block}
 use Rattle.text_fields.proofs.skip.Goals as goal
 

@@ -4,7 +4,6 @@ use mathlib.Core.Path.{sym, ap, ◌∙◌}
 use mathlib.Core.List.{List}
 use Rattle.text_lines.specs.Lines.{next_sheet}
 use Rattle.text_lines.specs.View.{control_of}
-use borrow.Author.Rules.{rules}
 use Rattle.text_lines.proofs.empty_line.Goals as goal
 
 pub returns-in-Sorts : goal.returns-in-Sorts

@@ -7,7 +7,6 @@ use lib.Seq.{length-take-le}
 use Rattle.text_lines.specs.View.{StepBounded}
 use Rattle.text_lines.specs.declared.Step.{Step}
 use Rattle.text_lines.proofs.Lines.{line_ended}
-use borrow.Author.Rules.{rules}
 use Rattle.text_lines.proofs.end_line.Goals as goal
 
 -- a row has room for its numbers

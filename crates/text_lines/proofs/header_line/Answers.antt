@@ -5,7 +5,6 @@ use mathlib.Core.List.{List}
 use Rattle.text_fields.proofs.Laws.{pick_true, pick_false}
 use Rattle.text_lines.specs.Lines.{bad}
 use Rattle.text_lines.specs.View.{control_of}
-use borrow.Author.Rules.{rules}
 use Rattle.text_lines.proofs.header_line.Goals as goal
 
 pub returns-then-is_header : goal.returns-then-is_header

@@ -1,6 +1,4 @@
 -- Whether a line is a sheet's header, by sheet.
-use Rattle.text_fields.specs.Split.{same}
-use borrow.Author.Rules.{rules}
 use Rattle.text_lines.proofs.is_header.Goals as goal
 
 pub returns-in-Sorts : goal.returns-in-Sorts

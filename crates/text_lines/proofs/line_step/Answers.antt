@@ -5,7 +5,6 @@ use Rattle.text_faults.specs.declared.Why.TheVariants.{Long}
 use Rattle.text_lines.specs.Lines.{Control, bad, read_line}
 use Rattle.text_lines.specs.View.{control_of}
 use Rattle.text_lines.proofs.Lines.{effect_long, effect_read}
-use borrow.Author.Rules.{rules}
 use Rattle.text_lines.proofs.line_step.Goals as goal
 
 pub bad_line-requires : goal.bad_line-requires

@@ -5,7 +5,6 @@ use Rattle.text_rows.specs.Rows.{Taken}
 use Rattle.text_lines.specs.Lines.{row}
 use Rattle.text_lines.specs.View.{control_of}
 use Rattle.text_lines.proofs.Lines.{read_header, read_empty, read_row}
-use borrow.Author.Rules.{rules}
 use Rattle.text_lines.proofs.read_line.Goals as goal
 
 pub returns-then-not-core : goal.returns-then-not-core

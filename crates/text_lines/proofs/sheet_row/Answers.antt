@@ -1,5 +1,4 @@
 -- A row, by sheet.
-use borrow.Author.Rules.{rules}
 use Rattle.text_lines.proofs.sheet_row.Goals as goal
 
 pub returns-in-Sorts : goal.returns-in-Sorts

@@ -1,7 +1,6 @@
 -- `text_lines::store` meets its contract.
 use mathlib.Core.Path.{sym}
 use lib.Seq.{set_out}
-use borrow.Author.Rules.{rules}
 use Rattle.text_lines.proofs.store.Goals as goal
 
 pub returns-else-at-sheet : goal.returns-else-at-sheet

@@ -2,7 +2,6 @@
 use Prim.Native.Nat.{ℕ}
 use mathlib.Core.List.{List}
 use Rattle.text_lines.proofs.Sheets.{stored_sorts, stored_terms, stored_inputs, stored_steps}
-use borrow.Author.Rules.{rules}
 use Rattle.text_lines.proofs.store_row.Goals as goal
 
 pub returns-in-Sorts : goal.returns-in-Sorts

@@ -1,12 +1,8 @@
 -- Numbers are stored one after the other, where there is room.
-use mathlib.Core.Path.{◌≡◌, refl, sym, ap, ◌∙◌}
-use mathlib.Core.List.{List}
-use native.Mathlib.Omega.{arith}
-use native.Mathlib.Nat.{add-zero}
-use Prim.Native.Nat.{ℕ, ◌-◌, ◌+◌, ◌≤◌}
+use mathlib.Core.Path.{◌≡◌}
+use Prim.Native.Nat.{◌-◌, ◌+◌, ◌≤◌}
 use lib.ListN.{length, drop}
 use lib.Seq.{sets}
-use Rattle.buffers.proofs.Room.{sets_more, sets_end}
 use Rattle.text_lines.proofs.store_some.Given as goal
 
 abbrev pub invariant-loop-j : goal.invariant-loop-j

@@ -1,11 +1,8 @@
 -- Numbers are stored one after the other.
-use mathlib.Core.Path.{◌≡◌, refl, sym, ◌∙◌}
-use native.Mathlib.Omega.{arith}
-use native.Mathlib.Nat.{add-zero}
+use mathlib.Core.Path.{◌≡◌}
 use Prim.Native.Nat.{◌-◌, ◌+◌, ◌≤◌}
-use lib.ListN.{length, drop, length-set}
+use lib.ListN.{length, drop}
 use lib.Seq.{sets}
-use Rattle.buffers.proofs.Room.{sets_more, sets_end}
 use Rattle.text_lines.proofs.store_whole.Given as goal
 
 abbrev pub invariant-loop-j : goal.invariant-loop-j

@@ -1,6 +1,5 @@
 -- Why a row is malformed.
 use Rattle.text_lines.proofs.Lines.{why_malformed, why_other}
-use borrow.Author.Rules.{rules}
 use Rattle.text_lines.proofs.why_row.Goals as goal
 
 pub returns-then-number-eq31 : goal.returns-then-number-eq31

@@ -1,10 +1,8 @@
 -- A name is copied, byte after byte.
 use Prim.Native.Nat.{◌≤◌, ◌-◌}
-use mathlib.Core.Path.{◌≡◌, refl, ap, ◌∙◌}
-use native.Mathlib.Omega.{arith}
+use mathlib.Core.Path.{◌≡◌}
 use lib.ListN.{length}
-use lib.Seq.{paste, paste-zero}
-use Rattle.text_names.proofs.Laws.{put_more, put_length}
+use lib.Seq.{paste}
 use Rattle.text_names.proofs.copy.Given as goal
 
 abbrev pub invariant-loop-i : goal.invariant-loop-i

@@ -1,5 +1,4 @@
 -- A digit is half a byte; past the name's end it is 0.
-use borrow.Author.Rules.{rules}
 use native.Mathlib.Omega.{arith}
 use Rattle.text_names.proofs.Search.{digit_past, digit_low, digit_high}
 use Rattle.text_names.proofs.digit.Goals as goal

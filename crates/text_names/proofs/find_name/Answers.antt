@@ -1,5 +1,4 @@
 -- What the search ends at is what the list of names has.
-use borrow.Author.Rules.{rules}
 use native.Mathlib.Omega.{arith}
 use Rattle.text_names.proofs.Found.{finds, finds_none, long_nowhere}
 use Rattle.text_names.proofs.find_name.Goals as goal

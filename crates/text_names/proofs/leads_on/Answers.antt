@@ -1,5 +1,4 @@
 -- A number that is not below `low` and that of a name leads on where its slot has the tag.
-use borrow.Author.Rules.{rules}
 use mathlib.Core.Path.{sym}
 use Rattle.text_names.proofs.Search.{not_below, not_past, by_tag}
 use Rattle.text_names.proofs.leads_on.Goals as goal

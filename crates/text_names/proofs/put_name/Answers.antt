@@ -1,5 +1,4 @@
 -- A name is put where the search for it ends: its slot is written, and its number there.
-use borrow.Author.Rules.{rules}
 use Rattle.text_names.proofs.Table.{put_none, put_some, put_room}
 use Rattle.text_names.proofs.put_name.Goals as goal
 

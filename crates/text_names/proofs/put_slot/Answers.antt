@@ -1,5 +1,4 @@
 -- A name's slot: three bytes, and then the name.
-use borrow.Author.Rules.{rules}
 use native.Mathlib.Omega.{arith}
 use lib.ListN.{length-set}
 use Rattle.text_names.proofs.Laws.{slot_put_lem, slot_put_length}

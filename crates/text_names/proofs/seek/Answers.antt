@@ -1,10 +1,6 @@
 -- Down the tree of a tag: what is left of the search ends where the whole search ends.
-use mathlib.Core.Bool.{not}
-use mathlib.Core.Path.{ap}
-use borrow.Author.Rules.{rules}
-use Prim.Native.Nat.{◌-◌}
 use native.Mathlib.Omega.{arith}
-use Rattle.text_names.proofs.Search.{Seeking, seek_begins, seek_inside, seek_over, seek_stops, seek_low, seek_finds, seek_next}
+use Rattle.text_names.proofs.Search.{seek_begins, seek_inside, seek_over, seek_stops, seek_low, seek_finds, seek_next}
 use Rattle.text_names.proofs.seek.Goals as goal
 
 pub loop-low-init : goal.loop-low-init

@@ -2,7 +2,6 @@
 use mathlib.Core.Path.{sym, ◌∙◌}
 use Rattle.text_names.specs.Table.{names_from}
 use Rattle.text_rows.proofs.Laws.{taken_blank, taken_prop, taken_at, taken_not}
-use borrow.Author.Rules.{rules}
 use Rattle.text_rows.proofs.is_taken.Goals as goal
 
 pub returns-then-same : goal.returns-then-same

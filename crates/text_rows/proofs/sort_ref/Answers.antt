@@ -7,7 +7,6 @@ use Rattle.text_fields.proofs.Lines.{index_below}
 use Rattle.text_names.specs.Table.{names_from}
 use Rattle.text_names.proofs.Table.{length_names}
 use Rattle.text_rows.proofs.Laws.{sort_blank, sort_prop, sort_none, sort_at}
-use borrow.Author.Rules.{rules}
 use Rattle.text_rows.proofs.sort_ref.Goals as goal
 
 pub returns-then-same : goal.returns-then-same

@@ -2,7 +2,6 @@
 use mathlib.Core.Path.{ap, ◌∙◌}
 use Rattle.text_fields.specs.Words.{ref_of}
 use Rattle.text_names.specs.Table.{names_from}
-use borrow.Author.Rules.{rules}
 use Rattle.text_rows.proofs.term_column.Goals as goal
 
 pub returns : goal.returns

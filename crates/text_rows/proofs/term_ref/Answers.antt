@@ -6,7 +6,6 @@ use lib.ListN.{length}
 use Rattle.text_fields.proofs.Lines.{ref_blank, ref_none, ref_at, index_below}
 use Rattle.text_names.specs.Table.{names_from}
 use Rattle.text_names.proofs.Table.{length_names}
-use borrow.Author.Rules.{rules}
 use Rattle.text_rows.proofs.term_ref.Goals as goal
 
 pub returns-then-same : goal.returns-then-same

@@ -1,6 +1,5 @@
 -- The first of the last rule words that is the field's.
 use Rattle.text_fields.proofs.Words.{number_at, number_none, miss, hit}
-use borrow.Author.Rules.{rules}
 use Rattle.text_rules.proofs.last_rule.Goals as goal
 
 pub returns-then-same : goal.returns-then-same

@@ -2,7 +2,6 @@
 use lib.ListN.{drop}
 use Rattle.text_fields.specs.Words.{rule_words}
 use Rattle.text_fields.proofs.Words.{number_at, number_rest, miss, hit}
-use borrow.Author.Rules.{rules}
 use Rattle.text_rules.proofs.middle_rule.Goals as goal
 
 pub returns-then-same : goal.returns-then-same

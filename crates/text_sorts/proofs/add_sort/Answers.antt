@@ -7,7 +7,6 @@ use Rattle.text_names.proofs.Table.{length_names}
 use Rattle.text_rows.specs.View.{kept_of}
 use Rattle.text_rows.proofs.Laws.{told_taken}
 use Rattle.text_sorts.proofs.Laws.{sort_full, sort_twice, sort_new}
-use borrow.Author.Rules.{rules}
 use Rattle.text_sorts.proofs.add_sort.Goals as goal
 
 pub returns-then-n-ge32 : goal.returns-then-n-ge32

@@ -6,7 +6,6 @@ use Rattle.text_fields.specs.Words.{step_words, rule_words, ref_of}
 use Rattle.text_rows.specs.View.{kept_of}
 use Rattle.text_rows.proofs.Fields.{field_valued}
 use Rattle.text_steps.proofs.Laws.{nine_cells}
-use borrow.Author.Rules.{rules}
 use Rattle.text_steps.proofs.step_cells.Goals as goal
 
 pub field-requires : goal.field-requires

@@ -3,7 +3,6 @@ use mathlib.Core.Path.{sym, ◌∙◌}
 use Rattle.text_fields.specs.Split.{pieces}
 use Rattle.text_rows.specs.View.{kept_of}
 use Rattle.text_steps.proofs.Laws.{step_faulty, step_good}
-use borrow.Author.Rules.{rules}
 use Rattle.text_steps.proofs.step_row.Goals as goal
 
 pub good_step-requires : goal.good_step-requires

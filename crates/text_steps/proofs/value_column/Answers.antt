@@ -1,5 +1,4 @@
 -- A field of a line as a value.
-use borrow.Author.Rules.{rules}
 use Rattle.text_steps.proofs.value_column.Goals as goal
 
 pub known_value-requires : goal.known_value-requires

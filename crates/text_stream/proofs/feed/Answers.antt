@@ -1,10 +1,8 @@
 -- The bytes of a piece, up to newline after newline: those from i on say the same as all of them.
-use Prim.Native.Nat.{◌≤◌, ◌-◌, ◌+◌}
-use mathlib.Core.Path.{◌≡◌, refl, sym, ◌∙◌}
+use Prim.Native.Nat.{◌+◌}
+use mathlib.Core.Path.{refl, sym, ◌∙◌}
 use native.Mathlib.Omega.{arith}
-use lib.ListN.{length, drop, take}
-use Rattle.text_rows.specs.View.{Bounded}
-use Rattle.text_stream.specs.Stream.{stream_of, feed_all}
+use lib.ListN.{length}
 use Rattle.text_stream.proofs.Bytes.{feed_end}
 use Rattle.text_stream.proofs.Runs.{feed_on, place_most, place_less, rest_length}
 use Rattle.text_stream.proofs.feed.Goals as goal

@@ -1,11 +1,7 @@
 -- The bytes of an unfinished line: those from i on are held as all of them are.
-use Prim.Native.Nat.{◌≤◌, ◌-◌}
-use mathlib.Core.Path.{◌≡◌, refl, sym, ◌∙◌}
+use mathlib.Core.Path.{refl, sym, ◌∙◌}
 use native.Mathlib.Omega.{arith}
-use lib.ListN.{length, drop}
-use Rattle.text_lines.specs.Lines.{Control}
-use Rattle.text_lines.specs.View.{Sheets}
-use Rattle.text_stream.specs.Stream.{holding, feed_all}
+use Rattle.text_stream.specs.Stream.{holding}
 use Rattle.text_stream.proofs.Bytes.{feed_end, hold_more}
 use Rattle.text_stream.proofs.hold_bytes.Goals as goal
 
@@ -13,13 +9,12 @@ pub loop-i-init : goal.loop-i-init
 loop-i-init c = (omega arith, refl, λ c s. refl)
 
 pub loop-i-preserved : goal.loop-i-preserved
-loop-i-preserved c =
-    (
-      omega arith,
-      omega arith,
-      λ k s. hold_more c.loop-i.pos c.loop-i.line c.args.l.now c.loop-i.i k s c.requires.l_value (omega arith) (omega arith)
-          c.put_byte.ensures c.advanced_by-pos.ensures ∙ c.loop-i.invariant.2 k s,
-    )
+loop-i-preserved c = (
+  omega arith,
+  omega arith,
+  λ k s. hold_more c.loop-i.pos c.loop-i.line c.args.l.now c.loop-i.i k s c.requires.l_value (omega arith) (omega arith)
+      c.put_byte.ensures c.advanced_by-pos.ensures ∙ c.loop-i.invariant.2 k s,
+)
 
 pub returns : goal.returns
 returns c =

@@ -1,12 +1,10 @@
 -- The bytes of an unfinished line: those from i on are held as all of them are.
 use Prim.Native.Nat.{◌≤◌, ◌-◌}
-use mathlib.Core.Path.{◌≡◌, refl, sym, ◌∙◌}
-use native.Mathlib.Omega.{arith}
+use mathlib.Core.Path.{◌≡◌}
 use lib.ListN.{length, drop}
 use Rattle.text_lines.specs.Lines.{Control}
 use Rattle.text_lines.specs.View.{Sheets}
 use Rattle.text_stream.specs.Stream.{holding, feed_all}
-use Rattle.text_stream.proofs.Bytes.{feed_end, hold_more}
 use Rattle.text_stream.proofs.hold_bytes.Given as goal
 
 abbrev pub invariant-loop-i : goal.invariant-loop-i

@@ -4,7 +4,6 @@ use native.Mathlib.Omega.{arith}
 use lib.ListN.{length-take}
 use lib.Seq.{take_all}
 use Rattle.text_fields.proofs.Laws.{pick_false}
-use borrow.Author.Rules.{rules}
 use Rattle.text_stream.proofs.line_of.Goals as goal
 
 pub slice_bounds-result-end : goal.slice_bounds-result-end

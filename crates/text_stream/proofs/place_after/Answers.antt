@@ -1,6 +1,5 @@
 -- The place after a newline.
 use borrow.Author.Tests.{lt-ltb, le-ltb}
-use borrow.Author.Rules.{rules}
 use Rattle.text_stream.proofs.place_after.Goals as goal
 
 pub returns-then-at-end : goal.returns-then-at-end

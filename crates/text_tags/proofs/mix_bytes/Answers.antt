@@ -1,8 +1,6 @@
 -- The bytes of a name are mixed, byte after byte.
-use Prim.Native.Nat.{◌≤◌, ◌-◌, ◌*◌}
-use mathlib.Core.Path.{◌≡◌, refl}
+use mathlib.Core.Path.{refl}
 use native.Mathlib.Omega.{arith}
-use lib.ListN.{length}
 use Rattle.text_tags.specs.Tags.{mix_bytes}
 use Rattle.text_tags.proofs.Laws.{bytes_on, bytes_end}
 use Rattle.text_tags.proofs.mix_bytes.Goals as goal

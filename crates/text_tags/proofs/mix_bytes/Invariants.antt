@@ -1,10 +1,8 @@
 -- The bytes of a name are mixed, byte after byte.
 use Prim.Native.Nat.{◌≤◌, ◌-◌, ◌*◌}
-use mathlib.Core.Path.{◌≡◌, refl}
-use native.Mathlib.Omega.{arith}
+use mathlib.Core.Path.{◌≡◌}
 use lib.ListN.{length}
 use Rattle.text_tags.specs.Tags.{mix_bytes}
-use Rattle.text_tags.proofs.Laws.{bytes_on, bytes_end}
 use Rattle.text_tags.proofs.mix_bytes.Given as goal
 
 abbrev pub invariant-loop-i : goal.invariant-loop-i

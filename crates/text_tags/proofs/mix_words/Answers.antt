@@ -1,8 +1,6 @@
 -- The bytes of a name are mixed, word after word.
-use Prim.Native.Nat.{◌<◌, ◌≤◌, ◌-◌, ◌*◌, ◌/◌, ◌%◌}
-use mathlib.Core.Path.{◌≡◌, refl}
+use mathlib.Core.Path.{refl}
 use native.Mathlib.Omega.{arith}
-use lib.ListN.{length}
 use Rattle.text_tags.specs.Tags.{mix_words}
 use Rattle.text_tags.proofs.Laws.{words_on, words_end}
 use Rattle.text_tags.proofs.mix_words.Goals as goal

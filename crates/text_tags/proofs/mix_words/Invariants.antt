@@ -1,10 +1,8 @@
 -- The bytes of a name are mixed, word after word.
 use Prim.Native.Nat.{◌<◌, ◌≤◌, ◌-◌, ◌*◌, ◌/◌, ◌%◌}
-use mathlib.Core.Path.{◌≡◌, refl}
-use native.Mathlib.Omega.{arith}
+use mathlib.Core.Path.{◌≡◌}
 use lib.ListN.{length}
 use Rattle.text_tags.specs.Tags.{mix_words}
-use Rattle.text_tags.proofs.Laws.{words_on, words_end}
 use Rattle.text_tags.proofs.mix_words.Given as goal
 
 abbrev pub invariant-loop-i : goal.invariant-loop-i

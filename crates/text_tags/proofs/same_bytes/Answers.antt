@@ -1,11 +1,11 @@
 -- Bytes are compared from the first to the last.
-use Prim.Native.Nat.{ℕ, ◌≤◌, ◌-◌}
+use Prim.Native.Nat.{ℕ}
 use mathlib.Core.Path.{refl}
 use mathlib.Core.List.{List}
 use native.Mathlib.Omega.{arith}
 use borrow.Author.Count.{below_more}
-use lib.ListN.{length, get_or}
-use Rattle.text_tags.proofs.Laws.{Alike, parts, alike_all}
+use lib.ListN.{get_or}
+use Rattle.text_tags.proofs.Laws.{parts, alike_all}
 use Rattle.text_tags.proofs.same_bytes.Goals as goal
 
 pub loop-i-init : goal.loop-i-init

@@ -1,5 +1,4 @@
 -- Bytes, two words, or words: by the length.
-use borrow.Author.Rules.{rules}
 use Rattle.text_tags.proofs.Laws.{word_pair}
 use Rattle.text_tags.proofs.same_name.Goals as goal
 

@@ -1,8 +1,6 @@
 -- Words are compared: the bytes so far are alike, and the last eight.
-use Prim.Native.Nat.{◌-◌}
 use native.Mathlib.Omega.{arith}
-use lib.ListN.{length}
-use Rattle.text_tags.proofs.Laws.{Comparing, wide_parts, compare_begins, compare_goes_on, compare_done}
+use Rattle.text_tags.proofs.Laws.{wide_parts, compare_begins, compare_goes_on, compare_done}
 use Rattle.text_tags.proofs.same_words.Goals as goal
 
 pub returns-then-wide_word : goal.returns-then-wide_word

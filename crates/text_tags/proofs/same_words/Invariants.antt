@@ -1,8 +1,7 @@
 -- Words are compared: the bytes so far are alike, and the last eight.
 use Prim.Native.Nat.{◌-◌}
-use native.Mathlib.Omega.{arith}
 use lib.ListN.{length}
-use Rattle.text_tags.proofs.Laws.{Comparing, wide_parts, compare_begins, compare_goes_on, compare_done}
+use Rattle.text_tags.proofs.Laws.{Comparing}
 use Rattle.text_tags.proofs.same_words.Given as goal
 
 abbrev pub invariant-loop-i : goal.invariant-loop-i

@@ -7,7 +7,6 @@ use Rattle.text_names.proofs.Table.{length_names}
 use Rattle.text_rows.specs.View.{kept_of}
 use Rattle.text_rows.proofs.Laws.{told_taken}
 use Rattle.text_terms.proofs.Laws.{term_full, term_twice, term_new}
-use borrow.Author.Rules.{rules}
 use Rattle.text_terms.proofs.add_term.Goals as goal
 
 pub returns-then-n-ge256 : goal.returns-then-n-ge256

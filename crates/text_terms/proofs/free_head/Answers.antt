@@ -7,7 +7,6 @@ use Rattle.text_fields.proofs.Lines.{index_below}
 use Rattle.text_names.specs.Table.{names_from}
 use Rattle.text_names.proofs.Table.{length_names}
 use Rattle.text_terms.proofs.Laws.{free_at, free_new}
-use borrow.Author.Rules.{rules}
 use Rattle.text_terms.proofs.free_head.Goals as goal
 
 pub overflow_add-result : goal.overflow_add-result

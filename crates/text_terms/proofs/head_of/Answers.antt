@@ -5,7 +5,6 @@ use native.Mathlib.Omega.{arith}
 use Rattle.text_fields.specs.Words.{head_words}
 use Rattle.text_fields.proofs.Lines.{index_below}
 use Rattle.text_terms.proofs.Laws.{head_blank, head_word, head_free}
-use borrow.Author.Rules.{rules}
 use Rattle.text_terms.proofs.head_of.Goals as goal
 
 pub returns-then-same : goal.returns-then-same

@@ -3,7 +3,6 @@ use mathlib.Core.Path.{sym, ◌∙◌}
 use Rattle.text_fields.specs.Split.{pieces}
 use Rattle.text_rows.specs.View.{kept_of}
 use Rattle.text_terms.proofs.Laws.{term_faulty}
-use borrow.Author.Rules.{rules}
 use Rattle.text_terms.proofs.term_row.Goals as goal
 
 pub add_term-requires : goal.add_term-requires

@@ -1,5 +1,4 @@
 -- The first byte tells which of the three words a field is, or that it is a decimal number.
-use borrow.Author.Rules.{rules}
 use Rattle.text_values.proofs.Laws.{known, known_number}
 use Rattle.text_values.proofs.known_value.Goals as goal
 

@@ -1,7 +1,6 @@
 -- `text_values::read_decimal` meets its contract.
 use mathlib.Core.Path.{sym, ◌∙◌}
 use Rattle.text_values.proofs.Laws.{decimal_none, decimal_zero, decimal_led, decimal_more}
-use borrow.Author.Rules.{rules}
 use Rattle.text_values.proofs.read_decimal.Goals as goal
 
 pub returns-then-f-eq0 : goal.returns-then-f-eq0

@@ -1,10 +1,6 @@
 -- `text_values::read_digits` meets its contract.
-use Prim.Native.Nat.{◌≤◌, ◌-◌}
-use mathlib.Core.Path.{◌≡◌, refl, sym, ◌∙◌}
+use mathlib.Core.Path.{refl, sym, ◌∙◌}
 use native.Mathlib.Omega.{arith}
-use lib.ListN.{length, drop}
-use Rattle.text_fields.specs.Split.{before}
-use Rattle.text_fields.specs.Number.{digits}
 use Rattle.text_values.proofs.Laws.{digits_more, digits_large, digits_low, digits_high, digits_end}
 use Rattle.text_values.proofs.read_digits.Goals as goal
 

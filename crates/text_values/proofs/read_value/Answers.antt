@@ -1,7 +1,6 @@
 -- `text_values::read_value` meets its contract.
 use mathlib.Core.Path.{sym, ◌∙◌}
 use Rattle.text_fields.proofs.Laws.{pick_true, pick_false}
-use borrow.Author.Rules.{rules}
 use Rattle.text_values.proofs.read_value.Goals as goal
 
 pub returns-then-same : goal.returns-then-same

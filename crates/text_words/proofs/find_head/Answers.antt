@@ -1,5 +1,4 @@
 -- The first head word that is the field's.
-use borrow.Author.Rules.{rules}
 use lib.ListN.{drop}
 use Rattle.text_fields.specs.Words.{head_words}
 use Rattle.text_fields.proofs.Words.{found_at_lem, found_rest, miss, hit}

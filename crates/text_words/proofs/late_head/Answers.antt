@@ -1,5 +1,4 @@
 -- The first of the last head words that is the field's.
-use borrow.Author.Rules.{rules}
 use Rattle.text_fields.proofs.Words.{found_at_lem, found_none, miss, hit}
 use Rattle.text_words.proofs.late_head.Goals as goal
 

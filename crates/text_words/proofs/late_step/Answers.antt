@@ -1,5 +1,4 @@
 -- The first of the last step words that is the field's.
-use borrow.Author.Rules.{rules}
 use Rattle.text_fields.proofs.Words.{number_at, number_none, miss, hit}
 use Rattle.text_words.proofs.late_step.Goals as goal
 

@@ -1,5 +1,4 @@
 -- The first step word that is the field's.
-use borrow.Author.Rules.{rules}
 use lib.ListN.{drop}
 use Rattle.text_fields.specs.Words.{step_words}
 use Rattle.text_fields.proofs.Words.{blank, word, number_at, number_rest, miss, hit}

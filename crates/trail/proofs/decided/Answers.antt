@@ -1,6 +1,5 @@
 -- `trail::decided` meets its contract. Assumes nothing.
 use Rattle.trail.proofs.Frames.{decided_word}
-use borrow.Author.Rules.{rules}
 use Rattle.trail.proofs.decided.Goals as goal
 
 pub returns : goal.returns

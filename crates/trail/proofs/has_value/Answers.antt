@@ -1,6 +1,5 @@
 -- `trail::has_value` meets its contract. Assumes nothing.
 use Rattle.trail.proofs.Frames.{assigned_word}
-use borrow.Author.Rules.{rules}
 use Rattle.trail.proofs.has_value.Goals as goal
 
 pub returns : goal.returns

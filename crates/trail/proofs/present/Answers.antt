@@ -1,6 +1,5 @@
 -- `trail::present` meets its contract. Assumes nothing.
 use Rattle.trail.proofs.Frames.{on_word}
-use borrow.Author.Rules.{rules}
 use Rattle.trail.proofs.present.Goals as goal
 
 pub returns : goal.returns

@@ -2,7 +2,6 @@
 use mathlib.Core.Path.{sym, ap}
 use Rattle.calculus.specs.Trail.{Entry}
 use Rattle.trail.proofs.Laws.{entry_at}
-use borrow.Author.Rules.{rules}
 use Rattle.trail.proofs.value.Goals as goal
 
 pub returns : goal.returns

@@ -1,7 +1,5 @@
 -- `trail_changes::base` meets its contract. The base is not among the entries passed. Assumes nothing.
-use native.Mathlib.Omega.{arith}
-use borrow.Author.Rules.{rules}
-use Rattle.trail_changes.proofs.Bases.{Seeking, seek_start, seek_small, seek_on, seek_found, seek_end}
+use Rattle.trail_changes.proofs.Bases.{Seeking}
 use Rattle.trail_changes.proofs.base.Given as goal
 
 abbrev pub invariant-loop-i : goal.invariant-loop-i

@@ -1,9 +1,7 @@
 -- `trail_changes::cut` meets its contract. The entries passed are kept to the level, and the kinds of the others among them are 0. Assumes nothing.
-use Prim.Native.Nat.{◌-◌}
 use mathlib.Core.Path.{refl}
 use native.Mathlib.Omega.{arith}
-use borrow.Author.Rules.{rules}
-use Rattle.trail_changes.proofs.Cuts.{Cutting, small, cut_base, cut_keep, cut_drop, cut_all}
+use Rattle.trail_changes.proofs.Cuts.{small, cut_base, cut_keep, cut_drop, cut_all}
 use Rattle.trail_changes.proofs.cut.Goals as goal
 use Rattle.trail_changes.proofs.cut.Goals.{then-level-most, else-level-most}
 
@@ -32,8 +30,9 @@ pub loop-i-preserved : goal.loop-i-preserved
 loop-i-preserved c =
     let inv = c.loop-i.invariant in
     elim c.if-level-most.branch [
-      then-level-most w ↦ rw (w.work-is, w.j-is, w.top-is, w.larger-top.ensures) (cut_keep inv c.loop-i-test.true refl w.if-level-most.true)
-    | else-level-most w ↦ rw (w.work-is, w.j-is, w.top-is) (cut_drop inv c.loop-i-test.true refl w.if-level-most.false) ]
+      | then-level-most w ↦ rw (w.work-is, w.j-is, w.top-is, w.larger-top.ensures) (cut_keep inv c.loop-i-test.true refl w.if-level-most.true)
+      | else-level-most w ↦ rw (w.work-is, w.j-is, w.top-is) (cut_drop inv c.loop-i-test.true refl w.if-level-most.false)
+    ]
 
 pub returns : goal.returns
 returns c = cut_all c.loop-i.invariant (omega arith)

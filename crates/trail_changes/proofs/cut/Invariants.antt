@@ -1,10 +1,6 @@
 -- `trail_changes::cut` meets its contract. The entries passed are kept to the level, and the kinds of the others among them are 0. Assumes nothing.
 use Prim.Native.Nat.{◌-◌}
-use mathlib.Core.Path.{refl}
-use mathlib.Core.Logic.{⊎_elim}
-use native.Mathlib.Omega.{arith}
-use borrow.Author.Rules.{rules}
-use Rattle.trail_changes.proofs.Cuts.{Cutting, small, cut_base, cut_keep, cut_drop, cut_all}
+use Rattle.trail_changes.proofs.Cuts.{Cutting}
 use Rattle.trail_changes.proofs.cut.Given as goal
 
 abbrev pub invariant-loop-i : goal.invariant-loop-i

@@ -3,7 +3,6 @@ use native.Mathlib.Omega.{arith}
 use lib.ListN.{length-set}
 use Rattle.trail.proofs.Laws.{room_one}
 use Rattle.trail_changes.proofs.Pushes.{byte_le, pushed}
-use borrow.Author.Rules.{rules}
 use Rattle.trail_changes.proofs.push.Goals as goal
 
 pub bounds-work-b-2 : goal.bounds-work-b-2

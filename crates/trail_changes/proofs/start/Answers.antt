@@ -1,10 +1,8 @@
 -- `trail_changes::start` meets its contract. The kinds passed are 0. Assumes nothing.
-use Prim.Native.Nat.{◌-◌, ◌≤◌}
 use mathlib.Core.Path.{◌≡◌, refl}
 use native.Mathlib.Omega.{arith}
 use borrow.Author.Rules.{rules}
-use Rattle.bitset.proofs.Windows.{Filled, filled_none, filled_more}
-use Rattle.trail.specs.Words.{kinds}
+use Rattle.bitset.proofs.Windows.{filled_none, filled_more}
 use Rattle.trail.proofs.Frames.{started}
 use Rattle.trail_changes.proofs.start.Goals as goal
 

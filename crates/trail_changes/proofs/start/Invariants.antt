@@ -1,11 +1,8 @@
 -- `trail_changes::start` meets its contract. The kinds passed are 0. Assumes nothing.
 use Prim.Native.Nat.{◌-◌, ◌≤◌}
-use mathlib.Core.Path.{◌≡◌, refl}
-use native.Mathlib.Omega.{arith}
-use borrow.Author.Rules.{rules}
-use Rattle.bitset.proofs.Windows.{Filled, filled_none, filled_more}
+use mathlib.Core.Path.{◌≡◌}
+use Rattle.bitset.proofs.Windows.{Filled}
 use Rattle.trail.specs.Words.{kinds}
-use Rattle.trail.proofs.Frames.{started}
 use Rattle.trail_changes.proofs.start.Given as goal
 
 abbrev pub invariant-loop-t : goal.invariant-loop-t

@@ -1,9 +1,7 @@
 -- `trail_sheet::write` meets its contract. The entries passed are written, and what follows is as it was. Assumes nothing.
-use Prim.Native.Nat.{◌-◌}
 use native.Mathlib.Omega.{arith}
-use borrow.Author.Rules.{rules}
 use lib.ListN.{length-set}
-use Rattle.trail_sheet.proofs.Numbers.{Writing, writing_none, writing_more, writing_all, row_fits, level_fits}
+use Rattle.trail_sheet.proofs.Numbers.{writing_none, writing_more, writing_all, row_fits, level_fits}
 use Rattle.trail_sheet.proofs.write.Goals as goal
 
 pub loop-i-init : goal.loop-i-init

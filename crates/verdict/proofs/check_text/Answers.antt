@@ -1,6 +1,5 @@
 -- A text in memory.
 use Rattle.verdict.proofs.Answers.{arrays_are_most, checked}
-use borrow.Author.Rules.{rules}
 use Rattle.verdict.proofs.check_text.Goals as goal
 
 pub returns : goal.returns

@@ -1,6 +1,5 @@
 -- The end of a text that came in pieces.
 use Rattle.verdict.proofs.Answers.{concluded}
-use borrow.Author.Rules.{rules}
 use Rattle.verdict.proofs.conclude.Goals as goal
 
 pub returns : goal.returns

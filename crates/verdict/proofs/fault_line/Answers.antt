@@ -1,6 +1,5 @@
 -- The line of a run's number.
 use Rattle.verdict.proofs.Cuts.{line_none, line_some}
-use borrow.Author.Rules.{rules}
 use Rattle.verdict.proofs.fault_line.Goals as goal
 
 pub returns-then-o-eq0 : goal.returns-then-o-eq0

@@ -1,7 +1,6 @@
 -- The row at fault, by the sheet of the number.
 use native.Mathlib.Omega.{arith}
 use Rattle.verdict.proofs.Cuts.{row_sorts, row_terms, row_inputs, row_steps}
-use borrow.Author.Rules.{rules}
 use Rattle.verdict.proofs.fault_row.Goals as goal
 
 pub returns-in-Sorts : goal.returns-in-Sorts

@@ -1,6 +1,5 @@
 -- Whether cut sheets are refused.
 use Rattle.verdict.proofs.Cuts.{refused_is}
-use borrow.Author.Rules.{rules}
 use Rattle.verdict.proofs.is_refused.Goals as goal
 
 pub returns : goal.returns

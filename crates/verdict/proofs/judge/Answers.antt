@@ -1,6 +1,5 @@
 -- What a text gets.
 use Rattle.verdict.proofs.Answers.{judged_unread, judged_run}
-use borrow.Author.Rules.{rules}
 use Rattle.verdict.proofs.judge.Goals as goal
 
 pub returns-then-r-ne0 : goal.returns-then-r-ne0

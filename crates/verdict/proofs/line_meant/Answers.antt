@@ -1,6 +1,5 @@
 -- The line that was meant.
 use Rattle.verdict.proofs.Cuts.{meant_none, meant_fail, meant_clash}
-use borrow.Author.Rules.{rules}
 use Rattle.verdict.proofs.line_meant.Goals as goal
 
 pub returns-then-o-ne26 : goal.returns-then-o-ne26

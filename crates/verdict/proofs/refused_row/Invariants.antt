@@ -1,7 +1,6 @@
 -- The first row behind which a cut is refused: from k on it is the same as from the first on.
 use Prim.Native.Nat.{◌-◌, ◌≤◌}
-use native.Mathlib.Omega.{arith}
-use Rattle.verdict.proofs.Cuts.{Sought, sought_first, sought_here, sought_later, sought_all}
+use Rattle.verdict.proofs.Cuts.{Sought}
 use Rattle.verdict.proofs.refused_row.Given as goal
 
 abbrev pub invariant-loop-k : goal.invariant-loop-k

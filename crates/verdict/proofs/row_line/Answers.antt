@@ -1,5 +1,4 @@
 -- The line of a row, sheet by sheet.
-use borrow.Author.Rules.{rules}
 use Rattle.verdict.proofs.row_line.Goals as goal
 
 pub returns-in-Sorts : goal.returns-in-Sorts

@@ -1,5 +1,4 @@
 -- A text that was read.
-use borrow.Author.Rules.{rules}
 use Rattle.verdict.proofs.run_answer.Goals as goal
 
 pub returns : goal.returns

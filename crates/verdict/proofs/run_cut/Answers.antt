@@ -1,6 +1,5 @@
 -- The run of cut sheets.
 use Rattle.verdict.proofs.Cuts.{cut_sorts, cut_terms, cut_inputs, cut_steps}
-use borrow.Author.Rules.{rules}
 use Rattle.verdict.proofs.run_cut.Goals as goal
 
 pub returns-in-Sorts : goal.returns-in-Sorts

@@ -1,5 +1,4 @@
 -- A text that was not read.
-use borrow.Author.Rules.{rules}
 use Rattle.verdict.proofs.unread_answer.Goals as goal
 
 pub returns : goal.returns
