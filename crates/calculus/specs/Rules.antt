@@ -1,8 +1,6 @@
 -- The fourteen rules: when a rule gives term l the value v from the premises ps. The order of the premises counts, but not for deep.
 use Rattle.std.specs.Prelude.{Bool, true, false, not, ◌&&◌, ◌||◌, cond, List, [], ◌∷◌, ◌++◌, map, ℕ, zero, suc, ◌+◌, length, get_or, take, drop, eqb, ltb}
 use Rattle.calculus.specs.declared.Premise.{Premise}
-use Rattle.calculus.specs.declared.Fit.{Fit}
-use Rattle.calculus.specs.declared.Fit.TheVariants.{Fits, Unfit}
 use Rattle.calculus.specs.declared.Rule.{Rule}
 use Rattle.calculus.specs.declared.Rule.TheVariants.{Same, Differ, Reflexivity, Symmetry, Transitivity, Negated, Part, Unit, Evaluation, Congruence, Predicate, Read, Skip, Deep, Unlisted}
 use Rattle.calculus.specs.Lists.{all, any, has, eq_list, somewhere, num, is_true}
@@ -219,8 +217,3 @@ module _ (ts : List ℕ) where
   -- the walk down from l meets every premise and gives l its value
   fits Deep l v ps = grounded ps layers l && (all (λ p. comes_to ps layers p.row l) ps && eqb v (walk_value ps layers l))
   fits Unlisted l v ps = false
-
--- the answer of a rule test, where c is the column at which a row that does not fit went wrong
-abbrev pub fit_of : Bool → ℕ → Fit
-fit_of true c = Fits
-fit_of false c = Unfit c

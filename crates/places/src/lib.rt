@@ -12,7 +12,7 @@
 ghost use Rattle.std.specs.Prelude.{◌≡◌, false, cond, [], ◌≤◌, ltb, length, take};
 ghost use Rattle.calculus.specs.Lists.{all};
 ghost use Rattle.calculus.specs.Sheets.{term_rows};
-ghost use Rattle.calculus.specs.Rules.{fit_of};
+ghost use Rattle.calculus.specs.Numbers.{fit_of};
 ghost use Rattle.calculus.specs.Place.{at_term, with, first_unfit, unfit_place};
 ghost use Rattle.completions.specs.Needs.{searched, ways};
 ghost use Rattle.completions.specs.Search.{over, serves, followed, extensible, findable};

@@ -1,19 +1,19 @@
 -- How a run ends, in the calculus and in the workspace.
-use Rattle.std.specs.Prelude.{◌≡◌, List, ℕ, ◌+◌}
+use Rattle.std.specs.Prelude.{◌≡◌, List, ℕ, ◌+◌, Option, Some, None, Ok, Err}
 use Rattle.calculus.specs.declared.Verdict.TheVariants.{Open, Refuted, Refused}
+use Rattle.calculus.specs.Numbers.{number_at, place_at}
 use Rattle.calculus.specs.Sheets.{step_rows}
 use Rattle.calculus.specs.Run.{Ending, run}
 use Rattle.state.specs.declared.Status.{Status}
-use Rattle.state.specs.declared.Answer.{Answer}
-use Rattle.state.specs.declared.Answer.TheVariants as answer
-use Rattle.state.specs.States.{state_in, Standing}
+use Rattle.state.specs.declared.Next.TheVariants as next
+use Rattle.state.specs.States.{state_in, Standing, Answer}
 use Rattle.run.specs.declared.Ended.{Ended}
 
 -- how the answer a ends a run after k allowed steps: a refutation is one more; an allowed step stops no run
 abbrev pub stopped_by : Answer → ℕ → Status → Ended
-stopped_by (answer.Refused r) k st = record { verdict = Refused; steps = k; number = r.number; place = r.place; status = st }
-stopped_by answer.Refuted k st = record { verdict = Refuted; steps = k + 1; number = 0; place = 0; status = st }
-stopped_by (answer.Allowed next) k st = record { verdict = Open; steps = k; number = 0; place = 0; status = next }
+stopped_by (Err r) k st = record { verdict = Refused; steps = k; refusal = Some r; status = st }
+stopped_by (Ok next.Refuted) k st = record { verdict = Refuted; steps = k + 1; refusal = None; status = st }
+stopped_by (Ok (next.On to)) k st = record { verdict = Open; steps = k; refusal = None; status = to }
 
 -- the run of the whole log from the state that the words hold
 abbrev pub run_in : ℕ → ℕ → List ℕ → List ℕ → List ℕ → Status → Ending
@@ -23,7 +23,7 @@ run_in w n ts log ws st = run ts log (state_in w n ws st) 0 (step_rows log)
 pub record Ends (w n : ℕ) (ts ws : List ℕ) (e : Ending) (r : Ended) : Type 0 where
   pub verdict : r.verdict ≡ e.verdict
   pub steps : r.steps ≡ e.steps
-  pub number : r.number ≡ e.number
-  pub place : r.place ≡ e.place
+  pub number : number_at r.refusal ≡ e.number
+  pub place : place_at r.refusal ≡ e.place
   pub state : state_in w n ws r.status ≡ e.state
   pub standing : Standing w n ts ws r.status

@@ -1,9 +1,10 @@
 -- What the steps of the search find in the words.
-use Rattle.std.specs.Prelude.{◌≡◌, false, List, ◌⊎◌, ℕ, ◌<◌, ◌≤◌}
+use Rattle.std.specs.Prelude.{◌≡◌, false, List, ◌⊎◌, ℕ, ◌<◌, ◌≤◌, Result}
 use Rattle.calculus.specs.declared.Kind.{Kind}
 use Rattle.calculus.specs.declared.Kind.TheVariants.{Deduce, Clash, Fail}
 use Rattle.calculus.specs.declared.Step.{Step}
 use Rattle.calculus.specs.declared.Refusal.{Refusal}
+use Rattle.calculus.specs.Numbers.{number_in, place_in}
 use Rattle.calculus.specs.Sheets.{term_rows}
 use Rattle.calculus.specs.Trail.{Trail}
 use Rattle.calculus.specs.Steps.{premises, inference_refusal}
@@ -37,7 +38,7 @@ Inference k = (k ≡ Deduce) ⊎ ((k ≡ Clash) ⊎ (k ≡ Fail))
 pub record Passed (ts : List ℕ) (tr : Trail) (x : Step) : Type 0 where
   pub passed : inference_refusal ts tr x.rule x.term x.value (premises x) 0 ≡ 0
 
--- r is the number c, at the place that `at` gives it
-pub record Refuses (at : ℕ → ℕ) (c : ℕ) (r : Refusal) : Type 0 where
-  pub number : r.number ≡ c
-  pub place : r.place ≡ at c
+-- the test answers r: the number c, at the place that `at` gives it
+pub record Refuses (at : ℕ → ℕ) (c : ℕ) (r : Result (Unit {0}) Refusal) : Type 0 where
+  pub number : number_in r ≡ c
+  pub place : place_in r ≡ at c

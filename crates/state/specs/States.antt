@@ -1,6 +1,7 @@
 -- The state of a run in the workspace, and what a step's answer says of it.
-use Rattle.std.specs.Prelude.{◌≡◌, cond, List, ℕ, ◌<◌, T}
+use Rattle.std.specs.Prelude.{◌≡◌, cond, List, ℕ, ◌<◌, T, Result, Ok, Err}
 use Rattle.calculus.specs.declared.Refusal.{Refusal}
+use Rattle.calculus.specs.Numbers.{number, place}
 use Rattle.calculus.specs.Sheets.{term_rows}
 use Rattle.calculus.specs.Terms.{prop, eq_head}
 use Rattle.calculus.specs.Trail.{top_level}
@@ -11,8 +12,8 @@ use Rattle.bitset.specs.Windows.{set_at}
 use Rattle.trail.specs.Words
 use Rattle.trail.specs.Words.{trail_in, Laid}
 use Rattle.state.specs.declared.Status.{Status}
-use Rattle.state.specs.declared.Answer.{Answer}
-use Rattle.state.specs.declared.Answer.TheVariants.{Allowed, Refuted, Refused}
+use Rattle.state.specs.declared.Next.{Next}
+use Rattle.state.specs.declared.Next.TheVariants.{On, Refuted}
 
 -- the state that the words hold: n term rows, sets of w words
 unfoldable pub state_in : ℕ → ℕ → List ℕ → Status → calculus.State
@@ -41,13 +42,13 @@ pub record Standing (w n : ℕ) (ts ws : List ℕ) (st : Status) : Type 0 where
 abbrev pub nowhere : ℕ → ℕ
 nowhere c = 0
 
--- the number c, without a place
-abbrev pub unplaced : ℕ → Refusal
-unplaced c = record { number = c; place = 0 }
+-- a step's answer
+abbrev pub Answer : Type 0
+Answer = Result Next Refusal
 
 -- the answer r is the answer a of the calculus: an allowed step leaves its state in the words, any other leaves the words as they were;
 -- a refusal has the place that `at` gives its number
 unfoldable pub Answers : ℕ → ℕ → List ℕ → List ℕ → List ℕ → (ℕ → ℕ) → calculus.Answer → Answer → Type 0
-Answers w n ts ws vs at a (Allowed st) = (a ≡ calculus.allowed (state_in w n vs st)) × Held w n ts vs st
-Answers w n ts ws vs at a Refuted = (a ≡ calculus.refuted) × (vs ≡ ws)
-Answers w n ts ws vs at a (Refused r) = (a ≡ calculus.refused r.number) × (r.place ≡ at r.number) × (vs ≡ ws)
+Answers w n ts ws vs at a (Ok (On st)) = (a ≡ calculus.allowed (state_in w n vs st)) × Held w n ts vs st
+Answers w n ts ws vs at a (Ok Refuted) = (a ≡ calculus.refuted) × (vs ≡ ws)
+Answers w n ts ws vs at a (Err r) = (a ≡ calculus.refused (number r)) × (place r ≡ at (number r)) × (vs ≡ ws)

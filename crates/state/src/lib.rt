@@ -18,13 +18,15 @@ pub struct Status {
     pub conflict: bool,
 }
 
-// What a step answers: the status after an allowed one, or the number that it is refused with and its place.
+// Where an allowed step leads: the run goes on from a status, or the input is refuted.
 #[derive(Clone, Copy)]
-pub enum Answer {
-    Allowed(Status),
+pub enum Next {
+    On(Status),
     Refuted,
-    Refused(Refusal),
 }
+
+// What a step answers: where it leads, or why it is refused.
+pub type Answer = Result<Next, Refusal>;
 
 // Whether t is a row whose term stands on the trail.
 pub fn stands(work: &[u64], w: usize, n: usize, count: usize, t: Row) -> bool

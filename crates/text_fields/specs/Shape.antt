@@ -1,10 +1,8 @@
 -- Whether a line of values is well formed.
-use Rattle.std.specs.Prelude.{ℕ, suc, Bool, true, false, List, [], ◌∷◌, eqb, leb, length}
+use Rattle.std.specs.Prelude.{Result, Ok, Err, ℕ, suc, Bool, true, false, List, [], ◌∷◌, eqb, leb, length}
 use Rattle.text_fields.specs.Split.{pick}
 use Rattle.text_fields.specs.Class.{named}
 use Rattle.text_fields.specs.Number.{value, is_number}
-use Rattle.text_fields.specs.declared.Shape.{Shape}
-use Rattle.text_fields.specs.declared.Shape.TheVariants.{Good, Faulty}
 
 -- a field has at least one byte, and each is part of a name
 abbrev pub filled : List ℕ → Bool
@@ -29,10 +27,14 @@ abbrev pub first_malformed : ℕ → ℕ → List (List ℕ) → ℕ
 first_malformed v k [] = 0
 first_malformed v k (f ∷ fs) = pick (well_formed (eqb k v) f) (first_malformed v (suc k) fs) k
 
+-- good, or the place at fault
+abbrev pub Shape : Type 0
+Shape = Result (Unit {0}) ℕ
+
 abbrev pub shape_at : ℕ → Shape
-shape_at place = pick (eqb place 0) Good (Faulty place)
+shape_at place = pick (eqb place 0) (Ok tt) (Err place)
 
 -- a line of so many columns, of which v is the value column: the place at fault is a field, or 0 where it is the line as a whole
 unfoldable pub shape_of : ℕ → ℕ → List (List ℕ) → Shape
 shape_of columns v fs =
-    pick (spaced fs) (pick (eqb (length fs) columns) (shape_at (first_malformed v 1 fs)) (Faulty 0)) (Faulty 0)
+    pick (spaced fs) (pick (eqb (length fs) columns) (shape_at (first_malformed v 1 fs)) (Err 0)) (Err 0)

@@ -1,8 +1,6 @@
 -- The words of the text form: its header lines, and the words that stand for numbers, each list in the order of its numbers.
-use Rattle.std.specs.Prelude.{ℕ, suc, List, [], ◌∷◌}
+use Rattle.std.specs.Prelude.{Option, Some, None, ℕ, suc, List, [], ◌∷◌}
 use Rattle.text_fields.specs.Split.{pick, same, bytes, pieces}
-use Rattle.text_fields.specs.declared.Found.{Found}
-use Rattle.text_fields.specs.declared.Found.TheVariants.{At, Nothing}
 
 -- steps, from 0
 abbrev pub step_words : List (List ℕ)
@@ -30,14 +28,14 @@ abbrev pub step_header : List ℕ
 step_header = bytes "step rule term value p q r s t"
 
 -- where a name stands first in a list, counted from k
-abbrev pub index_from : ℕ → List (List ℕ) → List ℕ → Found
-index_from k [] name = Nothing
-index_from k (x ∷ xs) name = pick (same x name) (At k) (index_from (suc k) xs name)
+abbrev pub index_from : ℕ → List (List ℕ) → List ℕ → Option ℕ
+index_from k [] name = None
+index_from k (x ∷ xs) name = pick (same x name) (Some k) (index_from (suc k) xs name)
 
 -- a name or a word that is not in its list is 65,534
-abbrev pub index_or : Found → ℕ
-index_or (At k) = k
-index_or Nothing = 65534
+abbrev pub index_or : Option ℕ → ℕ
+index_or (Some k) = k
+index_or None = 65534
 
 -- what a field says of a list of names or words: "-" is blank, 65,535
 unfoldable pub ref_of : List (List ℕ) → List ℕ → ℕ

@@ -18,25 +18,6 @@ pub enum ByteClass {
 // A letter for each byte.
 pub type Classes = [u8; 256];
 
-#[derive(Clone, Copy)]
-pub enum Value {
-    Number(u16),
-    Malformed,
-}
-
-#[derive(Clone, Copy)]
-pub enum Found {
-    At(usize),
-    Nothing,
-}
-
-// Whether a line is well formed; if not, the field at fault, counted from 1, or 0 for the line as a whole.
-#[derive(Clone, Copy)]
-pub enum Shape {
-    Good,
-    Faulty(usize),
-}
-
 // The classes of the bytes, sixteen to a row: `S` a space, `L` a newline, `N` part of a name, `.` none of these.
 const CLASSES: Classes = *b"\
     ..........L.....\

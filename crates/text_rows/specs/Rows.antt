@@ -1,13 +1,9 @@
 -- What a line of values does, sheet by sheet. The fields of a line are `fs`, counted from 0 here and from 1 in a place.
-use Rattle.std.specs.Prelude.{ℕ, ◌+◌, Bool, true, false, List, [], ◌∷◌, ◌++◌, ltb, length, get_or}
+use Rattle.std.specs.Prelude.{Option, Some, None, Ok, Err, ℕ, ◌+◌, Bool, true, false, List, [], ◌∷◌, ◌++◌, ltb, length, get_or}
 use Rattle.text_fields.specs.Split.{pick, same, bytes}
 use Rattle.text_fields.specs.Number.{value, number_or}
 use Rattle.text_fields.specs.Words.{step_words, rule_words, head_words, index_from, ref_of}
-use Rattle.text_fields.specs.Shape.{shape_of}
-use Rattle.text_fields.specs.declared.Found.{Found}
-use Rattle.text_fields.specs.declared.Found.TheVariants.{At, Nothing}
-use Rattle.text_fields.specs.declared.Shape.{Shape}
-use Rattle.text_fields.specs.declared.Shape.TheVariants.{Good, Faulty}
+use Rattle.text_fields.specs.Shape.{Shape, shape_of}
 
 -- what later rows need of the rows so far: the names that sorts, terms and free heads got, in order, and how many inputs and steps there are
 pub record Kept : Type 0 where
@@ -30,16 +26,16 @@ refused k number place = record { number = number; place = place; kept = k; cell
 
 -- a malformed line is 31; the other tests come after that
 abbrev pub shaped : Kept → Shape → Taken → Taken
-shaped k (Faulty place) t = refused k 31 place
-shaped k Good t = t
+shaped k (Err place) t = refused k 31 place
+shaped k (Ok u) t = t
 
 -- more rows than the ceiling are 30
 abbrev pub below : Kept → ℕ → ℕ → Taken → Taken
 below k n ceiling t = pick (ltb n ceiling) t (refused k 30 0)
 
-abbrev pub is_at : Found → Bool
-is_at (At k) = true
-is_at Nothing = false
+abbrev pub is_at : Option ℕ → Bool
+is_at (Some k) = true
+is_at None = false
 
 -- a name that a row of its kind has, and the two reserved ones
 unfoldable pub is_taken : List (List ℕ) → List ℕ → Bool
@@ -60,13 +56,13 @@ pub record Head : Type 0 where
   pub heads : List (List ℕ)
 
 -- free heads count from 16 by first use
-abbrev pub free_head : List (List ℕ) → List ℕ → Found → Head
-free_head heads f (At k) = record { number = 16 + k; heads = heads }
-free_head heads f Nothing = record { number = 16 + length heads; heads = heads ++ (f ∷ []) }
+abbrev pub free_head : List (List ℕ) → List ℕ → Option ℕ → Head
+free_head heads f (Some k) = record { number = 16 + k; heads = heads }
+free_head heads f None = record { number = 16 + length heads; heads = heads ++ (f ∷ []) }
 
-abbrev pub head_word : List (List ℕ) → List ℕ → Found → Head
-head_word heads f (At k) = record { number = k; heads = heads }
-head_word heads f Nothing = free_head heads f (index_from 0 heads f)
+abbrev pub head_word : List (List ℕ) → List ℕ → Option ℕ → Head
+head_word heads f (Some k) = record { number = k; heads = heads }
+head_word heads f None = free_head heads f (index_from 0 heads f)
 
 unfoldable pub head_of : List (List ℕ) → List ℕ → Head
 head_of heads f =
