@@ -1,6 +1,6 @@
 -- What holds of the sheets and the lent buffers once their lengths have passed; what holds of an input row that passed.
-use mathlib.Core.Path.{◌≡◌, refl, sym, ap, ◌∙◌}
-use mathlib.Core.Bool.{Bool, true, false, not, ◌&&◌, true≢false}
+use mathlib.Core.Path.{◌≡◌, refl, sym}
+use mathlib.Core.Bool.{Bool, true, false, ◌&&◌, true≢false}
 use mathlib.Core.List.{List}
 use Prim.Native.Nat.{ℕ, ◌*◌, ◌/◌, ◌%◌, ◌≤◌, ◌<◌}
 use native.Mathlib.Omega.{arith}
@@ -8,12 +8,10 @@ use lib.ListN.{length}
 use lib.Dec.{eqb, leb, ltb, ltb→lt}
 use borrow.Author.Tests.{leb-true, eqb-true}
 use Rattle.calculus.proofs.Facts.{both_true, unless_ok, T_true}
-use Rattle.calculus.specs.declared.Check.TheVariants.{Passed, Refused}
-use Rattle.calculus.specs.Numbers.{or_else, check_of}
-use Rattle.calculus.specs.Sheets.{Call, blank, sort_rows, term_rows, input_rows, step_rows, whole, within, roomy, length_refusal, work_words, trail_numbers}
-use Rattle.calculus.specs.Inputs.{value_suits}
+use Rattle.calculus.specs.Numbers.{or_else}
+use Rattle.calculus.specs.Sheets.{Call, sort_rows, term_rows, input_rows, step_rows, whole, within, roomy, length_refusal, work_words, trail_numbers}
 use Rattle.sheets.specs.Rows.{fit_refusal, given_refusal, input_row_refusal}
-use Rattle.sheets.proofs.Laws.{passed_zero, refused_some, or_else_some}
+use Rattle.sheets.proofs.Laws.{or_else_some}
 
 -- the parts of a test that holds
 pub and_four : (a b c d : Bool) → (a && (b && (c && d))) ≡ true → (a ≡ true) × (b ≡ true) × (c ≡ true) × (d ≡ true)
@@ -32,10 +30,10 @@ pub record Fitting (x : Call) : Type 0 where
   pub work_room : work_words (term_rows x.terms) ≤ length x.work
   pub trail_room : trail_numbers (term_rows x.terms) ≤ length x.trail
 
-pub lengths_passed : (x : Call) → check_of (length_refusal x) ≡ Passed → Fitting x
+pub lengths_passed : (x : Call) → length_refusal x ≡ 0 → Fitting x
 unfolding length_refusal
 lengths_passed x e =
-    let w = unless_ok (whole x) 31 _ (omega arith) (passed_zero _ e) in
+    let w = unless_ok (whole x) 31 _ (omega arith) e in
     let i = unless_ok (within x) 30 _ (omega arith) w.1 in
     let r = unless_ok (roomy x) 32 _ (omega arith) i.1 in
     let ws =
@@ -64,23 +62,16 @@ lengths_passed x e =
       trail_room = leb-true (trail_numbers (term_rows x.terms)) (length x.trail) rs.1;
     }
 
--- an input row whose term and value fit: the term is a row, the value suits it, and number 8 is left to ask
-pub fit_term : (ts : List ℕ) (t v : ℕ) → check_of (fit_refusal ts t v) ≡ Passed → t < term_rows ts
+-- an input row whose term and value fit: the term is a row, and number 8 is left to ask
+pub fit_term : (ts : List ℕ) (t v : ℕ) → fit_refusal ts t v ≡ 0 → t < term_rows ts
 unfolding fit_refusal
-fit_term ts t v e = ltb→lt t (term_rows ts) (unless_ok (ltb t (term_rows ts)) 6 _ (omega arith) (passed_zero _ e)).0
+fit_term ts t v e = ltb→lt t (term_rows ts) (unless_ok (ltb t (term_rows ts)) 6 _ (omega arith) e).0
 
-pub fit_value : (ts : List ℕ) (t v : ℕ) → check_of (fit_refusal ts t v) ≡ Passed → (not (eqb v blank) && value_suits ts t v) ≡ true
-unfolding fit_refusal
-fit_value ts t v e =
-    let row = unless_ok (ltb t (term_rows ts)) 6 _ (omega arith) (passed_zero _ e) in
-    let value = unless_ok (not (eqb v blank) && value_suits ts t v) 7 0 (omega arith) row.1 in
-    T_true (not (eqb v blank) && value_suits ts t v) value.0
-
-pub row_fits : (ts : List ℕ) (t v : ℕ) (g : Bool) → check_of (fit_refusal ts t v) ≡ Passed → input_row_refusal ts t v g ≡ given_refusal g
+pub row_fits : (ts : List ℕ) (t v : ℕ) (g : Bool) → fit_refusal ts t v ≡ 0 → input_row_refusal ts t v g ≡ given_refusal g
 unfolding input_row_refusal or_else
-row_fits ts t v g e = rw (passed_zero (fit_refusal ts t v) e)
+row_fits ts t v g e = rw e
 
 -- and one that is refused: the row has that number, given or not
-pub row_unfit : (ts : List ℕ) (t v c : ℕ) (g : Bool) → check_of (fit_refusal ts t v) ≡ Refused c → check_of (input_row_refusal ts t v g) ≡ Refused c
+pub row_unfit : (ts : List ℕ) (t v : ℕ) (g : Bool) → (fit_refusal ts t v ≡ 0 → ⊥) → input_row_refusal ts t v g ≡ fit_refusal ts t v
 unfolding input_row_refusal
-row_unfit ts t v c g e = ap check_of (or_else_some (fit_refusal ts t v) (given_refusal g) (refused_some (fit_refusal ts t v) c e)) ∙ e
+row_unfit ts t v g d = or_else_some (fit_refusal ts t v) (given_refusal g) d
