@@ -29,17 +29,16 @@ pub enum Next {
 pub type Answer = Result<Next, Refusal>;
 
 // Whether t is a row whose term stands on the trail.
+#[tactic(auto, using(crate::proofs::States::below_off))]
 pub fn stands(work: &[u64], w: usize, n: usize, count: usize, t: Row) -> bool
     requires { Laid w n work.now count }
     ensures { result ≡ on (trail_in w n work.now count) t.0 }
 {
-    if (t.0 as usize) < n {
-        return trail::present(work, w, n, count, t);
-    }
-    false
+    (t.0 as usize) < n && trail::present(work, w, n, count, t)
 }
 
 // The value of t, where it stands on the trail.
+#[tactic(auto, using(crate::proofs::States::below_off, calculus::proofs::Trails::on_below))]
 pub fn value_at(work: &[u64], w: usize, n: usize, count: usize, t: Row) -> u16
     requires { Laid w n work.now count }
     ensures { on (trail_in w n work.now count) t.0 ≡ true → result ≡ value_at (trail_in w n work.now count) t.0 }
@@ -51,6 +50,7 @@ pub fn value_at(work: &[u64], w: usize, n: usize, count: usize, t: Row) -> u16
 }
 
 // The level of t, which stands on the trail.
+#[tactic(auto, using(calculus::proofs::Trails::on_below))]
 pub fn level_at(work: &[u64], w: usize, n: usize, count: usize, t: Row) -> Level
     requires { Laid w n work.now count × (on (trail_in w n work.now count) t.0 ≡ true) }
     ensures { result.0 ≡ level_at (trail_in w n work.now count) t.0 }
@@ -59,14 +59,12 @@ pub fn level_at(work: &[u64], w: usize, n: usize, count: usize, t: Row) -> Level
 }
 
 // Whether t stands on the trail with value v.
+#[tactic(auto, using(crate::proofs::States::below_off))]
 pub fn has_value(work: &[u64], w: usize, n: usize, count: usize, t: Row, v: u16) -> bool
     requires { Laid w n work.now count }
     ensures { result ≡ assigned (trail_in w n work.now count) t.0 v }
 {
-    if (t.0 as usize) < n {
-        return trail::has_value(work, w, n, count, t, v);
-    }
-    false
+    (t.0 as usize) < n && trail::has_value(work, w, n, count, t, v)
 }
 
 // Whether t, a row of the term sheet, is of sort prop.
