@@ -1,5 +1,5 @@
 -- Why a line, or the end of a text, is malformed: the first cause that is met. A person is told it; no number depends on it.
-use Rattle.std.specs.Prelude.{ℕ, Bool, true, false, List, [], ◌∷◌, eqb, ltb, length, take}
+use Rattle.std.specs.Prelude.{Option, Some, None, ℕ, Bool, true, false, List, [], ◌∷◌, eqb, ltb, length, take}
 use Rattle.text_fields.specs.Split.{pick, before, same}
 use Rattle.text_fields.specs.Class.{class_of}
 use Rattle.text_fields.specs.declared.ByteClass.{ByteClass}
@@ -39,17 +39,17 @@ unfoldable pub row_why : ℕ → ℕ → List ℕ → Why
 row_why v p l =
     pick (holds 13 l) why.Return (pick (eqb p 0) (pick (plain l) why.Fields why.Byte) (pick (eqb p v) why.Value why.Name))
 
--- the number of each, as a caller of the library gets it
-abbrev pub why_number : Why → ℕ
-why_number why.Fine = 0
-why_number why.Mark = 1
-why_number why.Return = 2
-why_number why.Long = 3
-why_number why.Header = 4
-why_number why.Empty = 5
-why_number why.Byte = 6
-why_number why.Fields = 7
-why_number why.Name = 8
-why_number why.Value = 9
-why_number why.Early = 10
-why_number why.Cut = 11
+-- the number of each, as a caller of the library gets it: 0 where there is none
+abbrev pub why_number : Option Why → ℕ
+why_number None = 0
+why_number (Some why.Mark) = 1
+why_number (Some why.Return) = 2
+why_number (Some why.Long) = 3
+why_number (Some why.Header) = 4
+why_number (Some why.Empty) = 5
+why_number (Some why.Byte) = 6
+why_number (Some why.Fields) = 7
+why_number (Some why.Name) = 8
+why_number (Some why.Value) = 9
+why_number (Some why.Early) = 10
+why_number (Some why.Cut) = 11
