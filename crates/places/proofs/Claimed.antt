@@ -1,5 +1,5 @@
 -- A claim's premises, and the answer of the rule test.
-use mathlib.Core.Path.{◌≡◌, refl, sym, ap, ◌∙◌}
+use mathlib.Core.Path.{◌≡◌, refl, sym, ap}
 use mathlib.Core.Bool.{Bool, true, false, cond}
 use mathlib.Core.List.{List, [], ◌∷◌}
 use Prim.Native.Nat.{ℕ, zero, suc, ◌≤◌}
@@ -10,17 +10,15 @@ use mir.Syntax.{w16}
 use mir.Val.{Fits as Range}
 use borrow.Author.Tests.{eq-eqb, ne_eqb, lt-ltb}
 use Rattle.calculus.specs.declared.Premise.{Premise}
-use Rattle.calculus.specs.declared.Fit.TheVariants.{Fits, Unfit}
 use Rattle.calculus.specs.declared.Rule.{Rule}
 use Rattle.calculus.specs.Lists.{all}
 use Rattle.calculus.specs.Sheets.{blank}
-use Rattle.calculus.specs.Rules.{fit_of}
-use Rattle.calculus.specs.Place.{at_term, free_values, first_unfit, unfit_place}
+use Rattle.calculus.specs.Place.{at_term, free_values, first_unfit}
 use Rattle.calculus.proofs.Facts.{both_true, true_T}
 use Rattle.completions.specs.Search.{small, found_place}
 use Rattle.completions.proofs.Theorem.{first_found}
 use Rattle.rule_claims.specs.declared.Claim.{Claim}
-use Rattle.rule_claims.specs.Claims.{gap, stated, premises_of, allows}
+use Rattle.rule_claims.specs.Claims.{gap, stated, premises_of}
 use Rattle.needs.specs.Listed.{listed}
 use Rattle.places.specs.Tested.{Tested, Counted}
 
@@ -118,11 +116,3 @@ first_listed m x h = stated_take m (x.p ∷ x.q ∷ x.r ∷ x.s ∷ x.t ∷ []) 
 pub first_is : (ts : List ℕ) (k : Rule) (x : Claim) {n m : ℕ} → Tested ts n x → at_term k ≡ false → Counted x m
     → found_place ts k x.term.0 x.value (premises_of x) ≡ first_unfit ts k x.term.0 x.value (premises_of x)
 first_is ts k x h e s = sym (first_found ts k x.term.0 e x.value (premises_of x) (record { rows = h.listed; values = s.values; truth = h.truth }))
-
-module _ (ts : List ℕ) (k : Rule) (x : Claim) {b : Bool} (is : b ≡ allows ts k x) where
-  pub test_fits : (c : ℕ) → b ≡ true → Fits ≡ fit_of (allows ts k x) c
-  test_fits c e = rw (sym is ∙ e)
-
-  pub test_unfit : {c : ℕ} → b ≡ false → c ≡ unfit_place ts k x.term.0 x.value (premises_of x)
-      → Unfit c ≡ fit_of (allows ts k x) (unfit_place ts k x.term.0 x.value (premises_of x))
-  test_unfit e q = rw (sym is ∙ e, q)

@@ -20,7 +20,7 @@ ghost use Rattle.rule_claims.specs.Claims.{no_premise, premises_of, allows};
 ghost use Rattle.needs.specs.Listed.{listed};
 ghost use Rattle.places.specs.Tested.{Tested, Begins, Counted, claim_of};
 
-use calculus::{Fit, Premise, Row, Rule};
+use calculus::{Premise, Refusal, Row, Rule};
 use needs::{Columns, Known, needed};
 use rows::{BLANK, term_at};
 use rule_claims::{Claim, EQ, larger};
@@ -311,12 +311,12 @@ fn place_of(terms: &[u16], n: u16, k: Rule, x: Claim) -> u16
 // ---- the rule test
 
 // Whether the rule gives the claim's term its value from the claim's premises; if not, the column at which the row went wrong.
-pub fn test(terms: &[u16], n: usize, rule: Rule, x: Claim) -> Fit
+pub fn test(terms: &[u16], n: usize, rule: Rule, x: Claim) -> Result<(), Refusal>
     requires { Tested terms.now n x }
     ensures { result ≡ fit_of (allows terms.now rule x) (unfit_place terms.now rule x.term.0 x.value (premises_of x)) }
 {
     if rules::fits(terms, rule, x) {
-        return Fit::Fits;
+        return Ok(());
     }
-    Fit::Unfit(place_of(terms, n as u16, rule, x))
+    Err(Refusal::Unfit(place_of(terms, n as u16, rule, x)))
 }
