@@ -1,78 +1,39 @@
-// The words of the rules. A field is compared with one word after the other.
+// The words of the rules.
 #![tactic(auto)]
 
-ghost use Rattle.std.specs.Prelude.{◌≡◌, drop};
-ghost use Rattle.text_fields.specs.Words.{rule_words, index_from, index_or, ref_of};
+ghost use Rattle.std.specs.Prelude.{◌≡◌};
+ghost use Rattle.text_fields.specs.Words.{rule_words, index_from, ref_of};
 
-// The number of a rule's word, of the words from `skip` on.
-fn last_rule(f: &[u8]) -> u16
-    ensures { result ≡ index_or (index_from 12 (drop 12 rule_words) f.now) }
+// Where a rule's word stands among the words of the rules.
+fn find_rule(f: &[u8]) -> Option<u16>
+    ensures { result ≡ index_from 0 rule_words f.now }
 {
-    if text_fields::same(b"skip", f) {
-        return 12;
+    match f {
+        b"same" => Some(0),
+        b"differ" => Some(1),
+        b"refl" => Some(2),
+        b"sym" => Some(3),
+        b"trans" => Some(4),
+        b"neg" => Some(5),
+        b"part" => Some(6),
+        b"unit" => Some(7),
+        b"eval" => Some(8),
+        b"cong" => Some(9),
+        b"pred" => Some(10),
+        b"read" => Some(11),
+        b"skip" => Some(12),
+        b"deep" => Some(13),
+        _ => None,
     }
-    if text_fields::same(b"deep", f) {
-        return 13;
-    }
-    65534
-}
-
-// The number of a rule's word, of the words from `eval` on.
-fn late_rule(f: &[u8]) -> u16
-    ensures { result ≡ index_or (index_from 8 (drop 8 rule_words) f.now) }
-{
-    if text_fields::same(b"eval", f) {
-        return 8;
-    }
-    if text_fields::same(b"cong", f) {
-        return 9;
-    }
-    if text_fields::same(b"pred", f) {
-        return 10;
-    }
-    if text_fields::same(b"read", f) {
-        return 11;
-    }
-    last_rule(f)
-}
-
-// The number of a rule's word, of the words from `trans` on.
-fn middle_rule(f: &[u8]) -> u16
-    ensures { result ≡ index_or (index_from 4 (drop 4 rule_words) f.now) }
-{
-    if text_fields::same(b"trans", f) {
-        return 4;
-    }
-    if text_fields::same(b"neg", f) {
-        return 5;
-    }
-    if text_fields::same(b"part", f) {
-        return 6;
-    }
-    if text_fields::same(b"unit", f) {
-        return 7;
-    }
-    late_rule(f)
 }
 
 // The number of a rule's word.
+#[tactic(auto, unfolding(text_fields::specs::Words::ref_of))]
 pub fn rule_number(f: &[u8]) -> u16
     ensures { result ≡ ref_of rule_words f.now }
 {
-    if text_fields::same(f, b"-") {
-        return 65535;
+    match f {
+        b"-" => 65535,
+        _ => find_rule(f).unwrap_or(65534),
     }
-    if text_fields::same(b"same", f) {
-        return 0;
-    }
-    if text_fields::same(b"differ", f) {
-        return 1;
-    }
-    if text_fields::same(b"refl", f) {
-        return 2;
-    }
-    if text_fields::same(b"sym", f) {
-        return 3;
-    }
-    middle_rule(f)
 }
