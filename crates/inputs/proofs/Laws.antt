@@ -5,15 +5,15 @@ use mathlib.Core.List.{List, ◌∷◌}
 use Prim.Native.Nat.{ℕ, ◌+◌, ◌<◌}
 use native.Mathlib.Omega.{arith}
 use native.Mathlib.Numerals.{add-one}
-use Rattle.calculus.specs.declared.Check.{Check}
-use Rattle.calculus.specs.declared.Check.TheVariants.{Passed, Refused}
-use Rattle.calculus.specs.Numbers.{first_refusal, check_of}
+use Rattle.std.specs.Prelude.{Ok, Err}
+use Rattle.calculus.specs.declared.Refusal.{Refusal}
+use Rattle.calculus.specs.Numbers.{number, first_refusal}
 use Rattle.calculus.specs.Sheets.{input_rows}
 use Rattle.calculus.specs.Trail.{on, level_of}
 use Rattle.calculus.specs.Inputs.{given, input_term, input_value, input_trail, input_refusal, inputs_refusal}
 use Rattle.calculus.proofs.Facts.{T_false, unless_ok}
 use Rattle.sheets.specs.Rows.{fit_refusal, given_refusal, input_row_refusal, input_row}
-use Rattle.sheets.proofs.Laws.{passed_zero, first_none, first_more, first_found}
+use Rattle.sheets.proofs.Laws.{number_some, first_none, first_more, first_found}
 use Rattle.sheets.proofs.Lengths.{row_fits, row_unfit}
 use Rattle.trail.specs.Words.{trail_in, Laid}
 use Rattle.moves.specs.Post.{Stands}
@@ -22,30 +22,29 @@ use Rattle.inputs.specs.Loaded.{RowLoaded, Loaded}
 -- ---- one row
 
 -- a term that passes number 8 is not on the trail
-pub not_given : {b : Bool} {g : Check} → g ≡ check_of (given_refusal b) → g ≡ Passed → b ≡ false
+pub not_given : (b : Bool) → given_refusal b ≡ 0 → b ≡ false
 unfolding given_refusal
-not_given {b} e q = T_false b (unless_ok (not b) 8 0 (omega arith) (passed_zero _ (sym e ∙ q))).0
+not_given b e = T_false b (unless_ok (not b) 8 0 (omega arith) e).0
 
 module _ (w n : ℕ) (ts ws vs : List ℕ) (k t v : ℕ) where
   -- refused with 6 or 7
-  pub row_refused : {r : Check} (c : ℕ) → r ≡ check_of (fit_refusal ts t v) → r ≡ Refused c → RowLoaded w n ts ws vs k t v r
+  pub row_refused : (r : Refusal) → number r ≡ fit_refusal ts t v → RowLoaded w n ts ws vs k t v (Err r)
   unfolding RowLoaded
-  row_refused c e q = subst (RowLoaded w n ts ws vs k t v) (sym q) (row_unfit ts t v c _ (sym e ∙ q))
+  row_refused r e = row_unfit ts t v _ (λ z. number_some r (e ∙ z)) ∙ sym e
 
-  module _ {f : Check} (e : f ≡ check_of (fit_refusal ts t v)) (p : f ≡ Passed) {b : Bool} (o : b ≡ on (trail_in w n ws k) t) where
+  module _ (fits : fit_refusal ts t v ≡ 0) {b : Bool} (o : b ≡ on (trail_in w n ws k) t) where
     number_8 : input_row_refusal ts t v (on (trail_in w n ws k) t) ≡ given_refusal b
-    number_8 = row_fits ts t v _ (sym e ∙ p) ∙ ap given_refusal (sym o)
+    number_8 = row_fits ts t v _ fits ∙ ap given_refusal (sym o)
 
     -- refused with 8
-    pub row_given : {r : Check} (c : ℕ) → r ≡ check_of (given_refusal b) → r ≡ Refused c → RowLoaded w n ts ws vs k t v r
+    pub row_given : (r : Refusal) → number r ≡ given_refusal b → RowLoaded w n ts ws vs k t v (Err r)
     unfolding RowLoaded
-    row_given c g q = subst (RowLoaded w n ts ws vs k t v) (sym q) (ap check_of number_8 ∙ sym g ∙ q)
+    row_given r e = number_8 ∙ sym e
 
     -- one entry more
-    pub row_loaded : {g : Check} → g ≡ check_of (given_refusal b) → g ≡ Passed → Stands w n vs (k + 1) 0 (given t v ∷ trail_in w n ws k)
-        → RowLoaded w n ts ws vs k t v Passed
+    pub row_loaded : given_refusal b ≡ 0 → Stands w n vs (k + 1) 0 (given t v ∷ trail_in w n ws k) → RowLoaded w n ts ws vs k t v (Ok tt)
     unfolding RowLoaded
-    row_loaded g q s = (number_8 ∙ passed_zero _ (sym g ∙ q), s)
+    row_loaded e s = (number_8 ∙ e, s)
 
 -- ---- the sheet
 
@@ -67,9 +66,9 @@ module _ (w n : ℕ) (ts is : List ℕ) where
     number_there : input_refusal ts is k ≡ input_row_refusal ts (input_term is k) (input_value is k) (on (trail_in w n ws k) (input_term is k))
     number_there = input_row ts is k ∙ ap (λ tr. input_row_refusal ts (input_term is k) (input_value is k) (on tr (input_term is k))) (sym l.stands.trail)
 
-    pub loading_more : RowLoaded w n ts ws vs k (input_term is k) (input_value is k) Passed → Loading vs (k + 1)
+    pub loading_more : RowLoaded w n ts ws vs k (input_term is k) (input_value is k) (Ok tt) → Loading vs (k + 1)
     unfolding RowLoaded
-    loading_more r = record { fine = first_more (input_refusal ts is) k l.fine (ap check_of (number_there ∙ r.0)); stands = next }
+    loading_more r = record { fine = first_more (input_refusal ts is) k l.fine (number_there ∙ r.0); stands = next }
       where
         grown : given (input_term is k) (input_value is k) ∷ trail_in w n ws k ≡ input_trail is (k + 1)
         grown = ap (λ tr. given (input_term is k) (input_value is k) ∷ tr) l.stands.trail ∙ sym (longer is k)
@@ -77,10 +76,12 @@ module _ (w n : ℕ) (ts is : List ℕ) where
         next : Stands w n vs (k + 1) 0 (input_trail is (k + 1))
         next = subst (Stands w n vs (k + 1) 0) grown r.1
 
-    pub loading_stop : (c : ℕ) → k < input_rows is → RowLoaded w n ts ws vs k (input_term is k) (input_value is k) (Refused c) → Loaded w n ts is vs (Refused c)
+    pub loading_stop : (c : Refusal) → k < input_rows is → RowLoaded w n ts ws vs k (input_term is k) (input_value is k) (Err c) → Loaded w n ts is vs (Err c)
     unfolding RowLoaded Loaded inputs_refusal
-    loading_stop c h r = sym (first_found (input_refusal ts is) (input_rows is) k c l.fine (ap check_of number_there ∙ r) h)
+    loading_stop c h r =
+        let e = number_there ∙ r in
+        first_found (input_refusal ts is) (input_rows is) k l.fine (λ z. number_some c (sym e ∙ z)) h ∙ e
 
-  pub loading_all : (ws : List ℕ) (k : ℕ) → k ≡ input_rows is → Loading ws k → Loaded w n ts is ws Passed
+  pub loading_all : (ws : List ℕ) (k : ℕ) → k ≡ input_rows is → Loading ws k → Loaded w n ts is ws (Ok tt)
   unfolding Loaded inputs_refusal
   loading_all ws k e l = subst (λ j. (first_refusal j (input_refusal ts is) ≡ 0) × Stands w n ws j 0 (input_trail is j)) e (l.fine, l.stands)
