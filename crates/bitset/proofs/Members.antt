@@ -7,15 +7,15 @@ use mathlib.Core.Bool.{Bool, true, false, not, ◌&&◌, ◌||◌, and-true, and
 use mathlib.Core.List.{List}
 use lib.Dec.{eqb, ltb}
 use lib.ListN.{get_or}
-use lib.Bits.{bit_and, bit_xor, and_le_r}
+use lib.Bits.{bit_and, and_le_r}
 use lib.Count.{count_trailing_zeros}
 use borrow.Author.Tests.{eqb-true, eqb-false, eq-eqb, ne_eqb, ltb-true, ltb-false, lt-ltb, le-ltb}
 use Rattle.calculus.proofs.Facts.{is_or_not, both_true}
 use Rattle.calculus.specs.Trail.{Set, empty, insert, remove, union, intersection}
 use Rattle.bitset.specs.Windows.{bit_at, set_at}
 use Rattle.bitset.specs.Members.{word_of, first_of, IsWord}
-use Rattle.bitset.proofs.Bits.{bit_at_and, bit_less, bit_pow, bit_zero, bit_first, bit_rest, zeros_less}
-use Rattle.bitset.proofs.Windows.{set_in, same_row, mask}
+use Rattle.bitset.proofs.Bits.{bit_at_and, bit_cleared, bit_zero, bit_first, bit_rest, zeros_less}
+use Rattle.bitset.proofs.Windows.{set_in, same_row}
 
 -- ---- the members of a word
 
@@ -27,7 +27,7 @@ none_left k x h i u =
 
 module _ (k x : ℕ) (p : 0 < x) (small : x < 2 ^ 64) where
   first_in : count_trailing_zeros 64 x < 64
-  first_in = zeros_less 64 x p small
+  first_in = zeros_less x p small
 
   first_word : first_of k x / 64 ≡ k
   first_word = omega (arith, first_in)
@@ -67,11 +67,10 @@ by_bits : (k x y a : ℕ) → ((u : ℕ) → u / 64 ≡ k → bit_at y (u % 64) 
 unfolding word_of
 by_bits k x y a f u = ⊎_elim (λ q. rw q (f u (eqb-true _ _ q))) (λ q. rw q) (is_or_not (eqb (u / 64) k))
 
-pub word_less : (k x a : ℕ) → a / 64 ≡ k → word_of k (bit_xor x (bit_and x (1 * 2 ^ (a % 64) % 2 ^ 64))) ≡ remove (word_of k x) a
+pub word_less : (k x a : ℕ) → a / 64 ≡ k → word_of k (bit_and x (2 ^ 64 - 1 - 1 * 2 ^ (a % 64) % 2 ^ 64)) ≡ remove (word_of k x) a
 word_less k x a h i u =
     by_bits k x _ a
-    (λ v e. bit_less x _ (v % 64) ∙ ap (λ (b : Bool). bit_at x (v % 64) && not b)
-    (ap (λ (m : ℕ). bit_at m (v % 64)) (mask a) ∙ bit_pow (v % 64) (a % 64) ∙ same_row v a (e ∙ sym h)))
+    (λ v e. bit_cleared x (a % 64) (omega arith) (v % 64) (omega arith) ∙ ap (λ (b : Bool). bit_at x (v % 64) && not b) (same_row v a (e ∙ sym h)))
     u i
 
 pub word_other : (k x a : ℕ) → (a / 64 ≡ k → ⊥) → word_of k x ≡ remove (word_of k x) a

@@ -1,22 +1,22 @@
 -- Windows: what a store, or a run of stores, makes of the set in one. Assumes nothing.
-use Prim.Native.Nat.{ℕ, ◌+◌, ◌*◌, ◌/◌, ◌%◌, ◌^◌, ◌≤◌, ◌<◌}
-use native.Mathlib.Nat.{one-mul, mod-eq_of_lt}
+use Prim.Native.Nat.{ℕ, ◌+◌, ◌-◌, ◌*◌, ◌/◌, ◌%◌, ◌^◌, ◌≤◌, ◌<◌}
 use native.Mathlib.Omega.{arith}
 use mathlib.Core.Path.{◌≡◌, refl, sym, ap, subst, ap₂, ◌∙◌}
 use mathlib.Core.Logic.{◌⊎◌, inl, inr, ⊎_elim}
 use mathlib.Core.Bool.{Bool, false, ◌&&◌, ◌||◌, not, or-false, and-true}
 use mathlib.Core.List.{List}
 use lib.Dec.{eqb, ltb}
-use lib.ListN.{length, get_or, set, length-set}
+use lib.ListN.{length, get_or, set, replicate, length-set}
+use borrow.Rule.Slice.PartMut.{put_mid}
+use Rattle.std.proofs.lemmas.List.{places}
 use lib.Seq.{get_or-set_same, get_or-set_other}
-use lib.Pow.{pow-lt}
-use lib.Bits.{bit_or, bit_and, bit_xor}
+use lib.Bits.{bit_or, bit_and}
 use borrow.Author.Tests.{ltb-true, ltb-false, eqb-true, eqb-false, lt-ltb, le-ltb, eq-eqb, ne_eqb}
 use Rattle.calculus.proofs.Facts.{is_or_not}
 use Rattle.calculus.specs.Trail.{Set, empty, insert, remove, union}
 use Rattle.bitset.specs.Members.{IsWord}
 use Rattle.bitset.specs.Windows.{bit_at, set_at, Only, Holds}
-use Rattle.bitset.proofs.Bits.{bit_at_or, bit_less, bit_pow, bit_zero}
+use Rattle.bitset.proofs.Bits.{bit_at_or, bit_set, bit_cleared, bit_zero}
 
 -- ---- reading a window
 
@@ -56,10 +56,6 @@ holds_twice ws us vs b w s r one two = record { only = only_twice ws us vs b w o
 
 -- ---- a word with one bit changed
 
--- the code's 1 << (t % 64)
-pub mask : (t : ℕ) → 1 * 2 ^ (t % 64) % 2 ^ 64 ≡ 2 ^ (t % 64)
-mask t = let l : t % 64 < 64 = omega arith in rw (one-mul, mod-eq_of_lt (pow-lt l))
-
 -- u is t where its word and its bit are
 pub same_row : (u t : ℕ) → u / 64 ≡ t / 64 → eqb (u % 64) (t % 64) ≡ eqb u t
 same_row u t e =
@@ -70,12 +66,12 @@ same_row u t e =
 
 -- a store of a word that differs from the old one at bit t % 64, by `op`, changes the set at t alone, by `op`
 module _ (op : Bool → Bool → Bool) (keeps : (b : Bool) → op b false ≡ b) (ws : List ℕ) (b w t v : ℕ) (h : t / 64 < w) (f : b + w ≤ length ws)
-    (bits : (k : ℕ) → bit_at v k ≡ op (bit_at (get_or ws (b + t / 64) 0) k) (eqb k (t % 64))) where
+    (bits : (k : ℕ) → k < 64 → bit_at v k ≡ op (bit_at (get_or ws (b + t / 64) 0) k) (eqb k (t % 64))) where
   changed_at : (u : ℕ) → bit_at (get_or (set ws (b + t / 64) v) (b + u / 64) 0) (u % 64) ≡ op (bit_at (get_or ws (b + u / 64) 0) (u % 64)) (eqb u t)
   changed_at u =
       ⊎_elim
       (λ q. let e : u / 64 ≡ t / 64 = eqb-true _ _ q in
-      rw (e, get_or-set_same ws (b + t / 64) v 0 (omega arith), ← same_row u t e, ← bits (u % 64)))
+      rw (e, get_or-set_same ws (b + t / 64) v 0 (omega arith), ← same_row u t e, ← bits (u % 64) (omega arith)))
       (λ q. let n : u / 64 ≡ t / 64 → ⊥ = eqb-false _ _ q in
       ap (λ (x : ℕ). bit_at x (u % 64)) (get_or-set_other ws (b + t / 64) (b + u / 64) v 0 (λ e. n (omega arith)))
       ∙ sym (ap (op (bit_at (get_or ws (b + u / 64) 0) (u % 64))) (ne_eqb u t (λ e. n (ap (λ (k : ℕ). k / 64) e))) ∙ keeps _))
@@ -102,16 +98,11 @@ module _ (ws : List ℕ) (b w t : ℕ) (h : t / 64 < w) (f : b + w ≤ length ws
   abbrev bit : ℕ
   bit = 1 * 2 ^ (t % 64) % 2 ^ 64
 
-  bit_is : (k : ℕ) → bit_at bit k ≡ eqb k (t % 64)
-  bit_is k = ap (λ (m : ℕ). bit_at m k) (mask t) ∙ bit_pow k (t % 64)
-
   pub insert_at : Holds ws (set ws (b + t / 64) (bit_or old bit)) b w (insert (set_at ws b w) t)
-  insert_at = changed ◌||◌ or-false ws b w t _ h f (λ k. bit_at_or old bit k ∙ ap (◌||◌ (bit_at old k)) (bit_is k)) _ (λ u. refl)
+  insert_at = changed ◌||◌ or-false ws b w t _ h f (λ k l. bit_set old (t % 64) (omega arith) k) _ (λ u. refl)
 
-  pub remove_at : Holds ws (set ws (b + t / 64) (bit_xor old (bit_and old bit))) b w (remove (set_at ws b w) t)
-  remove_at =
-      changed (λ x y. x && not y) and-true ws b w t _ h f
-      (λ k. bit_less old bit k ∙ ap (λ (x : Bool). bit_at old k && not x) (bit_is k)) _ (λ u. refl)
+  pub remove_at : Holds ws (set ws (b + t / 64) (bit_and old (2 ^ 64 - 1 - bit))) b w (remove (set_at ws b w) t)
+  remove_at = changed (λ x y. x && not y) and-true ws b w t _ h f (bit_cleared old (t % 64) (omega arith)) _ (λ u. refl)
 
 -- ---- a run of stores: after i of them the words at b are as P says
 
@@ -145,12 +136,24 @@ filled_more ws₀ ws b i P v h u e =
 pub still : (ws₀ ws : List ℕ) (b i : ℕ) (P : ℕ → ℕ → Type 0) → Filled ws₀ ws b i P → (k : ℕ) → (k < b) ⊎ (b + i ≤ k) → get_or ws k 0 ≡ get_or ws₀ k 0
 still ws₀ ws b i P u k o = u.only.rest k o
 
-pub cleared : (ws₀ ws : List ℕ) (b w : ℕ) → Filled ws₀ ws b w (λ k x. x ≡ 0) → Holds ws₀ ws b w empty
-cleared ws₀ ws b w u =
-    record {
-      only = u.only;
-      set = by_word empty ws b w (λ t m. ap (λ (x : ℕ). bit_at x (t % 64)) (u.done (t / 64) m) ∙ bit_zero (t % 64)) (λ t m. refl);
-    }
+-- the words at b become the w words vs, which are 0
+pub cleared : (ws vs : List ℕ) (b w : ℕ) → b + w ≤ length ws → vs ≡ replicate w 0 → Holds ws (put_mid b (b + w - b) ws vs) b w empty
+cleared ws vs b w h e =
+    rw e
+    (record {
+      only =
+          record {
+            long = grind (arith, places);
+            rest = λ k o. ⊎_elim (λ (l : k < b). grind (arith, places)) (λ (l : b + w ≤ k). grind (arith, places)) o;
+          };
+      set =
+          by_word empty _ b w
+          (λ t m. ap (λ (x : ℕ). bit_at x (t % 64)) (zero_at (t / 64) m) ∙ bit_zero (t % 64))
+          (λ t m. refl);
+    })
+  where
+    zero_at : (k : ℕ) → k < w → get_or (put_mid b (b + w - b) ws (replicate w 0)) (b + k) 0 ≡ 0
+    zero_at k l = grind (arith, places)
 
 -- the words are those of a set that has nothing past them
 pub stored : (ws₀ ws : List ℕ) (b w : ℕ) (s : Set) → Filled ws₀ ws b w (IsWord s) → ((u : ℕ) → w ≤ u / 64 → s u ≡ false) → Holds ws₀ ws b w s

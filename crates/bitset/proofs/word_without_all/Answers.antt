@@ -10,16 +10,16 @@ use Rattle.bitset.proofs.word_without_all.Goals as goal
 pub returns-then-x-eq0 : goal.returns-then-x-eq0
 returns-then-x-eq0 c = empty_rest _ (filled c.args.ps.now) (none_left c.args.k c.args.x (omega (arith, c.if-x-eq0.true)))
 
-pub loop-i-init : goal.loop-i-init
-loop-i-init c = removing_none _ _
+pub loop-p-init : goal.loop-p-init
+loop-p-init c = removing_none _ _
 
 pub returns-then-p : goal.returns-then-p
-returns-then-p c = removed_blank c.loop-i.invariant c.loop-i-test.true c.if-p.true
+returns-then-p c = removed_blank c.loop-p.invariant c.loop-p-test.true c.if-p.true
 
-pub loop-i-preserved : goal.loop-i-preserved
-loop-i-preserved c = removed_more c.loop-i.invariant c.loop-i-test.true c.if-p.false c.word_without-y.ensures
+pub loop-p-preserved : goal.loop-p-preserved
+loop-p-preserved c = removed_more c.loop-p.invariant c.loop-p-test.true c.if-p.false c.word_without-y.ensures
 
 pub returns : goal.returns
 returns c =
-    let e : c.loop-i.i ≡ length c.args.ps.now = omega (arith, c.loop-i.invariant.so_far) in
-    removed_all c.loop-i.invariant e
+    let e : c.loop-p.p-index ≡ length c.args.ps.now = omega (arith, c.loop-p.invariant.so_far) in
+    removed_all c.loop-p.invariant e
