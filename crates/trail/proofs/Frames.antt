@@ -1,22 +1,21 @@
 -- What leaves the trail as it is: a change of the words of a term that is not on it, and of the conflict's. What a term's words tell.
 -- Assumes nothing.
-use Prim.Native.Nat.{ℕ, zero, suc, ◌+◌, ◌*◌, ◌%◌, ◌≤◌, ◌<◌}
+use Prim.Native.Nat.{ℕ, ◌+◌, ◌*◌, ◌%◌, ◌≤◌, ◌<◌}
 use native.Mathlib.Omega.{arith}
 use mathlib.Core.Path.{◌≡◌, refl, sym, ap, ◌∙◌}
 use mathlib.Core.Logic.{inl, inr, ⊎_elim}
 use mathlib.Core.Bool.{Bool, true, false, ◌&&◌, cond}
 use mathlib.Core.List.{List}
 use lib.Dec.{eqb, ltb}
-use lib.ListN.{length, get_or, set, replicate, length-set}
-use lib.Seq.{ext_get_or, get_or-set_same, get_or-set_other}
+use lib.ListN.{length, get_or}
 use borrow.Author.Tests.{ltb-true, ltb-false, eqb-true, eqb-false}
-use Rattle.calculus.specs.Trail.{Trail, Entry, empty, on, decided_at, why_at, assigned}
+use Rattle.calculus.specs.Trail.{Trail, Entry, empty, on, value_at, level_at, decided_at, why_at, assigned}
 use Rattle.calculus.specs.WellFormed.{Distinct, Below}
 use Rattle.calculus.proofs.Facts.{is_or_not, true_or_false}
 use Rattle.calculus.proofs.Entries.{entry_off}
 use Rattle.bitset.specs.Windows.{set_at, Only}
 use Rattle.bitset.proofs.Windows.{Filled}
-use Rattle.trail.specs.Words.{values, kinds, order, conflict, trail_in, kind_at, Laid, Started, Still}
+use Rattle.trail.specs.Words.{values, levels, kinds, order, conflict, trail_in, kind_at, Laid, Started, Still}
 use Rattle.trail.proofs.TermKind.{kind_off, kind_on}
 use Rattle.trail.proofs.Laws.{why_in_lem, below_at, on_at, entry_same, trail_same, room_all, entry_at}
 
@@ -72,7 +71,7 @@ beside w N ws vs n b x laid h o =
 pub still_twice : (w N : ℕ) (ws us vs : List ℕ) (n : ℕ) → Still w N ws us n → Still w N us vs n → Still w N ws vs n
 still_twice w N ws us vs n p q = record { trail = q.trail ∙ p.trail; laid = q.laid }
 
--- ---- nothing on the trail, and nothing in the workspace
+-- ---- nothing on the trail
 
 pub started : {w N : ℕ} {ws vs : List ℕ} → conflict w N + w ≤ length ws → N ≤ 64 * w → w ≤ 1023 → Filled ws vs (kinds w N) N (λ k x. x ≡ 0)
     → Started w N ws vs
@@ -83,40 +82,14 @@ started h wide narrow f =
       laid = record { enough = omega (arith, f.only.long); wide = wide; narrow = narrow; marked = f.done; distinct = tt; below = tt };
     }
 
-zeros_at : (n k : ℕ) → ◌≡◌ {A = ℕ} (get_or (replicate n 0) k 0) 0
-zeros_at zero k = refl
-zeros_at (suc n) zero = refl
-zeros_at (suc n) (suc k) = zeros_at n k
-
-zeros_length : (n : ℕ) → length {A = ℕ} (replicate n 0) ≡ n
-zeros_length zero = refl
-zeros_length (suc n) = ap suc (zeros_length n)
-
--- the first k words are 0
-pub record Wiped (ws₀ ws : List ℕ) (k : ℕ) : Type 0 where
-  pub long : length ws ≡ length ws₀
-  pub zeros : (j : ℕ) → j < k → get_or ws j 0 ≡ 0
-
-pub wiped_none : (ws : List ℕ) → Wiped ws ws 0
-wiped_none ws = record { long = refl; zeros = λ j h. absurd (omega arith) }
-
-pub wiped_more : (ws₀ ws : List ℕ) (k : ℕ) → k < length ws₀ → Wiped ws₀ ws k → Wiped ws₀ (set ws k 0) (k + 1)
-wiped_more ws₀ ws k h u =
-    record {
-      long = length-set ws k 0 ∙ u.long;
-      zeros = λ j l.
-          ⊎_elim
-          (λ q. let e : j ≡ k = eqb-true j k q in rw e (get_or-set_same ws k 0 0 (omega (arith, u.long))))
-          (λ q. let n : j ≡ k → ⊥ = eqb-false j k q in get_or-set_other ws k j 0 0 n ∙ u.zeros j (omega arith))
-          (is_or_not (eqb j k));
-    }
-
-pub wiped_all : (ws₀ ws : List ℕ) (k : ℕ) → k ≡ length ws₀ → Wiped ws₀ ws k → ws ≡ replicate (length ws₀) 0
-wiped_all ws₀ ws k e u =
-    ext_get_or 0 ws (replicate (length ws₀) 0) (u.long ∙ sym (zeros_length (length ws₀)))
-    (λ j l. u.zeros j (omega (arith, u.long)) ∙ sym (zeros_at (length ws₀) j))
-
 -- ---- a term's words
+
+-- its value and its level, where it is on the trail
+pub value_word : (w N : ℕ) (ws : List ℕ) (n t : ℕ) → on (trail_in w N ws n) t ≡ true → get_or ws (values w N + t) 0 % 65536 ≡ value_at (trail_in w N ws n) t
+value_word w N ws n t h = sym (ap (λ (e : Entry). e.value) (entry_at w N ws n t h))
+
+pub level_word : (w N : ℕ) (ws : List ℕ) (n t : ℕ) → on (trail_in w N ws n) t ≡ true → get_or ws (levels w N + t) 0 ≡ level_at (trail_in w N ws n) t
+level_word w N ws n t h = sym (ap (λ (e : Entry). e.level) (entry_at w N ws n t h))
 
 module _ (w N : ℕ) (ws : List ℕ) (n t : ℕ) (laid : Laid w N ws n) (h : t < N) where
   -- on the trail or not, and a decision or not: by the kind

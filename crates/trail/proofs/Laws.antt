@@ -15,7 +15,7 @@ use Rattle.calculus.specs.Trail.{Trail, Entry, empty, on, entry}
 use Rattle.calculus.specs.WellFormed.{Distinct, Below}
 use Rattle.calculus.proofs.Facts.{is_or_not, true_or_false}
 use Rattle.bitset.proofs.Windows.{same_set}
-use Rattle.trail.specs.Words.{values, levels, kinds, order, entry_for, trail_in, Laid}
+use Rattle.trail.specs.Words.{values, levels, kinds, order, row_at, entry_for, trail_in, Laid}
 use Rattle.calculus.proofs.Trails.{off_parts, room, room_more}
 
 -- ---- the one product: a justification ends where the next begins or before
@@ -128,6 +128,12 @@ room_all w N ws n laid = omega (arith, trail_length w N ws n, room N (trail_in w
 
 pub room_one : (w N : ℕ) (ws : List ℕ) (n t : ℕ) → Laid w N ws n → t < N → on (trail_in w N ws n) t ≡ false → n < N
 room_one w N ws n t laid h off = omega (arith, trail_length w N ws n, room_more N t (trail_in w N ws n) laid.distinct laid.below h off)
+
+-- the row of an entry has its word, and fits 16 bits
+pub row_fits : (w N : ℕ) (ws : List ℕ) (n i : ℕ) → Laid w N ws n × (i < n) → (order w N + i < length ws) × (row_at w N ws i < 65536)
+row_fits w N ws n i g =
+    let d = g.0 in
+    (omega (arith, room_all w N ws n d, d.enough, g.1), omega (arith, below_at N w N ws n i d.below g.1, d.wide, d.narrow))
 
 -- a row of the trail is in a word of every set
 pub row_word : (w N t : ℕ) → N ≤ 64 * w → t < N → t / 64 < w

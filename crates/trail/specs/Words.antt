@@ -22,6 +22,10 @@ order w N = N * w + 3 * N
 abbrev pub conflict : ℕ → ℕ → ℕ
 conflict w N = N * w + 4 * N
 
+-- the row of the entry at i, the oldest entry being at 0
+abbrev pub row_at : ℕ → ℕ → List ℕ → ℕ → ℕ
+row_at w N ws i = get_or ws (order w N + i) 0
+
 -- an entry whose justification is the set s; a decision has none
 abbrev pub entry_of : ℕ → ℕ → ℕ → Bool → Set → Entry
 entry_of t v l d s = record { term = t; value = v; level = l; decided = d; why = cond d empty s }
