@@ -1,29 +1,34 @@
 -- `term_sheet::check_terms` meets its contract.
-use mathlib.Core.Path.{refl}
-use native.Mathlib.Omega.{arith}
+use mathlib.Core.Path.{◌≡◌, sym, ◌∙◌}
 use borrow.Author.Rules.{rules}
-use Rattle.sheets.proofs.Laws.{first_none}
+use Rattle.std.proofs.Common.{arith}
+use Rattle.std.proofs.lemmas.Grind.{common_steps}
+use Rattle.calculus.specs.Numbers.{number_in}
+use Rattle.sheets.proofs.Laws.{first_none, first_more, checked_found}
 use Rattle.term_search.proofs.Laws.{note_none}
-use Rattle.term_sheet.proofs.Laws.{row_known, terms_found, terms_more, repeat_later, terms_passed}
+use Rattle.term_sheet.proofs.Laws.{row_known, row_is, repeat_later}
+use Rattle.calculus.specs.Terms.{term_refusal, terms_refusal}
 use Rattle.term_sheet.proofs.check_terms.Goals as goal
 
-pub first_repeat-twin-requires : goal.first_repeat-twin-requires
-first_repeat-twin-requires c = (omega arith, omega arith)
-
 pub loop-t-init : goal.loop-t-init
-loop-t-init c = (omega arith, omega arith, first_none _, note_none _ _ refl)
+loop-t-init c = search (rules, first_none, note_none)
 
-pub first_use-u-requires : goal.first_use-u-requires
-first_use-u-requires c = (omega arith, search rules)
+pub check_term-requires : goal.check_term-requires
+check_term-requires c = search (rules, row_known)
 
-pub check_term-c-requires : goal.check_term-c-requires
-check_term-c-requires c = search row_known
-
-pub returns-in-Refused : goal.returns-in-Refused
-returns-in-Refused c = search terms_found
+pub returns-in_err-check_term : goal.returns-in_err-check_term
+unfolding terms_refusal
+returns-in_err-check_term c =
+    let here : number_in c.check_term.result ≡ term_refusal c.args.sorts.now c.args.terms.now c.loop-t.t =
+    c.check_term.ensures ∙ sym (row_is _ _ _ _ _ c.first_repeat-twin.ensures c.loop-t.invariant.0 c.loop-t-test.true) in
+    grind (arith, common_steps, checked_found)
 
 pub loop-t-preserved : goal.loop-t-preserved
-loop-t-preserved c = (omega arith, search repeat_later, search terms_more, c.first_use-u.ensures.noted)
+loop-t-preserved c =
+    let here : number_in c.check_term.result ≡ term_refusal c.args.sorts.now c.args.terms.now c.loop-t.t =
+    c.check_term.ensures ∙ sym (row_is _ _ _ _ _ c.first_repeat-twin.ensures c.loop-t.invariant.0 c.loop-t-test.true) in
+    grind (arith, common_steps, first_more, repeat_later)
 
 pub returns : goal.returns
-returns c = search terms_passed
+unfolding terms_refusal
+returns c = search rules
