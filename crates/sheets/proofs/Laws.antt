@@ -7,17 +7,9 @@ use native.Mathlib.Nat.{not-suc-le-zero}
 use native.Mathlib.Numerals.{add-one}
 use lib.Dec.{leb}
 use borrow.Author.Tests.{leb-true, leb-false}
-use Rattle.std.specs.Prelude.{Result, Ok, Err}
+use Rattle.std.specs.Prelude.{Result, Err}
 use Rattle.calculus.specs.declared.Refusal.{Refusal}
-use Rattle.calculus.proofs.Facts.{unless_yes, unless_no}
-use Rattle.calculus.specs.Numbers.{unless, or_else, first_refusal, number, number_in}
-
--- a test that fails gives its number, and one that passes the rest
-pub stop : (a : Bool) (n r : ℕ) → a ≡ false → n ≡ unless a n r
-stop a n r e = sym (unless_no n r e)
-
-pub pass : (a : Bool) (n r x : ℕ) → a ≡ true → x ≡ r → x ≡ unless a n r
-pass a n r x e q = q ∙ sym (unless_yes n r e)
+use Rattle.calculus.specs.Numbers.{or_else, first_refusal, number, number_in}
 
 -- a refusal's number is not 0
 pub number_some : (r : Refusal) → number r ≡ 0 → ⊥
@@ -54,10 +46,7 @@ first_found f (suc n) t a d h = go (leb n t) refl (λ l. first_found f n t a d l
     go true q r = let s : t ≡ n = omega (arith, leb-true) in rw (← s, a) (or_else_none (f t))
     go false q r = rw (r (omega (arith, leb-false))) (or_else_some (f t) (f n) d)
 
--- a loop over rows: r is what the check of row t answers, after rows without trouble
+-- and a loop over rows: r is what the check of row t answers, after rows without trouble
 module _ (f : ℕ → ℕ) (t : ℕ) {r : Result (Unit {0}) Refusal} (before : first_refusal t f ≡ 0) (here : number_in r ≡ f t) where
-  pub checked_more : {u : Unit {0}} → r ≡ Ok u → first_refusal (t + 1) f ≡ 0
-  checked_more e = first_more f t before (sym here ∙ ap number_in e)
-
   pub checked_found : (n : ℕ) {c : Refusal} → r ≡ Err c → t < n → number c ≡ first_refusal n f
   checked_found n {c} e l = sym (ap number_in e) ∙ here ∙ sym (first_found f n t before (λ z. err_some r c e (here ∙ z)) l)
