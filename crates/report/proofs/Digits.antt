@@ -9,9 +9,7 @@ use borrow.Author.Tests.{lt-ltb, le-ltb}
 use lib.ListN.{length, take, drop, set, replicate, length-set, length-drop}
 use lib.Seq.{drop-cons, drop-set-lt, get_or-set_same, take_all}
 use Rattle.buffers.proofs.Room.{append_nil}
-use Rattle.report.specs.Put.{Put}
 use Rattle.report.specs.Printed.{digits_of, decimal}
-use Rattle.report.proofs.Parts.{wider}
 
 -- of n's digits those behind place i stand in a row of 20 bytes, and those up to i are the digits of what is left
 pub record Spelling (n : ℕ) (row : List ℕ) (i left : ℕ) : Type 0 where
@@ -60,11 +58,6 @@ module _ (n : ℕ) (row : List ℕ) (b : ℕ) where
             ∙ rw (digits_more (suc i) left h, ← is, append_assoc, set_front row (suc i) b (omega (arith, s.row_long, s.inside)));
       }
 
-  pub spelling_done : (i left at r : ℕ) (out out' : List ℕ) → Spelling n row i left → left < 10 → b ≡ 48 + left % 10
-      → Put (length (take (20 - i) (drop i (set row i b)))) (take (20 - i) (drop i (set row i b))) at r out out'
-      → Put 20 (decimal n) at r out out'
-  spelling_done i left at r out out' s h is p =
-      let k : length (drop i (set row i b)) ≤ 20 - i = rw (length-drop, length-set, s.row_long) (omega arith) in
-      let w = take_all (20 - i) (drop i (set row i b)) k in
-      let e = set_front row i b (omega (arith, s.row_long, s.inside)) ∙ sym (s.digits_are ∙ rw (digit_alone i left h, ← is)) in
-      rw (← e, ← w) (wider p (rw w (omega arith)))
+  pub spelling_done : (i left : ℕ) → Spelling n row i left → left < 10 → b ≡ 48 + left % 10 → drop i (set row i b) ≡ decimal n
+  spelling_done i left s h is =
+      set_front row i b (omega (arith, s.row_long, s.inside)) ∙ sym (s.digits_are ∙ rw (digit_alone i left h, ← is))

@@ -1,42 +1,31 @@
--- Laws of a text that is stored part after part.
-use Prim.Native.Nat.{ℕ, suc, ◌+◌, ◌≤◌}
-use mathlib.Core.Path.{◌≡◌, refl, ap, sym, ◌∙◌}
-use mathlib.Core.List.{List, [], ◌∷◌, ◌++◌}
-use native.Mathlib.Omega.{arith}
-use native.Mathlib.Nat.{add-zero}
-use lib.ListN.{length, set, replicate, length-append}
-use lib.Seq.{sets}
+-- Laws of parts that are laid one behind the other.
+use Rattle.std.specs.Prelude.{ℕ, ◌+◌, ◌^◌, ◌<◌, ◌≤◌, ◌≡◌, List, [], ◌++◌, length, take, replicate, get_or}
+use Rattle.std.proofs.Common.{refl, sym, ap, ◌∙◌, arith, length-append}
+use Rattle.std.specs.Borrow.{Bor}
+use Rattle.std.proofs.lemmas.List.Edits.{sets}
+use Rattle.std.proofs.lemmas.List.Folds.{length-flat_map-take}
+use Rattle.std.proofs.Concat.{flat_map-take_more}
+use Rattle.buffers.specs.Room.{pad_to}
 use Rattle.buffers.proofs.Room.{pad_none, store_row}
-use Rattle.report.specs.Put.{Put, Laid}
+use Rattle.report.specs.Put.{joined, Laid}
 
--- a part of at most m bytes has at most n, where n is no less
-pub wider : {m n : ℕ} {part : List ℕ} {at r : ℕ} {a b : List ℕ} → Put m part at r a b → m ≤ n → Put n part at r a b
-wider p h = record { short = omega (arith, p.short); place_is = p.place_is; out_is = p.out_is }
+pub laid_none : (n : ℕ) {out : List ℕ} → out ≡ replicate n 0 → Laid n [] 0 out
+laid_none n e = record { length_is = refl; out_is = e ∙ sym (pad_none n) }
 
--- nothing is stored
-pub none : (most at : ℕ) (out : List ℕ) → Put most [] at at out out
-none most at out = record { short = omega arith; place_is = omega arith; out_is = refl }
+-- the part behind the first k
+abbrev pub part : List (Bor (List ℕ)) → ℕ → List ℕ
+part parts k = (get_or parts k (record { ref_ptr = (0, 0); now = [] })).now
 
-sets_append : (out : List ℕ) (at : ℕ) (u v : List ℕ) → sets (sets out at u) (at + length u) v ≡ sets out at (u ++ v)
-sets_append out at [] v = rw add-zero
-sets_append out at (x ∷ xs) v =
-    let e : at + suc (length xs) ≡ suc at + length xs = omega arith in rw e (sets_append (set out at x) (suc at) xs v)
+module _ (parts : List (Bor (List ℕ))) (k : ℕ) (h : k < length parts) {n at : ℕ} {out : List ℕ} (so_far : Laid n (joined (take k parts)) at out) where
+  pub room_left : length (joined parts) ≤ 256 → at + length (part parts k) < 2 ^ 64
+  room_left short = omega (arith, so_far.length_is, length-flat_map-take (λ (p : Bor (List ℕ)). p.now) parts k (record { ref_ptr = (0, 0); now = [] }) h)
 
--- two parts, of which the second is stored behind the first, are one
-module _ {m n : ℕ} {u v : List ℕ} {at r s : ℕ} {a b c : List ℕ} where
-  pub both : Put m u at r a b → Put n v r s b c → Put (m + n) (u ++ v) at s a c
-  both p q =
-      let e = length-append u v in
+  more : joined (take (k + 1) parts) ≡ joined (take k parts) ++ part parts k
+  more = sym (flat_map-take_more (λ (p : Bor (List ℕ)). p.now) parts k (record { ref_ptr = (0, 0); now = [] }) h)
+
+  pub laid_more : {r : ℕ} {out' : List ℕ} → r ≡ at + length (part parts k) → out' ≡ sets out at (part parts k) → Laid n (joined (take (k + 1) parts)) r out'
+  laid_more r_is out_is =
       record {
-        short = omega (arith, p.short, q.short);
-        place_is = omega (arith, p.place_is, q.place_is);
-        out_is = q.out_is ∙ rw (p.out_is, p.place_is) (sets_append a at u v);
+        length_is = omega (arith, r_is, so_far.length_is, ap length more, length-append (joined (take k parts)) (part parts k));
+        out_is = out_is ∙ rw (so_far.out_is, so_far.length_is, more) (store_row n (joined (take k parts)) (part parts k));
       }
-
--- a text that is stored from the front of a buffer of zeros on
-pub whole : {m n : ℕ} {text : List ℕ} {r : ℕ} {a b : List ℕ} → a ≡ replicate n 0 → Put m text 0 r a b → Laid n text r b
-whole {n = n} {text = text} zeros p =
-    record {
-      length_is = omega (arith, p.place_is);
-      out_is = p.out_is ∙ ap (λ (s : List ℕ). sets s 0 text) (zeros ∙ sym (pad_none n)) ∙ store_row n [] text;
-    }

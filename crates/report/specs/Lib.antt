@@ -1,6 +1,5 @@
 pub mod Put
 pub mod Printed
-pub mod Lines
 pub mod Words
 pub mod Complaint
 pub mod Short

@@ -1,13 +1,11 @@
--- Text in a lent buffer: one part after the other, and the whole.
-use Rattle.std.specs.Prelude.{ℕ, ◌+◌, ◌≤◌, ◌≡◌, List, length}
-use Rattle.std.proofs.lemmas.List.Edits.{sets}
+-- Text in a lent buffer.
+use Rattle.std.specs.Prelude.{ℕ, ◌≡◌, List, length, flat_map}
+use Rattle.std.specs.Borrow.{Bor}
 use Rattle.buffers.specs.Room.{pad_to}
 
--- a part of a text, of at most so many bytes, is stored from place `at` on, as far as the buffer reaches; r is the place after it
-pub record Put (most : ℕ) (part : List ℕ) (at r : ℕ) (out out' : List ℕ) : Type 0 where
-  pub short : length part ≤ most
-  pub place_is : r ≡ at + length part
-  pub out_is : out' ≡ sets out at part
+-- parts one behind the other
+abbrev pub joined : List (Bor (List ℕ)) → List ℕ
+joined parts = flat_map (λ p. p.now) parts
 
 -- a text is laid into a buffer of n bytes: r tells how long the text is, and the buffer holds it, cut where it is short, and then zeros
 pub record Laid (n : ℕ) (text : List ℕ) (r : ℕ) (out' : List ℕ) : Type 0 where

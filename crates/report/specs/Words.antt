@@ -1,10 +1,12 @@
 -- The words for a person: what every number of a refusal means, what makes a text malformed, and which line was meant.
-use Rattle.std.specs.Prelude.{ℕ, List, [], ◌∷◌, eqb}
+use Rattle.std.specs.Prelude.{ℕ, List, [], ◌∷◌, eqb, Some}
 use Prim.Native.String.{String}
 use Rattle.text_fields.specs.Split.{pick, bytes}
 use Rattle.text_faults.specs.Why.{why_number}
 use Rattle.text_faults.specs.declared.Why.{Why}
 use Rattle.text_faults.specs.declared.Why.TheVariants.{Mark, Return, Long, Header, Empty, Byte, Fields, Name, Value, Early, Cut}
+use Rattle.report.specs.declared.Meant.{Meant}
+use Rattle.report.specs.declared.Meant.TheVariants.{Fail, Clash}
 
 -- a number and its words
 pub record Meaning : Type 0 where
@@ -16,7 +18,7 @@ abbrev pub means : ℕ → String → Meaning
 means n s = record { number = n; words = bytes s }
 
 abbrev pub because : Why → String → Meaning
-because w s = record { number = why_number w; words = bytes s }
+because w s = record { number = why_number (Some w); words = bytes s }
 
 -- the words of a number; none where it is not in the list
 abbrev pub words_of : List Meaning → ℕ → List ℕ
@@ -68,6 +70,10 @@ fail_meant = 12
 abbrev pub clash_meant : ℕ
 clash_meant = 13
 
+abbrev pub meant_number : Meant → ℕ
+meant_number Fail = fail_meant
+meant_number Clash = clash_meant
+
 -- the causes of 31 in a text, and those of 26
 abbrev pub causes : List Meaning
 causes =
@@ -86,6 +92,6 @@ causes =
     ∷ means clash_meant "clash was meant"
     ∷ []
 
--- what the number of a cause means; nothing for that of `Fine`
+-- what the number of a cause means; nothing for 0, that of no cause
 unfoldable pub cause : ℕ → List ℕ
 cause n = words_of causes n

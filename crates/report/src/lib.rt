@@ -1,23 +1,46 @@
 // What is printed: a result for a program to read, and a complaint for a person. Both answer for a buffer of any length.
 #![tactic(auto)]
 
-ghost use Rattle.std.specs.Prelude.{◌≡◌, ◌+◌, ◌%◌, ◌≤◌, length};
-ghost use Rattle.report.specs.Lines.{NextLine, LineFrom, IsLine};
-ghost use Rattle.report.specs.Put.{Put, Laid};
-ghost use Rattle.report.specs.Printed.{decimal, verdict_word, number_field, printed};
-ghost use Rattle.report.specs.Words.{meaning, cause};
-ghost use Rattle.report.specs.Complaint.{field_part, where_part, what_part, why_part, complained};
+ghost use Rattle.std.specs.Prelude.{◌≡◌, [], ◌≤◌, length};
+ghost use Rattle.text_fields.specs.Split.{pick};
+ghost use Rattle.report.specs.Put.{Laid, joined};
+ghost use Rattle.report.specs.Printed.{verdict_word, printed};
+ghost use Rattle.report.specs.Words.{meaning, cause, meant_number};
+ghost use Rattle.report.specs.Complaint.{complained};
+
+mod numeral;
 
 use calculus::Outcome;
+use numeral::decimal;
 
-// The causes of 26, numbered behind those that make a text malformed: the row is a clash, and fail was meant.
-pub const FAIL_MEANT: u16 = 12;
+// What stands before each number of a result, and between a number and its words.
+const SPACE: &[u8] = b" ";
 
-// The row is a fail, and clash was meant.
-pub const CLASH_MEANT: u16 = 13;
+// What ends a line.
+const NEWLINE: &[u8] = b"\n";
+
+// The line that was meant where the row with 26 is the other one.
+#[derive(Clone, Copy)]
+pub enum Meant {
+    Fail,
+    Clash,
+}
+
+// The numbers of the causes of 26, behind those that make a text malformed.
+impl From<Meant> for u16 {
+    ghost from_gives = { λ m n. n ≡ meant_number m };
+
+    fn from(meant: Meant) -> u16 {
+        match meant {
+            Meant::Fail => 12,
+            Meant::Clash => 13,
+        }
+    }
+}
 
 // What is wrong with a text or a call: the number of the refusal or 0, the line or 0, its field or 0, and the number of the
 // cause or 0: what makes a text malformed, or which line was meant.
+// Stays: 0 for none, as in the C structs `Outcome` and `ReadOutcome` that these come from; `complained` is over them.
 #[derive(Clone, Copy)]
 pub struct Complaint {
     pub number: u16,
@@ -26,228 +49,153 @@ pub struct Complaint {
     pub why: u16,
 }
 
-// Stores bytes from `at` on, and answers the place after them. The places are bounded so that no sum wraps: each function's below its callees'.
-fn put(word: &[u8], at: usize, out: &mut [u8]) -> usize
-    requires { at + length word.now ≤ 8192 }
-    ensures { Put (length word.now) word.now at result out.old out.new }
-{
-    buffers::put_bytes(out, at, word)
-}
-
-// The place after the line of a table that `at` stands in: after its newline, or the table's end.
-fn next_line(table: &[u8], at: usize) -> usize
-    requires { at ≤ length table.now }
-    ensures { NextLine table.now at result }
-{
-    let end = at + text_fields::scan(&table[at..], 10);
-    if end < table.len() {
-        return end + 1;
-    }
-    end
-}
-
-// Where line n of a table starts, counted from 0; where there is no such line, nothing stands behind.
-fn line_start(table: &[u8], n: usize) -> usize
-    ensures { LineFrom table.now n 0 result }
-{
-    let mut at = 0;
-    let mut left = n;
-    while left > 0 {
-        at = next_line(table, at);
-        left -= 1;
-    }
-    at
-}
-
-// Line n of a table, counted from 0; nothing where there is no such line.
-fn line(table: &[u8], n: usize) -> &[u8]
-    ensures { IsLine table.now n result.now }
-{
-    let start = line_start(table, n);
-    let end = start + text_fields::scan(&table[start..], 10);
-    &table[start..end]
-}
-
-// The last digit of a number.
-fn last_digit(n: u64) -> u8
-    ensures { result ≡ 48 + n % 10 }
-{
-    48 + (n % 10) as u8
-}
-
-// Stores a number in decimal. Its digits are found from the right.
-fn put_number(n: u64, at: usize, out: &mut [u8]) -> usize
-    requires { at ≤ 4096 }
-    ensures { Put 20 (decimal n) at result out.old out.new }
-{
-    let mut digits = [0u8; 20];
-    let mut i = 19;
-    let mut rest = n;
-    while rest >= 10 {
-        digits[i] = last_digit(rest);
-        rest /= 10;
-        i -= 1;
-    }
-    digits[i] = last_digit(rest);
-    put(&digits[i..], at, out)
-}
-
-// Stores a field that holds a number, with the space before it.
-fn put_number_field(n: u16, at: usize, out: &mut [u8]) -> usize
-    requires { at ≤ 2048 }
-    ensures { Put 21 (number_field n) at result out.old out.new }
-{
-    let space = put(b" ", at, out);
-    put_number(n as u64, space, out)
-}
-
-// Stores the word of a verdict.
-fn put_verdict(v: u16, at: usize, out: &mut [u8]) -> usize
-    requires { at ≤ 2048 }
-    ensures { Put 7 (verdict_word v) at result out.old out.new }
+// The word of a verdict.
+#[tactic(auto, unfolding(crate::specs::Printed::verdict_word))]
+fn verdict_word(v: u16) -> &'static [u8]
+    ensures { result.now ≡ verdict_word v }
 {
     match v {
-        0 => put(b"open", at, out),
-        1 => put(b"refuted", at, out),
-        _ => put(b"refused", at, out),
+        0 => b"open",
+        1 => b"refuted",
+        _ => b"refused",
     }
+}
+
+// The words of a number.
+#[tactic(auto, unfolding(crate::specs::Words::meaning))]
+fn meaning(n: u16) -> &'static [u8]
+    ensures { result.now ≡ meaning n }
+{
+    match n {
+        1 => b"a sort row breaks the rule for sorts",
+        2 => b"a name is repeated or reserved",
+        3 => b"an argument is no earlier row",
+        4 => b"head, sort and arguments do not fit",
+        5 => b"a row with the head and arguments of an earlier one",
+        6 => b"an input row names no term",
+        7 => b"a value that the term cannot have",
+        8 => b"a term given twice",
+        9 => b"a step's columns are wrong",
+        10 => b"wrong state for the step",
+        11 => b"the term or a premise is no row",
+        12 => b"a premise is not on the trail",
+        13 => b"the rule does not fit",
+        14 => b"the value is there already",
+        15 => b"the opposite is there",
+        16 => b"the opposite is not there",
+        17 => b"not a member of the conflict",
+        18 => b"it is a decision",
+        19 => b"resolve is barred",
+        20 => b"not the decision that clear needs",
+        21 => b"its level is not above the rest, or learn's level is outside its range",
+        22 => b"a term's sort or head is wrong for the step, or the value does not suit it",
+        23 => b"no shared decision",
+        25 => b"the clause does not match the members, or one is named twice",
+        26 => b"fail is the line at level 0, clash the one above it",
+        27 => b"the value contradicts an equation on the trail",
+        30 => b"above a ceiling",
+        31 => b"malformed",
+        32 => b"a lent buffer is short",
+        _ => b"",
+    }
+}
+
+// The words of a cause.
+#[tactic(auto, unfolding(crate::specs::Words::cause))]
+fn cause(why: u16) -> &'static [u8]
+    ensures { result.now ≡ cause why }
+{
+    match why {
+        1 => b"a byte order mark stands before the header",
+        2 => b"a carriage return, where lines end with a newline alone",
+        3 => b"the line has more than 525 bytes",
+        4 => b"this is not the sheet's header line",
+        5 => b"an empty line after the last sheet",
+        6 => b"a tab or another byte that no field may have",
+        7 => b"not as many fields as the sheet has columns, or not single spaces",
+        8 => b"a name of more than 64 bytes",
+        9 => b"neither true, false, - nor a number up to 65534 without leading zeros",
+        10 => b"the text ends before the header of the step sheet",
+        11 => b"the last line has no newline",
+        12 => b"fail was meant",
+        13 => b"clash was meant",
+        _ => b"",
+    }
+}
+
+// Lays parts into a buffer, one behind the other: answers how many bytes they are, and `out` holds them, cut where it is short, and then zeros.
+fn lay(parts: &[&[u8]], out: &mut [u8]) -> usize
+    requires { length (joined parts.now) ≤ 256 }
+    ensures { Laid (length out.old) (joined parts.now) result out.new }
+{
+    buffers::clear_bytes(out);
+    let mut at = 0;
+    for part in parts {
+        at = buffers::put_bytes(out, at, part);
+    }
+    at
 }
 
 // The two lines of a result: answers how many bytes they are, and `out` holds them, cut where it is short, and then zeros.
 pub fn spell(o: Outcome, out: &mut [u8]) -> usize
     ensures { Laid (length out.old) (printed o) result out.new }
 {
-    buffers::clear_bytes(out);
-    let header = put(b"verdict steps code trail place\n", 0, out);
-    let verdict = put_verdict(o.verdict, header, out);
-    let steps = put_number_field(o.steps, verdict, out);
-    let number = put_number_field(o.number, steps, out);
-    let entries = put_number_field(o.entries, number, out);
-    let place = put_number_field(o.place, entries, out);
-    put(b"\n", place, out)
+    let steps = decimal(u64::from(o.steps));
+    let number = decimal(u64::from(o.number));
+    let entries = decimal(u64::from(o.entries));
+    let place = decimal(u64::from(o.place));
+    lay(
+        &[
+            b"verdict steps code trail place\n",
+            verdict_word(o.verdict),
+            SPACE,
+            steps.bytes(),
+            SPACE,
+            number.bytes(),
+            SPACE,
+            entries.bytes(),
+            SPACE,
+            place.bytes(),
+            NEWLINE,
+        ],
+        out,
+    )
 }
 
-// Stores the field at fault.
-fn put_field(field: u64, at: usize, out: &mut [u8]) -> usize
-    requires { at ≤ 1024 }
-    ensures { Put 28 (field_part field) at result out.old out.new }
+// A part that is told, or nothing.
+fn told(is_told: bool, part: &[u8]) -> &[u8]
+    ensures { result.now ≡ pick is_told part.now [] }
 {
-    if field == 0 {
-        return at;
-    }
-    let word = put(b", field ", at, out);
-    put_number(field, word, out)
-}
-
-// Stores where a fault lies.
-fn put_where(line: u64, field: u64, at: usize, out: &mut [u8]) -> usize
-    requires { at ≤ 512 }
-    ensures { Put 55 (where_part line field) at result out.old out.new }
-{
-    if line == 0 {
-        return at;
-    }
-    let word = put(b"line ", at, out);
-    let number = put_number(line, word, out);
-    let part = put_field(field, number, out);
-    put(b": ", part, out)
-}
-
-// Stores the words of a number. In the table line n is that of number n.
-fn put_meaning(n: u16, at: usize, out: &mut [u8]) -> usize
-    requires { at ≤ 2048 }
-    ensures { Put 1024 (meaning n) at result out.old out.new }
-{
-    let table = b"\n\
-        a sort row breaks the rule for sorts\n\
-        a name is repeated or reserved\n\
-        an argument is no earlier row\n\
-        head, sort and arguments do not fit\n\
-        a row with the head and arguments of an earlier one\n\
-        an input row names no term\n\
-        a value that the term cannot have\n\
-        a term given twice\n\
-        a step's columns are wrong\n\
-        wrong state for the step\n\
-        the term or a premise is no row\n\
-        a premise is not on the trail\n\
-        the rule does not fit\n\
-        the value is there already\n\
-        the opposite is there\n\
-        the opposite is not there\n\
-        not a member of the conflict\n\
-        it is a decision\n\
-        resolve is barred\n\
-        not the decision that clear needs\n\
-        its level is not above the rest, or learn's level is outside its range\n\
-        a term's sort or head is wrong for the step, or the value does not suit it\n\
-        no shared decision\n\
-        \n\
-        the clause does not match the members, or one is named twice\n\
-        fail is the line at level 0, clash the one above it\n\
-        the value contradicts an equation on the trail\n\
-        \n\n\
-        above a ceiling\n\
-        malformed\n\
-        a lent buffer is short";
-    put(line(table, n as usize), at, out)
-}
-
-// Stores the number of a refusal and its words.
-fn put_what(n: u16, at: usize, out: &mut [u8]) -> usize
-    requires { at ≤ 1024 }
-    ensures { Put 1045 (what_part n) at result out.old out.new }
-{
-    let number = put_number(n as u64, at, out);
-    let space = put(b" ", number, out);
-    put_meaning(n, space, out)
-}
-
-// Stores the words of a cause. In the table line n is that of the cause with number n.
-fn put_cause(n: u16, at: usize, out: &mut [u8]) -> usize
-    requires { at ≤ 2048 }
-    ensures { Put 1024 (cause n) at result out.old out.new }
-{
-    let table = b"\n\
-        a byte order mark stands before the header\n\
-        a carriage return, where lines end with a newline alone\n\
-        the line has more than 525 bytes\n\
-        this is not the sheet's header line\n\
-        an empty line after the last sheet\n\
-        a tab or another byte that no field may have\n\
-        not as many fields as the sheet has columns, or not single spaces\n\
-        a name of more than 64 bytes\n\
-        neither true, false, - nor a number up to 65534 without leading zeros\n\
-        the text ends before the header of the step sheet\n\
-        the last line has no newline\n\
-        fail was meant\n\
-        clash was meant";
-    put(line(table, n as usize), at, out)
-}
-
-// Stores the cause, where there is one.
-fn put_why(why: u16, at: usize, out: &mut [u8]) -> usize
-    requires { at ≤ 1536 }
-    ensures { Put 1026 (why_part why) at result out.old out.new }
-{
-    if why == 0 {
-        return at;
-    }
-    let colon = put(b": ", at, out);
-    put_cause(why, colon, out)
+    if is_told { part } else { &[] }
 }
 
 // The line for a person: answers how many bytes it is, and `out` holds it, cut where it is short, and then zeros. Nothing where there is no fault.
 pub fn tell(c: Complaint, out: &mut [u8]) -> usize
     ensures { Laid (length out.old) (complained c) result out.new }
 {
-    buffers::clear_bytes(out);
-    let number = c.number;
-    if number == 0 {
-        return 0;
+    if c.number == 0 {
+        return lay(&[], out);
     }
-    let place = put_where(c.line, c.field, 0, out);
-    let what = put_what(number, place, out);
-    let why = put_why(c.why, what, out);
-    put(b"\n", why, out)
+    let in_line = c.line != 0;
+    let in_field = in_line & (c.field != 0);
+    let is_caused = c.why != 0;
+    let line = decimal(c.line);
+    let field = decimal(c.field);
+    let number = decimal(u64::from(c.number));
+    lay(
+        &[
+            told(in_line, b"line "),
+            told(in_line, line.bytes()),
+            told(in_field, b", field "),
+            told(in_field, field.bytes()),
+            told(in_line, b": "),
+            number.bytes(),
+            SPACE,
+            meaning(c.number),
+            told(is_caused, b": "),
+            told(is_caused, cause(c.why)),
+            NEWLINE,
+        ],
+        out,
+    )
 }
