@@ -1,5 +1,5 @@
 -- Laws of the loop that splits a line: what the fields from a place on say, and the marks so far.
-use Prim.Native.Nat.{ℕ, suc, ◌+◌, ◌-◌, ◌*◌, ◌≤◌, ◌<◌}
+use Prim.Native.Nat.{ℕ, suc, ◌+◌, ◌-◌, ◌≤◌, ◌<◌}
 use mathlib.Core.Path.{◌≡◌, refl, ap, sym, ◌∙◌}
 use mathlib.Core.Bool.{Bool, true, false}
 use mathlib.Core.List.{List, [], ◌∷◌}
@@ -8,12 +8,12 @@ use native.Mathlib.Omega.{arith}
 use borrow.Author.Tests.{eq-eqb, ne_eqb, eqb-true, eqb-false, le-leb}
 use lib.Dec.{eqb, leb}
 use lib.ListN.{length, take, drop, get_or, set, length-drop, length-set}
-use lib.Seq.{drop-drop, get_or-drop, get_or-set_same, get_or-set_other, length-take-le, take_all}
+use Rattle.std.proofs.Common.{◌++◌, append_assoc, append-nil}
+use Rattle.std.proofs.lemmas.List.{take_more_set}
+use lib.Seq.{drop-drop, get_or-drop, length-take-le, take_all}
 use Rattle.text_fields.specs.Split.{pick, before, prepend, pieces}
 use Rattle.text_fields.specs.Class.{class_of, is_space, is_name, named, run, name_end}
 use Rattle.text_fields.specs.Shape.{filled, spaced, fields_are}
-use Rattle.text_fields.specs.declared.Shape.TheVariants.{Good, Faulty}
-use Rattle.text_fields.specs.Marks.{FieldAt, Marked}
 use Rattle.text_fields.proofs.Laws.{space_is, pick_both}
 use Rattle.text_columns.proofs.Cut.{pieces_one, pieces_cut, run_before, run_named, name_parted}
 
@@ -103,68 +103,35 @@ fields_none l from n is h =
           three true = refl
           three false = rw (prepended b (pieces 32 bs) (head_of_lem 32 bs), p) (pick_both (leb 1 (length (b ∷ get_or (pieces 32 bs) 0 []))) refl refl)
 
--- where the loop stands: k fields are marked, and what is left begins at `from`
-pub record Splitting (l : List ℕ) (n : ℕ) (m : List ℕ) (from k : ℕ) : Type 0 where
-  pub long : length m ≡ 18
+-- where the loop stands: k fields are cut, and what is left begins at `from`
+pub record Splitting (l : List ℕ) (n : ℕ) (m : List (List ℕ)) (from k : ℕ) : Type 0 where
+  pub long : length m ≡ n
   pub in_line : from ≤ length l
   pub says : fields_are (n - k) (pieces 32 (drop from l)) ≡ fields_are n (pieces 32 l)
-  pub those : drop k (pieces 32 l) ≡ pieces 32 (drop from l)
-  pub marked : Marked l m k
+  pub those : take k m ++ pieces 32 (drop from l) ≡ pieces 32 l
 
-pub split_start : (l : List ℕ) (n : ℕ) (m : List ℕ) → length m ≡ 18 → Splitting l n m 0 0
+pub split_start : (l : List ℕ) (n : ℕ) (m : List (List ℕ)) → length m ≡ n → Splitting l n m 0 0
 split_start l n m h = record {
   long = h;
   in_line = omega arith;
   says = let z : n - 0 ≡ n = omega arith in rw z;
   those = refl;
-  marked = λ k h. absurd (omega arith);
 }
 
-abbrev pub marks_on : List ℕ → ℕ → ℕ → ℕ → List ℕ
-marks_on m k from e = set (set m (k * 2) from) (k * 2 + 1) e
-
-module _ (l : List ℕ) (n : ℕ) (m : List ℕ) (from k e : ℕ) (s : Splitting l n m from k) (is : e ≡ name_end l from) (room : k < n) where
+module _ (l : List ℕ) (n : ℕ) (m : List (List ℕ)) (from k e : ℕ) (s : Splitting l n m from k) (is : e ≡ name_end l from) (room : k < n) where
   pub split_none : e ≡ from → false ≡ fields_are n (pieces 32 l)
   split_none h = sym (fields_none l from (n - k) (sym h ∙ is) s.in_line) ∙ s.says
 
   pub split_stop : e < length l → is_space (class_of (get_or l e 0)) ≡ false → false ≡ fields_are n (pieces 32 l)
   split_stop h p = sym (fields_stop l from e (n - k) is s.in_line h p) ∙ s.says
 
-  module _ (few : n ≤ 9) (some : from < e) (most : e ≤ length l) where
-    old : (i v : ℕ) → (i < k * 2) → get_or (marks_on m k from e) i 0 ≡ get_or m i 0
-    old i v h =
-        get_or-set_other (set m (k * 2) from) (k * 2 + 1) i e 0 (λ q. omega arith)
-        ∙ get_or-set_other m (k * 2) i from 0 (λ q. omega arith)
+  -- the field that is cut
+  abbrev pub cut : List ℕ
+  cut = take (e - from) (drop from l)
 
-    new_from : get_or (marks_on m k from e) (k * 2) 0 ≡ from
-    new_from =
-        get_or-set_other (set m (k * 2) from) (k * 2 + 1) (k * 2) e 0 (λ q. omega arith)
-        ∙ get_or-set_same m (k * 2) from 0 (omega (arith, s.long))
-
-    new_to : get_or (marks_on m k from e) (k * 2 + 1) 0 ≡ e
-    new_to = get_or-set_same (set m (k * 2) from) (k * 2 + 1) e 0 (omega (arith, length-set m (k * 2) from, s.long))
-
-    marked_on : get_or (pieces 32 l) k [] ≡ take (e - from) (drop from l) → Marked l (marks_on m k from e) (k + 1)
-    marked_on f j h = go (eqb j k) refl where
-      go : (t : Bool) → eqb j k ≡ t → FieldAt l (marks_on m k from e) j
-      go true q =
-          let z : j ≡ k = eqb-true j k q in
-          rw z (record { ordered = rw (new_from, new_to) (omega arith); inside = rw new_to most; holds = rw (new_from, new_to) f })
-      go false q =
-          let z = eqb-false j k q in
-          let lt : j < k = omega arith in
-          let w = s.marked j lt in
-          record {
-            ordered = rw (old (j * 2) 0 (omega arith), old (j * 2 + 1) 0 (omega arith)) w.ordered;
-            inside = rw (old (j * 2 + 1) 0 (omega arith)) w.inside;
-            holds = rw (old (j * 2) 0 (omega arith), old (j * 2 + 1) 0 (omega arith)) w.holds;
-          }
-
-    here : (ps : List (List ℕ)) → pieces 32 (drop from l) ≡ take (e - from) (drop from l) ∷ ps → get_or (pieces 32 l) k [] ≡ take (e - from) (drop from l)
-    here ps p =
-        let z : get_or (drop k (pieces 32 l)) 0 [] ≡ get_or (pieces 32 l) (k + 0) [] = get_or-drop k (pieces 32 l) 0 [] in
-        let y : k + 0 ≡ k = omega arith in
-        sym (rw y at z) ∙ ap (λ (fs : List (List ℕ)). get_or fs 0 []) (s.those ∙ p)
+  module _ (some : from < e) where
+    with_cut : (ps : List (List ℕ)) → pieces 32 (drop from l) ≡ cut ∷ ps → take (k + 1) (set m k cut) ++ ps ≡ pieces 32 l
+    with_cut ps p = rw (take_more_set m k cut (omega (arith, s.long)), append_assoc) (ap (λ (x : List (List ℕ)). take k m ++ x) (sym p) ∙ s.those)
 
     pub split_last : e ≡ length l → eqb (k + 1) n ≡ fields_are n (pieces 32 l)
     split_last h = count ∙ sym (fields_last l from e (n - k) is s.in_line some h) ∙ s.says where
@@ -174,32 +141,29 @@ module _ (l : List ℕ) (n : ℕ) (m : List ℕ) (from k e : ℕ) (s : Splitting
         go true q = let z = eqb-true (k + 1) n q in eq-eqb (k + 1) n z ∙ sym (eq-eqb 1 (n - k) (omega arith))
         go false q = let z = eqb-false (k + 1) n q in ne_eqb (k + 1) n z ∙ sym (ne_eqb 1 (n - k) (λ y. z (omega arith)))
 
-    pub last_marked : e ≡ length l → eqb (k + 1) n ≡ true → Marked l (marks_on m k from e) n
-    last_marked h t = let z = eqb-true (k + 1) n t in rw (sym z) (marked_on (here [] (pieces_last l from e n is s.in_line h)))
+    pub all_cut : e ≡ length l → eqb (k + 1) n ≡ true → set m k cut ≡ pieces 32 l
+    all_cut h t =
+        let z = eqb-true (k + 1) n t in
+        sym (take_all (k + 1) (set m k cut) (omega (arith, length-set m k cut, s.long)))
+        ∙ sym (append-nil (take (k + 1) (set m k cut)))
+        ∙ with_cut [] (pieces_last l from e n is s.in_line h)
 
-    pub split_more : e < length l → get_or l e 0 ≡ 32 → Splitting l n (marks_on m k from e) (e + 1) (k + 1)
-    split_more h p =
+    pub split_more : e ≤ length l → e < length l → get_or l e 0 ≡ 32 → Splitting l n (set m k cut) (e + 1) (k + 1)
+    split_more most h p =
         let c = pieces_more l from e n is s.in_line h p in
         let z : n - k ≡ suc (n - (k + 1)) = omega arith in
         let f = first_filled l from e n is s.in_line some most in
         record {
-          long = length-set (set m (k * 2) from) (k * 2 + 1) e ∙ length-set m (k * 2) from ∙ s.long;
+          long = length-set m k cut ∙ s.long;
           in_line = omega arith;
-          says = sym (ap (fields_are (n - k)) c ∙ fields_cons (n - k) (n - (k + 1)) (take (e - from) (drop from l)) (pieces 32 (drop (e + 1) l)) f z) ∙ s.says;
-          those = sym (drop-drop 1 k (pieces 32 l)) ∙ ap (drop 1) (s.those ∙ c);
-          marked = marked_on (here (pieces 32 (drop (e + 1) l)) c);
+          says = sym (ap (fields_are (n - k)) c ∙ fields_cons (n - k) (n - (k + 1)) cut (pieces 32 (drop (e + 1) l)) f z) ∙ s.says;
+          those = with_cut (pieces 32 (drop (e + 1) l)) c;
         }
 
 -- more fields than columns
-pub split_over : (l : List ℕ) (n : ℕ) (m : List ℕ) (from k : ℕ) → Splitting l n m from k → n ≤ k → false ≡ fields_are n (pieces 32 l)
+pub split_over : (l : List ℕ) (n : ℕ) (m : List (List ℕ)) (from k : ℕ) → Splitting l n m from k → n ≤ k → false ≡ fields_are n (pieces 32 l)
 split_over l n m from k s h =
     let z : n - k ≡ 0 = omega arith in
     sym (rw z (pick_both (spaced (pieces 32 (drop from l)))
     (ne_eqb (length (pieces 32 (drop from l))) 0 (λ e. omega (arith, head_of_lem 32 (drop from l)))) refl))
     ∙ s.says
-
-pub no_marks : (l m : List ℕ) (n : ℕ) → ◌≡◌ {A = Bool} false true → Marked l m n
-no_marks l m n e = absurd (let z : ◌≡◌ {A = ℕ} 0 1 = cc in omega arith)
-
-pub not_good : (l m : List ℕ) (n place : ℕ) → Faulty place ≡ Good → Marked l m n
-not_good l m n place e = absurd (let z : ◌≡◌ {A = ℕ} 0 1 = cc in omega arith)

@@ -3,5 +3,4 @@ pub mod Class
 pub mod Number
 pub mod Words
 pub mod Shape
-pub mod Marks
 pub mod Fours

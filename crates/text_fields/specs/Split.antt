@@ -1,5 +1,6 @@
 -- How a text is cut: bytes into lines, and a line into fields.
-use Rattle.std.specs.Prelude.{ℕ, suc, Bool, true, false, List, [], ◌∷◌, eqb}
+use Rattle.std.specs.Prelude.{ℕ, suc, Bool, true, false, List, [], ◌∷◌, eqb, map}
+use Rattle.std.specs.Borrow.{Bor}
 use Prim.Native.Char.{code}
 use Prim.Native.String.{String, [] as none, ◌∷◌ as ◌then◌}
 
@@ -27,6 +28,10 @@ prepend b (p ∷ ps) = (b ∷ p) ∷ ps
 abbrev pub pieces : ℕ → List ℕ → List (List ℕ)
 pieces c [] = [] ∷ []
 pieces c (b ∷ bs) = pick (eqb b c) ([] ∷ pieces c bs) (prepend b (pieces c bs))
+
+-- the bytes of slices, one after the other
+abbrev pub contents : List (Bor (List ℕ)) → List (List ℕ)
+contents = map (λ f. f.now)
 
 -- whether two lists of bytes are the same, all bytes of them
 abbrev pub same : List ℕ → List ℕ → Bool

@@ -3,11 +3,11 @@
 
 ghost use Rattle.std.specs.Prelude.{◌≡◌, false, ◌+◌, ◌≤◌, length, drop};
 ghost use Rattle.text_fields.specs.Split.{before, same as sameBytes};
-ghost use Rattle.text_fields.specs.Class.{class_of, is_newline, class_table};
+ghost use Rattle.text_fields.specs.Class.{class_of, is_newline, letter};
 ghost use Rattle.text_fields.specs.Fours.{Passes};
 
 // The class of a byte.
-#[derive(Clone, Copy)]
+#[derive(Clone, Copy, PartialEq, Eq)]
 pub enum ByteClass {
     Space,
     Newline,
@@ -15,11 +15,8 @@ pub enum ByteClass {
     Other,
 }
 
-// A letter for each byte.
-pub type Classes = [u8; 256];
-
 // The classes of the bytes, sixteen to a row: `S` a space, `L` a newline, `N` part of a name, `.` none of these.
-const CLASSES: Classes = *b"\
+static CLASSES: [u8; 256] = *b"\
     ..........L.....\
     ................\
     SNNNNNNNNNNNNNNN\
@@ -38,31 +35,23 @@ const CLASSES: Classes = *b"\
     ................\
 ";
 
-// The table of the classes. It is written where it is asked for: whoever asks about many bytes has it once and lends it.
-pub fn classes() -> Classes
-    ensures { result ≡ class_table }
+// The letter of a byte's class, from the table. Every question about a byte's class is asked here.
+fn letter_of(b: u8) -> u8
+    ensures { result ≡ letter (class_of b) }
 {
-    CLASSES
+    CLASSES[usize::from(b)]
 }
 
-// The class of a byte, by the table. Every question about a byte's class is asked here.
-pub fn class_in(classes: &Classes, b: u8) -> ByteClass
-    requires { classes.now ≡ class_table }
+// The class of a byte.
+pub fn byte_class(b: u8) -> ByteClass
     ensures { result ≡ class_of b }
 {
-    match classes[b as usize] {
+    match letter_of(b) {
         b'S' => ByteClass::Space,
         b'L' => ByteClass::Newline,
         b'N' => ByteClass::Name,
         _ => ByteClass::Other,
     }
-}
-
-// The class of a single byte.
-pub fn byte_class(b: u8) -> ByteClass
-    ensures { result ≡ class_of b }
-{
-    class_in(&classes(), b)
 }
 
 // Whether `c` stands among some bytes. All bytes are asked, with no way out: so several are asked at once.
@@ -166,10 +155,5 @@ pub fn same(a: &[u8], b: &[u8]) -> bool
 pub fn is_newline(b: u8) -> bool
     ensures { result ≡ is_newline (class_of b) }
 {
-    match byte_class(b) {
-        ByteClass::Newline => true,
-        ByteClass::Space => false,
-        ByteClass::Name => false,
-        ByteClass::Other => false,
-    }
+    byte_class(b) == ByteClass::Newline
 }

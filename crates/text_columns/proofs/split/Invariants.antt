@@ -1,10 +1,8 @@
--- A line is split: what is left of it says the same as the whole, and the fields so far are marked.
-use Prim.Native.Nat.{◌-◌, ◌≤◌}
+-- A line is split: what is left of it says the same as the whole, and the fields so far are cut.
+use lib.ListN.{length}
+use Rattle.text_fields.specs.Split.{contents}
 use Rattle.text_columns.proofs.Splits.{Splitting}
 use Rattle.text_columns.proofs.split.Given as goal
 
 abbrev pub invariant-loop-k : goal.invariant-loop-k
-invariant-loop-k l = (l.k ≤ l.columns) × Splitting l.line l.columns l.marks l.from l.k
-
-abbrev pub decreases-loop-k : goal.decreases-loop-k
-decreases-loop-k l = l.columns - l.k
+invariant-loop-k l = Splitting l.line (length l.initial.fields) (contents l.fields) l.from l.k
