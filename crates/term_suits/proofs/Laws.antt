@@ -1,49 +1,66 @@
 -- The arguments of a term row, column by column; a free head's uses; what each head asks, by what the code has read.
-use mathlib.Core.Path.{◌≡◌, refl, sym, ◌∙◌}
-use mathlib.Core.Bool.{Bool, true, false, not, ◌&&◌, ◌||◌, cond, true≢false, and-true, and-false}
+use mathlib.Core.Path.{◌≡◌, refl, sym, ap, ◌∙◌}
+use mathlib.Core.Bool.{Bool, true, false, not, ◌&&◌, cond, true≢false, and-true, and-false}
 use mathlib.Core.List.{List, [], ◌∷◌, map}
-use Prim.Native.Nat.{ℕ}
+use Prim.Native.Nat.{ℕ, suc, ◌+◌}
 use native.Mathlib.Omega.{arith}
-use lib.ListN.{length}
-use lib.Dec.{eqb, leb}
-use borrow.Author.Tests.{eqb-true, eq-eqb}
-use Rattle.calculus.specs.declared.Head.{Head}
-use Rattle.calculus.specs.declared.Head.TheVariants.{Equality, Negation, Conjunction, Disjunction, Select, Store, Free, Unlisted}
+use lib.ListN.{length, take}
+use lib.Dec.{eqb, leb, ltb}
+use native.Mathlib.Numerals.{one-add}
+use Rattle.std.specs.Prelude.{Option, Some, None, unwrap_or, zip}
+use Rattle.std.proofs.lemmas.List.Sums.{prefix_len-le-length}
+use Rattle.std.specs.List.{list_all, position_or_len}
+use borrow.Author.Tests.{eqb-true, eq-eqb, ltb-false}
+use Rattle.calculus.specs.declared.Head.TheVariants.{Free}
 use Rattle.calculus.specs.declared.Term.{Term}
-use Rattle.calculus.proofs.Facts.{both_true, none_true}
+use Rattle.calculus.proofs.Facts.{both_true}
 use Rattle.calculus.specs.Lists.{all, eq_list}
 use Rattle.calculus.specs.Sheets.{blank, sort_rows}
-use Rattle.calculus.specs.Sorts.{is_array, index_sort, value_sort}
-use Rattle.calculus.specs.Terms.{head, sort, prop, cells, filled, args, arg, args_of, term_at, head_of, suits, same_use, first_use}
-use Rattle.term_suits.specs.Suits.{Known, equates, connects}
+use Rattle.calculus.specs.Terms.{head, sort, prop, filled, args, head_of, suits, same_use, first_use}
+use Rattle.term_suits.specs.Suits.{Known}
 
--- ---- arguments, one more column in front
+-- ---- arguments
 
--- one side is at its end, and the other is not
-pub sorts_end : (f : ℕ → ℕ) (x y : ℕ) (xs ys : List ℕ) → (x ≡ y → ⊥) → (eqb x blank || eqb y blank) ≡ true
-    → false ≡ eq_list (map f (filled (x ∷ xs))) (map f (filled (y ∷ ys)))
-sorts_end f x y xs ys d e = go (eqb x blank) refl (eqb y blank) refl e
+-- the columns before the first blank
+pub filled_is : (xs : List ℕ) → take (position_or_len (λ x. eqb x blank) xs) xs ≡ filled xs
+filled_is [] = refl
+filled_is (x ∷ xs) = go (eqb x blank) (filled_is xs)
   where
-    go : (g : Bool) → eqb x blank ≡ g → (h : Bool) → eqb y blank ≡ h → (g || h) ≡ true
-        → false ≡ eq_list (map f (cond g [] (x ∷ filled xs))) (map f (cond h [] (y ∷ filled ys)))
-    go true p true q r = absurd (d (eqb-true x blank p ∙ sym (eqb-true y blank q)))
-    go true p false q r = refl
-    go false p true q r = refl
-    go false p false q r = absurd (true≢false (sym r))
+    go : (g : Bool) → take (position_or_len (λ y. eqb y blank) xs) xs ≡ filled xs
+        → take (cond (not g) (1 + position_or_len (λ y. eqb y blank) xs) 0) (x ∷ xs) ≡ cond g [] (x ∷ filled xs)
+    go true e = refl
+    go false e = rw (one-add, e)
 
--- both sides go on
-pub sorts_more : (f : ℕ → ℕ) (x y : ℕ) (xs ys : List ℕ) → (eqb x blank || eqb y blank) ≡ false
-    → eq_list (map f (filled (x ∷ xs))) (map f (filled (y ∷ ys))) ≡ (eqb (f x) (f y) && eq_list (map f (filled xs)) (map f (filled ys)))
-sorts_more f x y xs ys e = let n = none_true (eqb x blank) (eqb y blank) e in rw (n.0, n.1)
-
--- one term on both sides
-pub sorts_same : (f : ℕ → ℕ) (x y : ℕ) (xs ys : List ℕ) → x ≡ y
-    → eq_list (map f (filled (x ∷ xs))) (map f (filled (y ∷ ys))) ≡ (eqb x blank || eq_list (map f (filled xs)) (map f (filled ys)))
-sorts_same f x y xs ys e = rw (← e) (go (eqb x blank))
+-- where the first blank is, or where the columns end
+pub first_blank : (xs : List ℕ) (o : Option ℕ) → let n = position_or_len (λ x. eqb x blank) xs in o ≡ cond (ltb n (length xs)) (Some n) None
+    → take (unwrap_or o (length xs)) xs ≡ filled xs
+first_blank xs o e = rw e (go (ltb (position_or_len (λ x. eqb x blank) xs) (length xs)) refl)
   where
-    go : (g : Bool) → eq_list (map f (cond g [] (x ∷ filled xs))) (map f (cond g [] (x ∷ filled ys))) ≡ (g || eq_list (map f (filled xs)) (map f (filled ys)))
-    go true = refl
-    go false = rw (eq-eqb (f x) (f x) refl)
+    go : (g : Bool) → ltb (position_or_len (λ x. eqb x blank) xs) (length xs) ≡ g
+        → take (unwrap_or (cond g (Some (position_or_len (λ x. eqb x blank) xs)) None) (length xs)) xs ≡ filled xs
+    go true q = filled_is xs
+    go false q =
+        let n : length xs ≡ position_or_len (λ x. eqb x blank) xs = omega (arith, ltb-false, prefix_len-le-length (λ x. not (eqb x blank)) xs) in
+        rw n (filled_is xs)
+
+-- what `all` answers of a list
+pub all_is : (p : ℕ → Bool) (xs : List ℕ) → list_all p xs ≡ all p xs
+all_is p [] = refl
+all_is p (x ∷ xs) = rw (all_is p xs)
+
+-- two lists side by side
+pub same_zip : (f : ℕ → ℕ) (xs ys : List ℕ) → length xs ≡ length ys
+    → list_all (λ p. eqb (f p.0) (f p.1)) (zip xs ys) ≡ eq_list (map f xs) (map f ys)
+same_zip f [] [] e = refl
+same_zip f [] (y ∷ ys) e = absurd (omega arith)
+same_zip f (x ∷ xs) [] e = absurd (omega arith)
+same_zip f (x ∷ xs) (y ∷ ys) e = rw (same_zip f xs ys (omega arith))
+
+pub same_length : (f : ℕ → ℕ) (xs ys : List ℕ) → (length xs ≡ length ys → ⊥) → eq_list (map f xs) (map f ys) ≡ false
+same_length f [] [] d = absurd (d refl)
+same_length f [] (y ∷ ys) d = refl
+same_length f (x ∷ xs) [] d = refl
+same_length f (x ∷ xs) (y ∷ ys) d = rw (same_length f xs ys (λ e. d (ap suc e)), and-false)
 
 -- ---- the use of a head
 
@@ -89,44 +106,3 @@ free_again ss ts t u K h d s = s ∙ go (same_use ts u t) refl
         let b = alike ts u t e in
         rw (← K.first, e, and-true, ← b.0, ← same_plain (sort ts) (args ts u) (args ts t) b.1, suited)
     go false e = rw (← K.first, e, and-false)
-
--- ---- what a head asks of row t, read as e
-
-module _ (ss ts : List ℕ) (t : ℕ) {e : Term} (row : e ≡ term_at ts t) where
-  pub select_is : {n a b i v : ℕ} {y : Bool} → n ≡ length (args_of e) → a ≡ sort ts e.a → b ≡ sort ts e.b
-      → y ≡ is_array ss a → i ≡ index_sort ss a → v ≡ value_sort ss a
-      → (eqb n 2 && y && eqb b i && eqb e.sort v) ≡ suits ss ts t Select
-  unfolding suits args arg cells
-  select_is n a b y i v = rw (v, i, y, b, a, n, row)
-
-  pub store_is : {n a b d i v : ℕ} {y : Bool} → n ≡ length (args_of e) → a ≡ sort ts e.a → b ≡ sort ts e.b → d ≡ sort ts e.c
-      → y ≡ is_array ss e.sort → i ≡ index_sort ss e.sort → v ≡ value_sort ss e.sort
-      → (eqb n 3 && y && eqb a e.sort && eqb b i && eqb d v) ≡ suits ss ts t Store
-  unfolding suits args arg cells
-  store_is n a b d y i v = rw (v, i, y, d, b, a, n, row)
-
-  -- a head k, and what its test answers
-  module _ {k : Head} {r : Bool} where
-    pub suits_equality_is : k ≡ Equality → r ≡ equates ts e → r ≡ suits ss ts t k
-    unfolding suits args arg cells
-    suits_equality_is p q = rw (p, q, row)
-
-    pub suits_negation_is : {n : ℕ} → k ≡ Negation → n ≡ length (args_of e) → r ≡ connects ts e (eqb n 1) → r ≡ suits ss ts t k
-    unfolding suits args arg cells
-    suits_negation_is p n q = rw (p, q, n, row)
-
-    pub suits_and_is : {n : ℕ} → k ≡ Conjunction → n ≡ length (args_of e) → r ≡ connects ts e (leb 2 n) → r ≡ suits ss ts t k
-    unfolding suits args arg cells
-    suits_and_is p n q = rw (p, q, n, row)
-
-    pub suits_or_is : {n : ℕ} → k ≡ Disjunction → n ≡ length (args_of e) → r ≡ connects ts e (leb 2 n) → r ≡ suits ss ts t k
-    unfolding suits args arg cells
-    suits_or_is p n q = rw (p, q, n, row)
-
--- a head whose test says it of the row
-pub suits_at : (ss ts : List ℕ) (t : ℕ) {k : Head} {r : Bool} (h : Head) → k ≡ h → r ≡ suits ss ts t h → r ≡ suits ss ts t k
-suits_at ss ts t h p q = rw (p, q)
-
-pub suits_unlisted : (ss ts : List ℕ) (t : ℕ) {k : Head} → k ≡ Unlisted → false ≡ suits ss ts t k
-unfolding suits
-suits_unlisted ss ts t p = rw p

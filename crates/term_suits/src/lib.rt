@@ -1,108 +1,84 @@
 // Whether a term row suits its head (number 4): the sorts of its arguments, and the use of a free head.
 #![tactic(auto)]
 
-ghost use Rattle.std.specs.Prelude.{◌≡◌, List, ◌∷◌, ℕ, ◌+◌, ◌<◌, ◌≤◌, length};
-ghost use Rattle.calculus.specs.Terms.{head, filled, cells_of, args_of, head_of, same_use, suits, term_at};
+ghost use Rattle.std.specs.Prelude.{◌≡◌, length, map};
+ghost use Rattle.calculus.specs.Lists.{eq_list};
+ghost use Rattle.calculus.specs.Terms.{head, sort, prop, filled, cells_of, args_of, head_of, same_use, suits, term_at};
 ghost use Rattle.rows.specs.Rows.{Whole};
-ghost use Rattle.term_suits.specs.Suits.{all_props, all_plain, same_sorts, equates, connects, Known};
+ghost use Rattle.term_suits.specs.Suits.{all_props, all_plain, equates, connects, Known};
 
 use calculus::{Head, Row, Sort, Term};
 use rows::BLANK;
 
-// ---- arguments, a column at a time from the last one
+// ---- arguments
 
-// How many arguments stand from column x on, where `rest` stand after it.
-fn more_count(x: u16, rest: u16) -> u16
-    requires { rest < 4 }
-    ensures by_index { (xs : List ℕ) → rest ≡ length (filled xs) → result ≡ length (filled (x ∷ xs)) }
-    ensures upper_bound { result ≤ rest + 1 }
+// The arguments in these columns: those before the first blank.
+fn args(cells: &[u16]) -> &[u16]
+    ensures { result.now ≡ filled cells.now }
 {
-    if x == BLANK { 0 } else { rest + 1 }
+    let n = cells
+        .iter()
+        .position(|x| *x == BLANK)
+        .unwrap_or(cells.len());
+    &cells[..n]
 }
 
 // How many arguments a row has.
-fn count(e: Term) -> u16
+fn count(e: Term) -> usize
     ensures { result ≡ length (args_of e) }
 {
-    let d = more_count(e.d, 0);
-    let c = more_count(e.c, d);
-    let b = more_count(e.b, c);
-    more_count(e.a, b)
+    args(&[e.a, e.b, e.c, e.d]).len()
 }
 
-// Whether the arguments from column x on are props, where `rest` says it of those after it.
-fn more_prop(terms: &[u16], x: u16, rest: bool) -> bool
-    ensures { (xs : List ℕ) → rest ≡ all_props terms.now xs → result ≡ all_props terms.now (x ∷ xs) }
+// Whether a term is a prop.
+fn is_prop(terms: &[u16], t: Row) -> bool
+    ensures { result ≡ prop terms.now t.0 }
 {
-    if x == BLANK {
-        return true;
-    }
-    let s = sheets::sort_of(terms, Row(x));
-    (s.0 == 0) & rest
+    sheets::sort_of(terms, t) == Sort(0)
 }
 
 // Whether all arguments of a row are props.
 fn all_props(terms: &[u16], e: Term) -> bool
     ensures { result ≡ all_props terms.now (cells_of e) }
 {
-    let d = more_prop(terms, e.d, true);
-    let c = more_prop(terms, e.c, d);
-    let b = more_prop(terms, e.b, c);
-    more_prop(terms, e.a, b)
-}
-
-// Whether no argument from column x on is a prop, where `rest` says it of those after it.
-fn more_plain(terms: &[u16], x: u16, rest: bool) -> bool
-    ensures { (xs : List ℕ) → rest ≡ all_plain terms.now xs → result ≡ all_plain terms.now (x ∷ xs) }
-{
-    if x == BLANK {
-        return true;
-    }
-    let s = sheets::sort_of(terms, Row(x));
-    !(s.0 == 0) & rest
+    args(&[e.a, e.b, e.c, e.d])
+        .iter()
+        .all(|a| is_prop(terms, Row(*a)))
 }
 
 // Whether no argument of a row is a prop.
 fn all_plain(terms: &[u16], e: Term) -> bool
     ensures { result ≡ all_plain terms.now (cells_of e) }
 {
-    if e.a == BLANK {
-        return true;
-    }
-    let d = more_plain(terms, e.d, true);
-    let c = more_plain(terms, e.c, d);
-    let b = more_plain(terms, e.b, c);
-    more_plain(terms, e.a, b)
+    args(&[e.a, e.b, e.c, e.d])
+        .iter()
+        .all(|a| !is_prop(terms, Row(*a)))
 }
 
-// Whether the arguments from columns x and y on are as many and of the same sorts, where `rest` says it of those after them.
-fn more_sort(terms: &[u16], x: u16, y: u16, rest: bool) -> bool
-    ensures { (xs ys : List ℕ) → rest ≡ same_sorts terms.now xs ys → result ≡ same_sorts terms.now (x ∷ xs) (y ∷ ys) }
+// Whether these arguments and those are as many and of the same sorts.
+fn same_sorts(terms: &[u16], xs: &[u16], ys: &[u16]) -> bool
+    ensures { result ≡ eq_list (map (sort terms.now) xs.now) (map (sort terms.now) ys.now) }
 {
-    if x == y {
-        return (x == BLANK) | rest;
-    }
-    if (x == BLANK) | (y == BLANK) {
-        return false;
-    }
-    let s = sheets::sort_of(terms, Row(x));
-    let t = sheets::sort_of(terms, Row(y));
-    (s.0 == t.0) & rest
+    xs.len() == ys.len()
+        && xs.iter().zip(ys).all(|(x, y)| sheets::sort_of(terms, Row(*x))
+            == sheets::sort_of(terms, Row(*y)))
 }
 
 // ---- the use of a free head
 
 // Whether rows u and t, row u whole and row t read as g, are of one sort, with as many arguments of the same sorts.
+#[tactic(auto, unfolding(calculus::specs::Terms::same_use, calculus::specs::Terms::args, calculus::specs::Terms::cells))]
 fn same_use(terms: &[u16], u: Row, t: Row, g: Term) -> bool
     requires { (g ≡ term_at terms.now t.0) × Whole terms.now u.0 }
     ensures { result ≡ same_use terms.now u.0 t.0 }
 {
     let e = rows::whole_term_at(terms, u);
-    let d = more_sort(terms, e.d, g.d, true);
-    let c = more_sort(terms, e.c, g.c, d);
-    let b = more_sort(terms, e.b, g.b, c);
-    let a = more_sort(terms, e.a, g.a, b);
-    (e.sort == g.sort) & a
+    e.sort == g.sort
+        && same_sorts(
+            terms,
+            args(&[e.a, e.b, e.c, e.d]),
+            args(&[g.a, g.b, g.c, g.d]),
+        )
 }
 
 // ---- a row's head, sort and arguments
@@ -111,8 +87,7 @@ fn same_use(terms: &[u16], u: Row, t: Row, g: Term) -> bool
 fn connective(terms: &[u16], e: Term, enough: bool) -> bool
     ensures { result ≡ connects terms.now e enough }
 {
-    let p = all_props(terms, e);
-    (e.sort == 0) & enough & p
+    (e.sort == 0) & enough & all_props(terms, e)
 }
 
 // Whether the row suits eq.
@@ -122,10 +97,11 @@ fn suits_equality(terms: &[u16], e: Term) -> bool
     let n = count(e);
     let a = sheets::sort_of(terms, Row(e.a));
     let b = sheets::sort_of(terms, Row(e.b));
-    (e.sort == 0) & (n == 2) & !(a.0 == 0) & (a.0 == b.0)
+    (e.sort == 0) & (n == 2) & (a != Sort(0)) & (a == b)
 }
 
 // Whether row t, read as e, suits select.
+#[tactic(auto, unfolding(calculus::specs::Terms::suits, calculus::specs::Terms::args, calculus::specs::Terms::arg, calculus::specs::Terms::cells))]
 fn suits_select(sorts: &[u16], terms: &[u16], t: Row, e: Term) -> bool
     requires { e ≡ term_at terms.now t.0 }
     ensures { result ≡ suits sorts.now terms.now t.0 Head.Select }
@@ -136,10 +112,11 @@ fn suits_select(sorts: &[u16], terms: &[u16], t: Row, e: Term) -> bool
     let y = sort_sheet::is_array(sorts, a);
     let i = sort_sheet::index_sort(sorts, a);
     let v = sort_sheet::value_sort(sorts, a);
-    (n == 2) & y & (b.0 == i.0) & (e.sort == v.0)
+    (n == 2) & y & (b == i) & (Sort(e.sort) == v)
 }
 
 // Whether row t, read as e, suits store.
+#[tactic(auto, unfolding(calculus::specs::Terms::suits, calculus::specs::Terms::args, calculus::specs::Terms::arg, calculus::specs::Terms::cells))]
 fn suits_store(sorts: &[u16], terms: &[u16], t: Row, e: Term) -> bool
     requires { e ≡ term_at terms.now t.0 }
     ensures { result ≡ suits sorts.now terms.now t.0 Head.Store }
@@ -152,23 +129,24 @@ fn suits_store(sorts: &[u16], terms: &[u16], t: Row, e: Term) -> bool
     let y = sort_sheet::is_array(sorts, s);
     let i = sort_sheet::index_sort(sorts, s);
     let v = sort_sheet::value_sort(sorts, s);
-    (n == 3) & y & (a.0 == e.sort) & (b.0 == i.0) & (c.0 == v.0)
+    (n == 3) & y & (a == s) & (b == i) & (c == v)
 }
 
 // Whether row t, read as e, suits its free head, which row u is the first to use.
 // An earlier row suits the head, so that to be used like it is enough.
+#[tactic(auto, using(crate::proofs::Laws::free_first, crate::proofs::Laws::free_again), unfolding(calculus::specs::Terms::args, calculus::specs::Terms::cells))]
 fn suits_free(sorts: &[u16], terms: &[u16], t: Row, e: Term, u: Row) -> bool
     requires { Known sorts.now terms.now t.0 e u.0 × (head_of (head terms.now t.0) ≡ Head.Free) }
     ensures { result ≡ suits sorts.now terms.now t.0 Head.Free }
 {
-    if u.0 == t.0 {
-        let p = all_plain(terms, e);
-        return (e.sort as usize <= sorts.len() / 2) & p;
+    if u == t {
+        return (usize::from(e.sort) <= sorts.len() / 2) & all_plain(terms, e);
     }
     same_use(terms, u, t, e)
 }
 
 // Whether row t, read as e, suits its head k, which row u is the first to use.
+#[tactic(auto, unfolding(calculus::specs::Terms::suits, calculus::specs::Terms::args, calculus::specs::Terms::arg, calculus::specs::Terms::cells))]
 pub fn suits_head(sorts: &[u16], terms: &[u16], t: Row, e: Term, k: Head, u: Row) -> bool
     requires { Known sorts.now terms.now t.0 e u.0 × (head_of (head terms.now t.0) ≡ k) }
     ensures { result ≡ suits sorts.now terms.now t.0 k }
@@ -176,8 +154,7 @@ pub fn suits_head(sorts: &[u16], terms: &[u16], t: Row, e: Term, k: Head, u: Row
     match k {
         Head::Equality => suits_equality(terms, e),
         Head::Negation => connective(terms, e, count(e) == 1),
-        Head::Conjunction => connective(terms, e, 2 <= count(e)),
-        Head::Disjunction => connective(terms, e, 2 <= count(e)),
+        Head::Conjunction | Head::Disjunction => connective(terms, e, 2 <= count(e)),
         Head::Select => suits_select(sorts, terms, t, e),
         Head::Store => suits_store(sorts, terms, t, e),
         Head::Free => suits_free(sorts, terms, t, e, u),

@@ -1,21 +1,16 @@
 -- `term_suits::all_plain` meets its contract.
-use Rattle.calculus.proofs.Forms.{all_blank}
-use Rattle.calculus.specs.Terms.{prop}
 use mathlib.Core.Bool.{not}
-use mathlib.Core.List.{[], ◌∷◌}
-use mathlib.Core.Path.{refl, sym}
-use borrow.Author.Tests.{eq-eqb}
+use mathlib.Core.Path.{◌∙◌}
+use borrow.Author.Rules.{rules}
+use Rattle.calculus.specs.Terms.{prop, args_of}
+use Rattle.std.proofs.Common.{tests}
+use Rattle.std.proofs.lemmas.Iterator.{YieldsList-from_slice}
+use Rattle.std.proofs.lemmas.Iterator.Search.{all_from_yields_List}
+use Rattle.term_suits.proofs.Laws.{all_is}
 use Rattle.term_suits.proofs.all_plain.Goals as goal
-
-pub returns-then-e-eq-BLANK : goal.returns-then-e-eq-BLANK
-returns-then-e-eq-BLANK c =
-    let e = c.args.e in
-    sym (all_blank (λ a. not (prop c.args.terms.now a)) e.a (e.b ∷ e.c ∷ e.d ∷ []) (eq-eqb _ _ c.if-e-eq-BLANK.true))
 
 pub returns : goal.returns
 returns c =
-    let e = c.args.e in
-    let d = c.more_plain-d.ensures [] refl in
-    let two = c.more_plain-c.ensures (e.d ∷ []) d in
-    let three = c.more_plain-b.ensures (e.c ∷ e.d ∷ []) two in
-    c.more_plain.ensures (e.b ∷ e.c ∷ e.d ∷ []) three
+    all_from_yields_List (λ a. not (prop c.args.terms.now a)) _ _ _ c.all.ensures.ran (YieldsList-from_slice (args_of c.args.e) cc)
+    (λ x b q k. search (rules, tests))
+    ∙ all_is (λ a. not (prop c.args.terms.now a)) (args_of c.args.e)
