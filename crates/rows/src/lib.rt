@@ -9,13 +9,15 @@ ghost use Rattle.rows.specs.Rows.{Whole};
 use calculus::{Row, Step, Term};
 
 // What a column holds where nothing is filled in.
+// Stays: a number in place of an Option, since a sheet is lent through the C interface with this number in it, and `filled` and `blank` of the calculus
+// say what it means there.
 pub const BLANK: u16 = 65535;
 
 // The number at i; 0 past the end.
 pub fn cell(sheet: &[u16], i: usize) -> u16
     ensures { result ≡ get_or sheet.now i 0 }
 {
-    if i < sheet.len() { sheet[i] } else { 0 }
+    sheet.get(i).copied().unwrap_or(0)
 }
 
 // Row t of the term sheet, which holds it whole.

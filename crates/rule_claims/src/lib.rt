@@ -1,7 +1,7 @@
 // What a deduce, clash or fail row claims, and what the fourteen rules share: how many premises there are, and the shape of a term.
 #![tactic(auto)]
 
-ghost use Rattle.std.specs.Prelude.{◌≡◌, ◌&&◌, not, max, eqb};
+ghost use Rattle.std.specs.Prelude.{◌≡◌, ◌&&◌, not, eqb};
 ghost use Rattle.calculus.specs.Lists.{num};
 ghost use Rattle.calculus.specs.Terms.{eq_head};
 ghost use Rattle.rule_claims.specs.Claims.{gap, after_first};
@@ -9,7 +9,9 @@ ghost use Rattle.rule_claims.specs.Claims.{gap, after_first};
 use calculus::{Premise, Row, Term};
 use rows::BLANK;
 
-// The heads' numbers.
+// The heads' numbers, as a term sheet has them.
+// Stays: numbers beside `calculus::Head`, since a rule asks for one head of a row that it has read: `l.head == EQ`, and not
+// `Head::from(l.head) == Head::Equality`, which tells eight apart.
 pub const EQ: u16 = 0;
 
 pub const NOT: u16 = 1;
@@ -22,7 +24,11 @@ pub const SELECT: u16 = 4;
 
 pub const STORE: u16 = 5;
 
-pub const FIRST_FREE: u16 = 16;
+// A column without a premise.
+pub const NO_PREMISE: Premise = Premise {
+    row: BLANK,
+    value: 0,
+};
 
 // A term, its value, and the premises with their values on the trail.
 // A premise whose row is blank is none, and those after it are not read. (The value stands last: beside the term the two would be copied as one word,
@@ -49,37 +55,27 @@ pub fn none(x: Claim) -> bool
 pub fn one(x: Claim) -> bool
     ensures { result ≡ (not (gap x.p) && gap x.q) }
 {
-    !(x.p.row == BLANK) & (x.q.row == BLANK)
+    (x.p.row != BLANK) & (x.q.row == BLANK)
 }
 
 // There are two premises.
 pub fn two(x: Claim) -> bool
     ensures { result ≡ (not (gap x.p) && (not (gap x.q) && gap x.r)) }
 {
-    !(x.p.row == BLANK) & (!(x.q.row == BLANK) & (x.r.row == BLANK))
+    (x.p.row != BLANK) & ((x.q.row != BLANK) & (x.r.row == BLANK))
 }
 
 // The claim without its first premise.
 pub fn after_first(x: Claim) -> Claim
     ensures { result ≡ after_first x }
 {
-    let l = x.term;
-    let p = x.q;
-    let q = x.r;
-    let r = x.s;
-    let s = x.t;
-    let t = Premise {
-        row: BLANK,
-        value: 0,
-    };
     Claim {
-        term: l,
-        value: x.value,
-        p: p,
-        q: q,
-        r: r,
-        s: s,
-        t: t,
+        p: x.q,
+        q: x.r,
+        r: x.s,
+        s: x.t,
+        t: NO_PREMISE,
+        ..x
     }
 }
 
@@ -97,16 +93,9 @@ pub fn connected(e: Term, h: u16, p: Premise, w: u16, v: u16, z: u16) -> bool
     (e.head == h) & ((p.value == w) & (v == z))
 }
 
-// The larger of two numbers.
-pub fn larger(a: u16, b: u16) -> u16
-    ensures { result ≡ max a b }
-{
-    if a < b { b } else { a }
-}
-
 // A truth value as a number.
 pub fn number(b: bool) -> u16
     ensures { result ≡ num b }
 {
-    if b { 1 } else { 0 }
+    u16::from(b)
 }

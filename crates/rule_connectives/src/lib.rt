@@ -1,5 +1,5 @@
 // From a connective to one of its arguments: neg, part.
-#![tactic(auto)]
+#![tactic(auto, using(rule_claims::proofs::Laws::single_flat, crate::proofs::Laws::has_more), unfolding(calculus::specs::Rules::fits, calculus::specs::Terms::cells, calculus::specs::Terms::arg, calculus::specs::Terms::args))]
 
 ghost use Rattle.std.specs.Prelude.{◌≡◌, List, ◌∷◌, ℕ, ◌+◌, eqb};
 ghost use Rattle.calculus.specs.declared.Rule.TheVariants.{Negated, Part};
@@ -15,14 +15,14 @@ use rule_claims::{AND, Claim, NOT, OR, connected, one};
 fn opposed(a: u16, b: u16) -> bool
     ensures { result ≡ eqb (a + b) 1 }
 {
-    a as u32 + b as u32 == 1
+    u32::from(a) + u32::from(b) == 1
 }
 
 // l is among the arguments, cell x in front of the rest.
 fn more_has(l: Row, x: u16, rest: bool) -> bool
     ensures { (xs : List ℕ) → rest ≡ has (filled xs) l.0 → result ≡ has (filled (x ∷ xs)) l.0 }
 {
-    !(x == BLANK) & ((l.0 == x) | rest)
+    (x != BLANK) & ((l.0 == x) | rest)
 }
 
 // l is an argument of the term.

@@ -1,5 +1,5 @@
 // The rules of equality: same, differ, refl, sym, trans.
-#![tactic(auto)]
+#![tactic(auto, using(rule_claims::proofs::Laws::bare_flat, rule_claims::proofs::Laws::single_flat, rule_claims::proofs::Laws::double_flat), unfolding(calculus::specs::Rules::fits, calculus::specs::Terms::cells, calculus::specs::Terms::arg))]
 
 ghost use Rattle.std.specs.Prelude.{◌≡◌};
 ghost use Rattle.calculus.specs.declared.Rule.TheVariants.{Same, Differ, Reflexivity, Symmetry, Transitivity};
@@ -24,7 +24,7 @@ pub fn differ(terms: &[u16], x: Claim) -> bool
 {
     let l = term_at(terms, x.term);
     let e = is_eq(l, Row(x.p.row), Row(x.q.row));
-    two(x) & (e & (!(x.p.value == x.q.value) & (x.value == 0)))
+    two(x) & (e & ((x.p.value != x.q.value) & (x.value == 0)))
 }
 
 // t = t.

@@ -1,40 +1,16 @@
 -- What one more premise in front makes of the lists of eval, as a test without branches.
 use mathlib.Core.Path.{◌≡◌, refl, sym, ◌∙◌}
-use mathlib.Core.Bool.{Bool, true, false, not, ◌&&◌, ◌||◌, cond, or-false}
+use mathlib.Core.Bool.{Bool, true, false, not, ◌&&◌, ◌||◌, cond}
 use mathlib.Core.List.{List, [], ◌∷◌, map}
 use Prim.Native.Nat.{ℕ}
 use lib.Dec.{eqb}
 use borrow.Author.Tests.{eqb-true, eqb-false, eq-eqb, ne_eqb}
 use Rattle.calculus.specs.declared.Premise.{Premise}
-use Rattle.calculus.specs.declared.Rule.TheVariants as rule
-use Rattle.calculus.specs.Lists.{eq_list, num, is_true}
+use Rattle.calculus.specs.Lists.{eq_list, is_true}
 use Rattle.calculus.specs.Sheets.{blank}
-use Rattle.calculus.specs.Terms.{filled, cells, args, args_of, term_at, not_head, and_head, or_head}
-use Rattle.calculus.specs.Rules.{fits, row_of, value_of, not_of, and_of, or_of, evaluates}
+use Rattle.calculus.specs.Terms.{filled}
+use Rattle.calculus.specs.Rules.{row_of, value_of, not_of, and_of, or_of}
 use Rattle.rule_claims.specs.Claims.{gap, stated}
-
--- eval, where the premises are the arguments, and where they are not
-pub eval_like : (ts : List ℕ) (l v : ℕ) (ps : List Premise) → eq_list (map row_of ps) (args_of (term_at ts l)) ≡ true
-    → evaluates (term_at ts l).head (map value_of ps) v ≡ fits ts rule.Evaluation l v ps
-unfolding fits cells args
-eval_like ts l v ps e = rw e
-
-pub eval_unlike : (ts : List ℕ) (l v : ℕ) (ps : List Premise) → eq_list (map row_of ps) (args_of (term_at ts l)) ≡ false
-    → false ≡ fits ts rule.Evaluation l v ps
-unfolding fits cells args
-eval_unlike ts l v ps e = rw e
-
-pub evaluates_not : (h : ℕ) (xs : List ℕ) (v : ℕ) → h ≡ not_head → eqb v (num (not_of xs)) ≡ evaluates h xs v
-evaluates_not h xs v e = rw (e, or-false)
-
-pub evaluates_and : (h : ℕ) (xs : List ℕ) (v : ℕ) → h ≡ and_head → eqb v (num (and_of xs)) ≡ evaluates h xs v
-evaluates_and h xs v e = rw (e, or-false)
-
-pub evaluates_or : (h : ℕ) (xs : List ℕ) (v : ℕ) → h ≡ or_head → eqb v (num (or_of xs)) ≡ evaluates h xs v
-evaluates_or h xs v e = rw e
-
-pub evaluates_none : (h : ℕ) (xs : List ℕ) (v : ℕ) → eqb h not_head ≡ false → eqb h and_head ≡ false → eqb h or_head ≡ false → false ≡ evaluates h xs v
-evaluates_none h xs v a b c = rw (a, b, c)
 
 -- no premise
 pub stated_none : stated [] ≡ []

@@ -1,5 +1,5 @@
 // From all arguments of not, and, or to its value: eval.
-#![tactic(auto)]
+#![tactic(auto, using(crate::proofs::Laws::same_more, crate::proofs::Laws::same_blank, crate::proofs::Laws::and_more, crate::proofs::Laws::or_more, crate::proofs::Laws::not_first), unfolding(calculus::specs::Rules::fits, calculus::specs::Terms::cells, calculus::specs::Terms::args))]
 
 ghost use Rattle.std.specs.Prelude.{◌≡◌, List, [], ◌∷◌, map, ℕ};
 ghost use Rattle.calculus.specs.declared.Premise.{Premise};
@@ -11,7 +11,7 @@ ghost use Rattle.rule_claims.specs.Claims.{stated, premises_of, allows};
 
 use calculus::{Premise, Term};
 use rows::{BLANK, term_at};
-use rule_claims::{AND, Claim, NOT, OR, number};
+use rule_claims::{AND, Claim, NOT, OR};
 
 // The premises' rows are the arguments: premise p and argument a in front of the rest.
 fn more_same(p: Premise, a: u16, rest: bool) -> bool
@@ -32,7 +32,7 @@ fn more_and(p: Premise, rest: bool) -> bool
 fn more_or(p: Premise, rest: bool) -> bool
     ensures { (ps : List Premise) → rest ≡ or_of (map value_of (stated ps)) → result ≡ or_of (map value_of (stated (p ∷ ps))) }
 {
-    !(p.row == BLANK) & ((p.value == 1) | rest)
+    (p.row != BLANK) & ((p.value == 1) | rest)
 }
 
 // The premises' rows from column r on are the arguments from the third on. Most terms have none there, and then nothing more is read.
@@ -83,7 +83,7 @@ fn same_rows(e: Term, x: Claim) -> bool
 fn first_false(x: Claim) -> bool
     ensures { result ≡ not_of (map value_of (premises_of x)) }
 {
-    !(!(x.p.row == BLANK) & (x.p.value == 1))
+    (x.p.row == BLANK) | (x.p.value != 1)
 }
 
 // What and makes of them.
@@ -108,16 +108,13 @@ fn any_true(x: Claim) -> bool
 fn evaluates(h: u16, x: Claim) -> bool
     ensures { result ≡ evaluates h (map value_of (premises_of x)) x.value }
 {
-    if h == NOT {
-        return x.value == number(first_false(x));
-    }
-    if h == AND {
-        return x.value == number(all_true(x));
-    }
-    if h == OR {
-        return x.value == number(any_true(x));
-    }
-    false
+    let truth = match h {
+        NOT => first_false(x),
+        AND => all_true(x),
+        OR => any_true(x),
+        _ => return false,
+    };
+    x.value == u16::from(truth)
 }
 
 // All arguments give not, and, or its value.
@@ -125,8 +122,5 @@ pub fn eval(terms: &[u16], x: Claim) -> bool
     ensures { result ≡ allows terms.now Evaluation x }
 {
     let l = term_at(terms, x.term);
-    if !same_rows(l, x) {
-        return false;
-    }
-    evaluates(l.head, x)
+    same_rows(l, x) && evaluates(l.head, x)
 }

@@ -1,5 +1,5 @@
 // From equal arguments to equal results: cong, pred.
-#![tactic(auto)]
+#![tactic(auto, using(rule_claims::proofs::Laws::leading_flat, rule_claims::proofs::Laws::stated_four, crate::proofs::Laws::pairs_more, crate::proofs::Laws::pairs_gap), unfolding(calculus::specs::Rules::fits, calculus::specs::Terms::cells, calculus::specs::Terms::arg, calculus::specs::Terms::args))]
 
 ghost use Rattle.std.specs.Prelude.{◌≡◌, List, ◌∷◌, ℕ};
 ghost use Rattle.calculus.specs.declared.Premise.{Premise};
@@ -8,9 +8,9 @@ ghost use Rattle.calculus.specs.Terms.{filled, args_of, head_of, is_free, is_fun
 ghost use Rattle.calculus.specs.Rules.{pairs};
 ghost use Rattle.rule_claims.specs.Claims.{stated, premises_of, allows};
 
-use calculus::{Premise, Row, Term};
+use calculus::{Head, Premise, Row, Term};
 use rows::{BLANK, term_at};
-use rule_claims::{Claim, EQ, FIRST_FREE, SELECT, STORE, after_first, is_eq};
+use rule_claims::{Claim, EQ, after_first, is_eq};
 
 // The premises are true equalities of the arguments, one at every position: arguments a, b and premise p in front of the rest.
 fn more_pair(terms: &[u16], a: u16, b: u16, p: Premise, rest: bool) -> bool
@@ -23,8 +23,7 @@ fn more_pair(terms: &[u16], a: u16, b: u16, p: Premise, rest: bool) -> bool
     }
     let e = term_at(terms, Row(p.row));
     let q = is_eq(e, Row(a), Row(b));
-    ((a == BLANK) & ((b == BLANK) & (p.row == BLANK)))
-        | (!(a == BLANK) & (!(b == BLANK) & (!(p.row == BLANK) & ((q & (p.value == 1)) & rest))))
+    (a != BLANK) & ((b != BLANK) & ((q & (p.value == 1)) & rest))
 }
 
 // The claim's premises are true equalities of the arguments of f and g, one at every position.
@@ -41,14 +40,14 @@ fn all_pairs(terms: &[u16], f: Term, g: Term, x: Claim) -> bool
 fn is_free(h: u16) -> bool
     ensures { result ≡ is_free (head_of h) }
 {
-    (FIRST_FREE <= h) & (h < BLANK)
+    matches!(Head::from(h), Head::Free)
 }
 
 // Whether h is the number of select, store or a free head.
 fn is_function(h: u16) -> bool
     ensures { result ≡ is_function (head_of h) }
 {
-    ((SELECT <= h) & (h <= STORE)) | ((FIRST_FREE <= h) & (h < BLANK))
+    matches!(Head::from(h), Head::Select | Head::Store | Head::Free)
 }
 
 // Equalities at every position give f(t..) = f(u..), where f is free, select or store.
@@ -72,5 +71,5 @@ pub fn pred(terms: &[u16], x: Claim) -> bool
     let k = is_free(l.head);
     let y = after_first(x);
     let e = all_pairs(terms, p, l, y);
-    !(x.p.row == BLANK) & (k & ((p.head == l.head) & ((x.p.value == x.value) & e)))
+    (x.p.row != BLANK) & (k & ((p.head == l.head) & ((x.p.value == x.value) & e)))
 }

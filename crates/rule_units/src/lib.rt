@@ -1,5 +1,5 @@
 // From a connective and all its arguments but one to that one: unit.
-#![tactic(auto)]
+#![tactic(auto, using(rule_claims::proofs::Laws::leading_flat, rule_claims::proofs::Laws::stated_four, crate::proofs::Laws::others_more, crate::proofs::Laws::unit_more), unfolding(calculus::specs::Rules::fits, calculus::specs::Terms::cells, calculus::specs::Terms::args))]
 
 ghost use Rattle.std.specs.Prelude.{◌≡◌, List, ◌∷◌, ℕ};
 ghost use Rattle.calculus.specs.declared.Premise.{Premise};
@@ -19,7 +19,7 @@ fn more_other(w: u16, a: u16, p: Premise, rest: bool) -> bool
         → result ≡ others w (filled (a ∷ xs)) (stated (p ∷ ps)) }
 {
     ((a == BLANK) & (p.row == BLANK))
-        | (!(a == BLANK) & (!(p.row == BLANK) & (((p.row == a) & (p.value == w)) & rest)))
+        | ((a != BLANK) & ((p.row != BLANK) & (((p.row == a) & (p.value == w)) & rest)))
 }
 
 // The premises are the arguments but l, each with value w: argument a and premise p in front of the rest.
@@ -28,8 +28,8 @@ fn more_unit(w: u16, l: Row, a: u16, p: Premise, here: bool, rest: bool) -> bool
     ensures { (xs : List ℕ) (ps : List Premise) → here ≡ others w (filled xs) (stated (p ∷ ps)) → rest ≡ unit_at w l.0 (filled xs) (stated ps)
         → result ≡ unit_at w l.0 (filled (a ∷ xs)) (stated (p ∷ ps)) }
 {
-    !(a == BLANK)
-        & (((a == l.0) & here) | (!(p.row == BLANK) & (((p.row == a) & (p.value == w)) & rest)))
+    (a != BLANK)
+        & (((a == l.0) & here) | ((p.row != BLANK) & (((p.row == a) & (p.value == w)) & rest)))
 }
 
 // l is an argument of the term, and the claim's premises are those at all other positions, each with value w. Here the term has no third argument.
@@ -68,9 +68,9 @@ pub fn unit(terms: &[u16], x: Claim) -> bool
     if p.head == OR {
         let o = connected(p, OR, x.p, 1, x.value, 1);
         let f = unit_at(0, x.term, p, y);
-        return !(x.p.row == BLANK) & (o & f);
+        return (x.p.row != BLANK) & (o & f);
     }
     let a = connected(p, AND, x.p, 0, x.value, 0);
     let t = unit_at(1, x.term, p, y);
-    !(x.p.row == BLANK) & (a & t)
+    (x.p.row != BLANK) & (a & t)
 }
