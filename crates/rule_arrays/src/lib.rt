@@ -1,5 +1,5 @@
 // The rules of arrays: read, skip.
-#![tactic(auto, using(rule_claims::proofs::Laws::bare_flat, rule_claims::proofs::Laws::single_flat), unfolding(calculus::specs::Rules::fits, calculus::specs::Terms::cells, calculus::specs::Terms::arg))]
+#![tactic(auto, using(rule_claims::proofs::Laws::counted), unfolding(calculus::specs::Rules::fits, calculus::specs::Terms::cells, calculus::specs::Terms::arg))]
 
 ghost use Rattle.std.specs.Prelude.{◌≡◌};
 ghost use Rattle.calculus.specs.declared.Rule.TheVariants.{Read, Skip};

@@ -53,6 +53,9 @@ pub stated_four : (p q r s : Premise) → stated (p ∷ q ∷ r ∷ s ∷ no_pre
 unfolding stated
 stated_four p q r s = refl
 
+-- what the rules' tests cite
+pub ruleset counted = (bare_flat, single_flat, double_flat, leading_flat, stated_four)
+
 -- ---- a claim's premises are those of its step row, with their values, where a value is known of a row that passes a test
 
 abbrev pub AllLooked : (ℕ → Bool) → (ℕ → ℕ) → List Premise → Type 0

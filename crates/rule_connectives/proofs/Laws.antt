@@ -7,6 +7,7 @@ use lib.Dec.{eqb}
 use Rattle.calculus.specs.Lists.{has}
 use Rattle.calculus.specs.Sheets.{blank}
 use Rattle.calculus.specs.Terms.{filled}
+use Rattle.rule_claims.proofs.Laws.{counted}
 
 pub has_more : (l x : ℕ) (xs : List ℕ) → has (filled (x ∷ xs)) l ≡ (not (eqb x blank) && (eqb l x || has (filled xs) l))
 has_more l x xs = go (eqb x blank)
@@ -14,3 +15,6 @@ has_more l x xs = go (eqb x blank)
     go : (g : Bool) → has (cond g [] (x ∷ filled xs)) l ≡ (not g && (eqb l x || has (filled xs) l))
     go true = refl
     go false = refl
+
+-- what the check cites
+pub ruleset laws = (counted, has_more)

@@ -1,5 +1,5 @@
 // From a connective to one of its arguments: neg, part.
-#![tactic(auto, using(rule_claims::proofs::Laws::single_flat, crate::proofs::Laws::has_more), unfolding(calculus::specs::Rules::fits, calculus::specs::Terms::cells, calculus::specs::Terms::arg, calculus::specs::Terms::args))]
+#![tactic(auto, using(crate::proofs::Laws::laws), unfolding(calculus::specs::Rules::fits, calculus::specs::Terms::cells, calculus::specs::Terms::arg, calculus::specs::Terms::args))]
 
 ghost use Rattle.std.specs.Prelude.{◌≡◌, List, ◌∷◌, ℕ, ◌+◌, eqb};
 ghost use Rattle.calculus.specs.declared.Rule.TheVariants.{Negated, Part};

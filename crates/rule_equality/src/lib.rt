@@ -1,5 +1,5 @@
 // The rules of equality: same, differ, refl, sym, trans.
-#![tactic(auto, using(rule_claims::proofs::Laws::bare_flat, rule_claims::proofs::Laws::single_flat, rule_claims::proofs::Laws::double_flat), unfolding(calculus::specs::Rules::fits, calculus::specs::Terms::cells, calculus::specs::Terms::arg))]
+#![tactic(auto, using(rule_claims::proofs::Laws::counted), unfolding(calculus::specs::Rules::fits, calculus::specs::Terms::cells, calculus::specs::Terms::arg))]
 
 ghost use Rattle.std.specs.Prelude.{◌≡◌};
 ghost use Rattle.calculus.specs.declared.Rule.TheVariants.{Same, Differ, Reflexivity, Symmetry, Transitivity};

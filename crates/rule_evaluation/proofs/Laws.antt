@@ -71,3 +71,6 @@ same_blank p ps y ys e = rw (eq-eqb _ _ e) (go (eqb y blank))
     go : (g : Bool) → g ≡ eq_list [] (cond g [] (y ∷ filled ys))
     go true = refl
     go false = refl
+
+-- what the check cites
+pub ruleset laws = (same_more, same_blank, and_more, or_more, not_first)

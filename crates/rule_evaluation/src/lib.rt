@@ -1,5 +1,5 @@
 // From all arguments of not, and, or to its value: eval.
-#![tactic(auto, using(crate::proofs::Laws::same_more, crate::proofs::Laws::same_blank, crate::proofs::Laws::and_more, crate::proofs::Laws::or_more, crate::proofs::Laws::not_first), unfolding(calculus::specs::Rules::fits, calculus::specs::Terms::cells, calculus::specs::Terms::args))]
+#![tactic(auto, using(crate::proofs::Laws::laws), unfolding(calculus::specs::Rules::fits, calculus::specs::Terms::cells, calculus::specs::Terms::args))]
 
 ghost use Rattle.std.specs.Prelude.{◌≡◌, List, [], ◌∷◌, map, ℕ};
 ghost use Rattle.calculus.specs.declared.Premise.{Premise};

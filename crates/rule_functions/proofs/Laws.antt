@@ -10,6 +10,7 @@ use Rattle.calculus.specs.Sheets.{blank}
 use Rattle.calculus.specs.Terms.{filled}
 use Rattle.calculus.specs.Rules.{equates, pairs}
 use Rattle.rule_claims.specs.Claims.{gap, stated}
+use Rattle.rule_claims.proofs.Laws.{counted}
 
 pub pairs_none : (ts : List ℕ) (p : Premise) (ps : List Premise) → pairs ts [] [] (stated (p ∷ ps)) ≡ gap p
 unfolding stated
@@ -44,3 +45,6 @@ pairs_more ts a b xs ys p ps e = rw (ne_eqb p.row blank e) (go (eqb a blank) (eq
     go true false = refl
     go false true = refl
     go false false = refl
+
+-- what the check cites
+pub ruleset laws = (counted, pairs_more, pairs_gap)

@@ -1,5 +1,5 @@
 // From equal arguments to equal results: cong, pred.
-#![tactic(auto, using(rule_claims::proofs::Laws::leading_flat, rule_claims::proofs::Laws::stated_four, crate::proofs::Laws::pairs_more, crate::proofs::Laws::pairs_gap), unfolding(calculus::specs::Rules::fits, calculus::specs::Terms::cells, calculus::specs::Terms::arg, calculus::specs::Terms::args))]
+#![tactic(auto, using(crate::proofs::Laws::laws), unfolding(calculus::specs::Rules::fits, calculus::specs::Terms::cells, calculus::specs::Terms::arg, calculus::specs::Terms::args))]
 
 ghost use Rattle.std.specs.Prelude.{◌≡◌, List, ◌∷◌, ℕ};
 ghost use Rattle.calculus.specs.declared.Premise.{Premise};

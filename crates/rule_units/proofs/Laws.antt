@@ -12,7 +12,7 @@ use Rattle.calculus.specs.Terms.{filled, cells, args, args_of, term_at, and_head
 use Rattle.calculus.specs.Rules.{fits, gives, others, unit_at}
 use Rattle.calculus.proofs.Forms.{unit_none, unit_last, unit_front}
 use Rattle.rule_claims.specs.Claims.{gap, stated}
-use Rattle.rule_claims.proofs.Laws.{leading_flat}
+use Rattle.rule_claims.proofs.Laws.{counted, leading_flat}
 
 -- unit, where the first premise is an or
 pub unit_or : (ts : List ℕ) (l v : ℕ) (p : Premise) (ps : List Premise) → (term_at ts p.row).head ≡ or_head
@@ -67,3 +67,6 @@ unit_more w l x xs p ps = go (eqb x blank) (gap p)
     go true h = unit_none w l _
     go false true = unit_last w l x (filled xs) ∙ sym (or-false (eqb x l && others w (filled xs) []))
     go false false = unit_front w l x (filled xs) p (stated ps)
+
+-- what the check cites
+pub ruleset laws = (counted, others_more, unit_more)

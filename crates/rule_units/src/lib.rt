@@ -1,5 +1,5 @@
 // From a connective and all its arguments but one to that one: unit.
-#![tactic(auto, using(rule_claims::proofs::Laws::leading_flat, rule_claims::proofs::Laws::stated_four, crate::proofs::Laws::others_more, crate::proofs::Laws::unit_more), unfolding(calculus::specs::Rules::fits, calculus::specs::Terms::cells, calculus::specs::Terms::args))]
+#![tactic(auto, using(crate::proofs::Laws::laws), unfolding(calculus::specs::Rules::fits, calculus::specs::Terms::cells, calculus::specs::Terms::args))]
 
 ghost use Rattle.std.specs.Prelude.{◌≡◌, List, ◌∷◌, ℕ};
 ghost use Rattle.calculus.specs.declared.Premise.{Premise};
