@@ -2,7 +2,7 @@
 use mathlib.Core.Path.{refl}
 use native.Mathlib.Omega.{arith}
 use lib.ListN.{get_or-replicate}
-use Rattle.term_search.proofs.Laws.{chain_none, chain_next, pairs_first, pairs_next, pairs_fewer, row_fresh, columns_agree, repeat_none, repeat_found}
+use Rattle.term_search.proofs.Laws.{chain_none, chain_next, pairs_first, pairs_next, pairs_fewer, row_fresh, repeat_found}
 use Rattle.term_search.proofs.first_repeat.Goals as goal
 
 pub rows-init : goal.rows-init
@@ -11,26 +11,14 @@ rows-init c = (omega arith, refl, chain_none _ _ _ refl refl (λ s h. get_or-rep
 pub pairs-init : goal.pairs-init
 pairs-init c = search pairs_first
 
-pub loop-k-init : goal.loop-k-init
-loop-k-init c = (refl, omega arith, refl)
-
-pub differ-requires : goal.differ-requires
-differ-requires c = (omega arith, omega arith, omega arith)
-
 pub pairs-smaller : goal.pairs-smaller
 pairs-smaller c = search pairs_fewer
 
 pub pairs-preserved : goal.pairs-preserved
 pairs-preserved c = search pairs_next
 
-pub loop-k-preserved : goal.loop-k-preserved
-loop-k-preserved c = (c.loop-k.invariant.0, omega arith, search columns_agree)
-
 pub rows-preserved : goal.rows-preserved
 rows-preserved c = (omega arith, search row_fresh, search chain_next)
-
-pub returns-after-rows : goal.returns-after-rows
-returns-after-rows c = search repeat_none
 
 pub returns-after-loop-k : goal.returns-after-loop-k
 returns-after-loop-k c = search repeat_found

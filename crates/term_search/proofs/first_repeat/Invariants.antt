@@ -10,10 +10,7 @@ use Rattle.term_search.proofs.Laws.{Passed}
 use Rattle.term_search.proofs.first_repeat.Given as goal
 
 abbrev pub invariant-loop-k : goal.invariant-loop-k
-invariant-loop-k l = (l.u ≡ l.initial.u) × (l.k ≤ 5) × (below l.k (agree l.terms l.t l.u) ≡ true)
-
-abbrev pub decreases-loop-k : goal.decreases-loop-k
-decreases-loop-k l = 5 - l.k
+invariant-loop-k l = (l.u ≡ l.initial.u) × (below l.k (agree l.terms l.t l.u) ≡ true)
 
 abbrev pub invariant-pairs : goal.invariant-pairs
 invariant-pairs l = Passed l.terms l.t l.u
