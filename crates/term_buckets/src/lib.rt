@@ -10,14 +10,14 @@ use calculus::Term;
 pub fn wrapping_product(a: u32, b: u32) -> u32
     ensures { result ≡ (a * b) % 2 ^ 32 }
 {
-    (a as u64 * b as u64 % 4294967296) as u32
+    a.wrapping_mul(b)
 }
 
 // Two numbers of a row as one word.
 fn word_of(low: u16, high: u16) -> u32
     ensures { result ≡ word low high }
 {
-    low as u32 + 65536 * high as u32
+    u32::from(low) + 65536 * u32::from(high)
 }
 
 // What a mix is multiplied by, for each word.
@@ -27,10 +27,11 @@ const FACTOR: u32 = 3266489909;
 fn mixed_in(m: u32, w: u32) -> u32
     ensures { result ≡ mixed_in m w }
 {
-    wrapping_product(std::num::wrapping_add_u32(m, w), FACTOR)
+    wrapping_product(m.wrapping_add(w), FACTOR)
 }
 
 // The mix of a row.
+#[tactic(auto, unfolding(crate::specs::Buckets::mix))]
 fn mix_of(e: Term) -> u32
     ensures { result ≡ mix e }
 {
@@ -40,6 +41,7 @@ fn mix_of(e: Term) -> u32
 }
 
 // The bucket of a row.
+#[tactic(auto, unfolding(crate::specs::Buckets::bucket))]
 pub fn bucket_of(e: Term) -> usize
     ensures value { result ≡ bucket e }
     ensures upper_bound { result < buckets }
