@@ -14,8 +14,8 @@ ghost use Rattle.premises.specs.Columns.{Premised};
 ghost use Rattle.acceptance.specs.Added.{Decidable};
 ghost use Rattle.search_steps.specs.Searches.{Searching, Inferring, Inferred, Inference, Passed, Refuses};
 
-use calculus::{Fit, Kind, Level, Refusal, Row, Step};
-use state::{Answer, Status};
+use calculus::{Kind, Level, Refusal, Row, Rule, Step};
+use state::{Answer, Next, Status};
 
 // ---- what the tests share
 
@@ -29,18 +29,20 @@ fn value_suits(terms: &[u16], t: Row, v: u16) -> bool
 }
 
 // The level of the premises and the term, where all stand on the trail.
+#[tactic(auto, using(crate::proofs::Laws::clash_level_is))]
 fn clash_level(work: &[u64], w: usize, n: usize, count: usize, x: Step) -> Level
     requires { Premised w n work.now count x × (on (trail_in w n work.now count) x.term ≡ true) }
     ensures { result.0 ≡ level_of (trail_in w n work.now count) (clash_set x.term (premises x)) }
 {
     let l = state::level_at(work, w, n, count, Row(x.term));
     let p = premises::level(work, w, n, count, x);
-    trail::larger(l, p)
+    l.max(p)
 }
 
 // ---- the numbers
 
 // Numbers 22, 14 and 27.
+#[tactic(auto, unfolding(calculus::specs::Steps::decide_refusal, calculus::specs::Numbers::unless))]
 fn decide_refusal(
     terms: &[u16],
     work: &[u64],
@@ -49,23 +51,24 @@ fn decide_refusal(
     count: usize,
     t: Row,
     v: u16,
-) -> u16
+) -> Result<(), Refusal>
     requires { Decidable w n terms.now work.now count t.0 }
-    ensures { result ≡ decide_refusal terms.now (trail_in w n work.now count) t.0 v }
+    ensures { Refuses nowhere (decide_refusal terms.now (trail_in w n work.now count) t.0 v) result }
 {
     if !value_suits(terms, t, v) {
-        return 22;
+        return Err(Refusal::Unsuited);
     }
     if state::stands(work, w, n, count, t) {
-        return 14;
+        return Err(Refusal::There);
     }
     if !acceptance::acceptable(terms, work, w, n, count, t, v) {
-        return 27;
+        return Err(Refusal::Unacceptable);
     }
-    0
+    Ok(())
 }
 
 // Numbers 22, 12, 13, which deduce, clash and fail share, with their places.
+#[tactic(auto, using(crate::proofs::Laws::to_test), unfolding(calculus::specs::Steps::inference_refusal, calculus::specs::Numbers::unless, calculus::specs::Place::place_of))]
 fn inference_refusal(
     terms: &[u16],
     work: &[u64],
@@ -73,66 +76,46 @@ fn inference_refusal(
     n: usize,
     count: usize,
     x: Step,
-) -> Refusal
+) -> Result<(), Refusal>
     requires { Inferred w n terms.now work.now count x }
     ensures { Refuses (place_of terms.now (trail_in w n work.now count) x)
         (inference_refusal terms.now (trail_in w n work.now count) x.rule x.term x.value (premises x) 0) result }
 {
     if !state::is_prop(terms, Row(x.term)) {
-        return Refusal {
-            number: 22,
-            place: 0,
-        };
+        return Err(Refusal::Unsuited);
     }
     if !premises::all_on(work, w, n, count, x) {
-        return Refusal {
-            number: 12,
-            place: premises::absent_place(work, w, n, count, x),
-        };
+        return Err(Refusal::Absent(premises::absent_place(work, w, n, count, x)));
     }
-    let fit = places::test(
-        terms,
-        n,
-        kinds::rule_of(x.rule),
-        premises::claim(work, w, n, count, x),
-    );
-    match fit {
-        Fit::Fits => Refusal {
-            number: 0,
-            place: 0,
-        },
-        Fit::Unfit(place) => Refusal {
-            number: 13,
-            place: place,
-        },
-    }
+    let claim = premises::claim(work, w, n, count, x);
+    places::test(terms, n, Rule::from(x.rule), claim)
 }
 
 // Numbers 14, 15 of deduce, whose first tests are passed.
-fn deduce_refusal(terms: &[u16], work: &[u64], w: usize, n: usize, count: usize, x: Step) -> Refusal
+#[tactic(auto, using(crate::proofs::Laws::passed_rest), unfolding(calculus::specs::Steps::deduce_refusal, calculus::specs::Numbers::unless, calculus::specs::Place::place_of))]
+fn deduce_refusal(
+    terms: &[u16],
+    work: &[u64],
+    w: usize,
+    n: usize,
+    count: usize,
+    x: Step,
+) -> Result<(), Refusal>
     requires { Laid w n work.now count × Passed terms.now (trail_in w n work.now count) x }
     ensures { Refuses (place_of terms.now (trail_in w n work.now count) x)
         (deduce_refusal terms.now (trail_in w n work.now count) x.rule x.term x.value (premises x)) result }
 {
     if !state::stands(work, w, n, count, Row(x.term)) {
-        return Refusal {
-            number: 0,
-            place: 0,
-        };
+        return Ok(());
     }
     if state::has_value(work, w, n, count, Row(x.term), x.value) {
-        return Refusal {
-            number: 14,
-            place: 0,
-        };
+        return Err(Refusal::There);
     }
-    Refusal {
-        number: 15,
-        place: 0,
-    }
+    Err(Refusal::OppositeThere)
 }
 
 // Number 16, which clash and fail share.
+#[tactic(auto, using(crate::proofs::Laws::passed_rest), unfolding(calculus::specs::Steps::contradiction_refusal, calculus::specs::Numbers::unless, calculus::specs::Place::place_of))]
 fn contradiction_refusal(
     terms: &[u16],
     work: &[u64],
@@ -140,72 +123,65 @@ fn contradiction_refusal(
     n: usize,
     count: usize,
     x: Step,
-) -> Refusal
+) -> Result<(), Refusal>
     requires { Laid w n work.now count × Passed terms.now (trail_in w n work.now count) x }
     ensures { Refuses (place_of terms.now (trail_in w n work.now count) x)
         (contradiction_refusal terms.now (trail_in w n work.now count) x.rule x.term x.value (premises x) true) result }
 {
     if !state::has_value(work, w, n, count, Row(x.term), moves::other(x.value)) {
-        return Refusal {
-            number: 16,
-            place: 0,
-        };
+        return Err(Refusal::OppositeMissing);
     }
-    Refusal {
-        number: 0,
-        place: 0,
-    }
+    Ok(())
 }
 
 // Numbers 16, and 26 at level 0.
-fn clash_refusal(terms: &[u16], work: &[u64], w: usize, n: usize, count: usize, x: Step) -> Refusal
+#[tactic(auto, using(crate::proofs::Laws::passed_on, crate::proofs::Laws::contradiction_first, crate::proofs::Laws::contradiction_level, crate::proofs::Laws::contradiction_on, crate::proofs::Laws::no_place), unfolding(calculus::specs::Steps::clash_refusal, calculus::specs::Numbers::unless))]
+fn clash_refusal(
+    terms: &[u16],
+    work: &[u64],
+    w: usize,
+    n: usize,
+    count: usize,
+    x: Step,
+) -> Result<(), Refusal>
     requires { Laid w n work.now count × Passed terms.now (trail_in w n work.now count) x }
     ensures { Refuses (place_of terms.now (trail_in w n work.now count) x)
         (clash_refusal terms.now (trail_in w n work.now count) x.rule x.term x.value (premises x)) result }
 {
-    let c = contradiction_refusal(terms, work, w, n, count, x);
-    if c.number != 0 {
-        return c;
-    }
+    contradiction_refusal(terms, work, w, n, count, x)?;
     let level = clash_level(work, w, n, count, x);
-    if level.0 == 0 {
-        return Refusal {
-            number: 26,
-            place: 0,
-        };
+    if level == Level(0) {
+        return Err(Refusal::OtherLine);
     }
-    Refusal {
-        number: 0,
-        place: 0,
-    }
+    Ok(())
 }
 
 // Numbers 16, and 26 above level 0.
-fn fail_refusal(terms: &[u16], work: &[u64], w: usize, n: usize, count: usize, x: Step) -> Refusal
+#[tactic(auto, using(crate::proofs::Laws::passed_on, crate::proofs::Laws::contradiction_first, crate::proofs::Laws::contradiction_level, crate::proofs::Laws::contradiction_on, crate::proofs::Laws::no_place), unfolding(calculus::specs::Steps::fail_refusal, calculus::specs::Numbers::unless))]
+fn fail_refusal(
+    terms: &[u16],
+    work: &[u64],
+    w: usize,
+    n: usize,
+    count: usize,
+    x: Step,
+) -> Result<(), Refusal>
     requires { Laid w n work.now count × Passed terms.now (trail_in w n work.now count) x }
     ensures { Refuses (place_of terms.now (trail_in w n work.now count) x)
         (fail_refusal terms.now (trail_in w n work.now count) x.rule x.term x.value (premises x)) result }
 {
-    let c = contradiction_refusal(terms, work, w, n, count, x);
-    if c.number != 0 {
-        return c;
-    }
+    contradiction_refusal(terms, work, w, n, count, x)?;
     let level = clash_level(work, w, n, count, x);
-    if level.0 != 0 {
-        return Refusal {
-            number: 26,
-            place: 0,
-        };
+    if level != Level(0) {
+        return Err(Refusal::OtherLine);
     }
-    Refusal {
-        number: 0,
-        place: 0,
-    }
+    Ok(())
 }
 
 // ---- the steps
 
 // decide: the term with its value as a decision.
+#[tactic(auto, using(crate::proofs::Laws::decide_off, crate::proofs::Laws::top_small, state::proofs::States::refused_with), unfolding(calculus::specs::Steps::decide, calculus::specs::Steps::answer, state::specs::States::state_in, state::specs::States::Answers))]
 pub fn decide(
     terms: &[u16],
     work: &mut [u64],
@@ -219,33 +195,24 @@ pub fn decide(
     ensures { Answers w n terms.now work.old work.new nowhere
         (decide terms.now (trail_in w n work.old st.count) t.0 v) result }
 {
-    let c = decide_refusal(terms, work, w, n, st.count, t, v);
-    if c != 0 {
-        return Answer::Refused(Refusal {
-            number: c,
-            place: 0,
-        });
-    }
+    decide_refusal(terms, work, w, n, st.count, t, v)?;
     let kept = moves::decide(work, w, n, st.count, st.top, t, v);
-    let top = kept.top;
-    Answer::Allowed(Status {
+    Ok(Next::On(Status {
         count: kept.count,
-        top: top,
+        top: kept.top,
         conflict: false,
-    })
+    }))
 }
 
 // deduce: the premises justify the term's value.
+#[tactic(auto, using(crate::proofs::Laws::passed_on, crate::proofs::Laws::passed_rest, crate::proofs::Laws::deduce_stands, state::proofs::States::refused_with), unfolding(calculus::specs::Steps::deduce, calculus::specs::Steps::deduce_refusal, calculus::specs::Steps::premises, calculus::specs::Numbers::unless, calculus::specs::Steps::answer, state::specs::States::state_in, state::specs::States::Answers))]
 fn deduce(terms: &[u16], work: &mut [u64], w: usize, n: usize, st: Status, x: Step) -> Answer
     requires { Inferring w n terms.now work.old st x × Passed terms.now (trail_in w n work.old st.count) x }
     ensures { Answers w n terms.now work.old work.new
         (place_of terms.now (trail_in w n work.old st.count) x)
         (deduce terms.now (trail_in w n work.old st.count) x.rule x.term x.value (premises x)) result }
 {
-    let c = deduce_refusal(terms, work, w, n, st.count, x);
-    if c.number != 0 {
-        return Answer::Refused(c);
-    }
+    deduce_refusal(terms, work, w, n, st.count, x)?;
     let level = premises::level(work, w, n, st.count, x);
     let ps = [x.p, x.q, x.r, x.s, x.t];
     let kept = moves::propagate(
@@ -259,50 +226,44 @@ fn deduce(terms: &[u16], work: &mut [u64], w: usize, n: usize, st: Status, x: St
         &ps,
         level,
     );
-    let top = kept.top;
-    Answer::Allowed(Status {
+    Ok(Next::On(Status {
         count: kept.count,
-        top: top,
+        top: kept.top,
         conflict: false,
-    })
+    }))
 }
 
 // clash: premises and opposite, not all at level 0, are the conflict.
+#[tactic(auto, using(crate::proofs::Laws::contradiction_stands, state::proofs::States::refused_with), unfolding(calculus::specs::Steps::clash, calculus::specs::Steps::clash_refusal, calculus::specs::Steps::premises, calculus::specs::Steps::answer, state::specs::States::state_in, state::specs::States::Answers))]
 fn clash(terms: &[u16], work: &mut [u64], w: usize, n: usize, st: Status, x: Step) -> Answer
     requires { Inferring w n terms.now work.old st x × Passed terms.now (trail_in w n work.old st.count) x }
     ensures { Answers w n terms.now work.old work.new
         (place_of terms.now (trail_in w n work.old st.count) x)
         (clash terms.now (trail_in w n work.old st.count) x.rule x.term x.value (premises x)) result }
 {
-    let c = clash_refusal(terms, work, w, n, st.count, x);
-    if c.number != 0 {
-        return Answer::Refused(c);
-    }
+    clash_refusal(terms, work, w, n, st.count, x)?;
     let ps = [x.p, x.q, x.r, x.s, x.t];
     moves::conflict(work, w, n, st.count, Row(x.term), &ps);
-    let top = st.top;
-    Answer::Allowed(Status {
-        count: st.count,
-        top: top,
+    Ok(Next::On(Status {
         conflict: true,
-    })
+        ..st
+    }))
 }
 
 // fail: premises and opposite, all at level 0, refute the input. Nothing is written.
+#[tactic(auto, using(state::proofs::States::refused_with), unfolding(calculus::specs::Steps::fail, calculus::specs::Steps::answer, state::specs::States::state_in, state::specs::States::Answers))]
 fn fail(terms: &[u16], work: &[u64], w: usize, n: usize, st: Status, x: Step) -> Answer
     requires { Inferring w n terms.now work.now st x × Passed terms.now (trail_in w n work.now st.count) x }
     ensures { Answers w n terms.now work.now work.now
         (place_of terms.now (trail_in w n work.now st.count) x)
         (fail terms.now (trail_in w n work.now st.count) x.rule x.term x.value (premises x)) result }
 {
-    let c = fail_refusal(terms, work, w, n, st.count, x);
-    if c.number != 0 {
-        return Answer::Refused(c);
-    }
-    Answer::Refuted
+    fail_refusal(terms, work, w, n, st.count, x)?;
+    Ok(Next::Refuted)
 }
 
 // deduce, clash or fail, by the kind k of the row: the tests that they share, then the step.
+#[tactic(auto, using(crate::proofs::Laws::infer_refused), unfolding(calculus::specs::Steps::step_by, state::specs::States::Answers))]
 pub fn infer(
     terms: &[u16],
     work: &mut [u64],
@@ -317,10 +278,7 @@ pub fn infer(
         (place_of terms.now (trail_in w n work.old st.count) x)
         (step_by terms.now k (searching (trail_in w n work.old st.count)) x) result }
 {
-    let c = inference_refusal(terms, work, w, n, st.count, x);
-    if c.number != 0 {
-        return Answer::Refused(c);
-    }
+    inference_refusal(terms, work, w, n, st.count, x)?;
     match k {
         Kind::Deduce => deduce(terms, work, w, n, st, x),
         Kind::Clash => clash(terms, work, w, n, st, x),

@@ -3,8 +3,10 @@ use mathlib.Core.Path.{◌≡◌, refl, sym, ap, subst, ◌∙◌}
 use mathlib.Core.Logic.{◌⊎◌, inl, inr}
 use mathlib.Core.Bool.{Bool, true, false, cond}
 use mathlib.Core.List.{List}
-use Prim.Native.Nat.{ℕ, zero, suc, ◌≤◌}
+use Prim.Native.Nat.{ℕ, zero, suc, ◌≤◌, ◌<◌}
 use native.Mathlib.Omega.{arith}
+use Rattle.calculus.specs.declared.Refusal.{Refusal}
+use Rattle.calculus.specs.Numbers.{number, place}
 use Rattle.calculus.specs.Trail.{Set, Trail, on}
 use Rattle.calculus.specs.Steps as calculus
 use Rattle.calculus.specs.Steps.{answer}
@@ -84,3 +86,11 @@ refused_by {c} {k} a e h = go c e
 pub passed_by : {c k : ℕ} (a : calculus.Answer) → k ≡ c → k ≡ 0 → answer c a ≡ a
 unfolding answer
 passed_by {c} {k} a e z = rw (sym e ∙ z)
+
+-- a refusal has a number
+pub some_number : (r : Refusal) → 0 < number r
+some_number r = grind arith
+
+-- and with it the calculus refuses
+pub refused_with : (r : Refusal) (m : ℕ) (a : calculus.Answer) → number r ≡ m → answer m a ≡ calculus.refused (number r)
+refused_with r m a e = refused_by a e (λ z. omega (arith, some_number r, z))
