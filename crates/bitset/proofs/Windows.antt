@@ -137,8 +137,8 @@ pub still : (ws₀ ws : List ℕ) (b i : ℕ) (P : ℕ → ℕ → Type 0) → F
 still ws₀ ws b i P u k o = u.only.rest k o
 
 -- the words at b become the w words vs, which are 0
-pub cleared : (ws vs : List ℕ) (b w : ℕ) → b + w ≤ length ws → vs ≡ replicate w 0 → Holds ws (put_mid b (b + w - b) ws vs) b w empty
-cleared ws vs b w h e =
+pub zeroed : (ws vs : List ℕ) (b w : ℕ) → b + w ≤ length ws → vs ≡ replicate w 0 → Filled ws (put_mid b (b + w - b) ws vs) b w (λ k x. x ≡ 0)
+zeroed ws vs b w h e =
     rw e
     (record {
       only =
@@ -146,14 +146,15 @@ cleared ws vs b w h e =
             long = grind (arith, places);
             rest = λ k o. ⊎_elim (λ (l : k < b). grind (arith, places)) (λ (l : b + w ≤ k). grind (arith, places)) o;
           };
-      set =
-          by_word empty _ b w
-          (λ t m. ap (λ (x : ℕ). bit_at x (t % 64)) (zero_at (t / 64) m) ∙ bit_zero (t % 64))
-          (λ t m. refl);
+      done = λ k l. grind (arith, places);
     })
-  where
-    zero_at : (k : ℕ) → k < w → get_or (put_mid b (b + w - b) ws (replicate w 0)) (b + k) 0 ≡ 0
-    zero_at k l = grind (arith, places)
+
+pub cleared : (ws₀ ws : List ℕ) (b w : ℕ) → Filled ws₀ ws b w (λ k x. x ≡ 0) → Holds ws₀ ws b w empty
+cleared ws₀ ws b w u =
+    record {
+      only = u.only;
+      set = by_word empty ws b w (λ t m. ap (λ (x : ℕ). bit_at x (t % 64)) (u.done (t / 64) m) ∙ bit_zero (t % 64)) (λ t m. refl);
+    }
 
 -- the words are those of a set that has nothing past them
 pub stored : (ws₀ ws : List ℕ) (b w : ℕ) (s : Set) → Filled ws₀ ws b w (IsWord s) → ((u : ℕ) → w ≤ u / 64 → s u ≡ false) → Holds ws₀ ws b w s

@@ -3,3 +3,4 @@ pub mod TermKind
 pub mod Laws
 pub mod Frames
 pub mod Walks
+pub mod Levels

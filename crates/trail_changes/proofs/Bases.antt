@@ -1,21 +1,21 @@
 -- What keeping to a level leaves as it stands, and how it is found. Assumes nothing.
 use Prim.Native.Nat.{ℕ, zero, suc, ◌+◌, ◌-◌, ◌≤◌, ◌<◌}
 use native.Mathlib.Omega.{arith}
-use mathlib.Core.Path.{◌≡◌, refl, sym, ap, ◌∙◌}
+use mathlib.Core.Path.{◌≡◌, refl, sym, ap, ap₂, ◌∙◌}
 use mathlib.Core.Logic.{⊎_elim}
-use mathlib.Core.Bool.{true, false, ◌&&◌, cond, or-true}
+use mathlib.Core.Bool.{Bool, true, false, ◌&&◌, cond, or-true}
 use mathlib.Core.List.{List, [], ◌∷◌}
 use lib.Dec.{eqb, leb, ltb}
 use lib.ListN.{get_or}
 use borrow.Author.Tests.{le-leb, leb-true, ltb-true, ltb-false}
-use Rattle.calculus.specs.Trail.{Trail, Entry, on, level_of, top_level, kept_to}
+use Rattle.calculus.specs.Trail.{Trail, Entry, on, entry, decided_at, level_at, level_of, top_level, kept_to}
 use Rattle.calculus.specs.WellFormed.{WellFormed}
 use Rattle.calculus.proofs.Facts.{is_or_not, both_true, cond_case}
 use Rattle.calculus.proofs.WellFormed.{newest}
 use Rattle.trail.specs.Words.{levels, kinds, order, entry_for, trail_in, kind_at, Laid}
 use Rattle.trail_changes.specs.Bases.{base_of, Base}
 use Rattle.trail.proofs.TermKind.{kind_on}
-use Rattle.trail.proofs.Laws.{trail_more, below_at, entry_at, room_all}
+use Rattle.trail.proofs.Laws.{trail_more, below_at, on_at, entry_at, room_all}
 
 -- ---- trails
 
@@ -89,28 +89,39 @@ module _ {w N : ℕ} {ws : List ℕ} {n m i : ℕ} (u : Seeking w N ws n m i) wh
     abbrev t : ℕ
     t = get_or ws (order w N + (i - 1)) 0
 
-    -- the row at a position passed is one of the terms
+    -- the row at a position passed is one of the terms, and on the trail
     pub seek_small : t < N
     seek_small = below_at N w N ws n (i - 1) u.laid.below (omega (arith, u.within))
+
+    pub seek_on_trail : on (trail_in w N ws n) t ≡ true
+    seek_on_trail = on_at w N ws n (i - 1) (omega (arith, u.within))
 
     here : trail_in w N ws i ≡ entry_for w N ws t ∷ trail_in w N ws (i - 1)
     here = let e : i ≡ i - 1 + 1 = omega arith in ap (trail_in w N ws) e ∙ trail_more w N ws (i - 1)
 
-    -- the entry of that row, one level above l if it is a decision
-    module _ {l : ℕ} (below : l ≡ get_or ws (levels w N + t) 0 - 1) where
-      opened : base_of m (trail_in w N ws n)
-          ≡ cond (eqb (get_or ws (kinds w N + t) 0) 2 && leb l m) (trail_in w N ws (i - 1)) (base_of m (trail_in w N ws (i - 1)))
+    -- the entry of that row, by its look-up: d says whether it is a decision, which is one level above l
+    module _ {d : Bool} {l : ℕ} (d_is : d ≡ decided_at (trail_in w N ws n) t) (l_is : l ≡ level_at (trail_in w N ws n) t - 1) where
+      told : entry (trail_in w N ws n) t ≡ entry_for w N ws t
+      told = entry_at w N ws n t seek_on_trail
+
+      d_here : d ≡ eqb (get_or ws (kinds w N + t) 0) 2
+      d_here = d_is ∙ ap (λ (e : Entry). e.decided) told
+
+      l_here : l ≡ get_or ws (levels w N + t) 0 - 1
+      l_here = l_is ∙ ap (λ (e : Entry). e.level - 1) told
+
+      opened : base_of m (trail_in w N ws n) ≡ cond (d && leb l m) (trail_in w N ws (i - 1)) (base_of m (trail_in w N ws (i - 1)))
       unfolding base_of
       opened =
           sym u.same
           ∙ ap (base_of m) here
-          ∙ ap (λ (x : ℕ). cond (eqb (get_or ws (kinds w N + t) 0) 2 && leb x m) (trail_in w N ws (i - 1)) (base_of m (trail_in w N ws (i - 1)))) (sym below)
+          ∙ sym (ap₂ (λ (b : Bool) (x : ℕ). cond (b && leb x m) (trail_in w N ws (i - 1)) (base_of m (trail_in w N ws (i - 1)))) d_here l_here)
 
-      pub seek_on : eqb (get_or ws (kinds w N + t) 0) 2 && leb l m ≡ false → Seeking w N ws n m (i - 1)
+      pub seek_on : d && leb l m ≡ false → Seeking w N ws n m (i - 1)
       seek_on q = record { laid = u.laid; room = u.room; within = omega (arith, u.within); same = sym (opened ∙ rw q) }
 
-      pub seek_found : {j : ℕ} → WellFormed j (trail_in w N ws n) → eqb (get_or ws (kinds w N + t) 0) 2 && leb l m ≡ true → Base w N ws n m (i - 1) l
+      pub seek_found : {j : ℕ} → WellFormed j (trail_in w N ws n) → d && leb l m ≡ true → Base w N ws n m (i - 1) l
       seek_found r q =
-          let b = both_true (eqb (get_or ws (kinds w N + t) 0) 2) (leb l m) q in
-          let d = decided_above (entry_for w N ws t) (trail_in w N ws (i - 1)) (rw here at (well_formed_first w N ws n i r u.within)) b.0 in
-          record { within = omega (arith, u.within); trail = sym (opened ∙ rw q); greatest = omega (arith, d, below) }
+          let b = both_true d (leb l m) q in
+          let above = decided_above (entry_for w N ws t) (trail_in w N ws (i - 1)) (rw here at (well_formed_first w N ws n i r u.within)) (sym d_here ∙ b.0) in
+          record { within = omega (arith, u.within); trail = sym (opened ∙ rw q); greatest = omega (arith, above, l_here) }

@@ -59,10 +59,6 @@ module _ (ws : List ℕ) (a b c d : ℕ) (x y z u : ℕ) where
     four_d = get_or-set_same three d u 0 (simp length-set (omega arith))
 
 -- ---- the kind that is written
-pub byte_le : (d : Bool) → bool_byte d ≤ 1
-byte_le true = omega arith
-byte_le false = omega arith
-
 flag : (d : Bool) → eqb (1 + bool_byte d) 2 ≡ d
 flag true = refl
 flag false = refl

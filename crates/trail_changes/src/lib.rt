@@ -17,9 +17,7 @@ pub fn start(work: &mut [u64], w: usize, terms: usize)
     ensures { Started w terms work.old work.new }
 {
     let b = terms * w + 2 * terms;
-    for t in 0..terms {
-        work[b + t] = 0;
-    }
+    work[b..b + terms].fill(0);
 }
 
 // One entry more, the newest, of a term that is not on the trail. A justification stands in the term's own words already.
@@ -38,9 +36,9 @@ pub fn push(
 {
     let b = terms * w;
     let u = t.0 as usize;
-    work[b + u] = value as u64;
+    work[b + u] = u64::from(value);
     work[b + terms + u] = level.0;
-    work[b + 2 * terms + u] = 1 + decided as u64;
+    work[b + 2 * terms + u] = 1 + u64::from(decided);
     work[b + 3 * terms + n] = u as u64;
 }
 
@@ -50,13 +48,10 @@ fn base(work: &[u64], w: usize, terms: usize, n: usize, m: Level) -> Kept
     requires { Laid w terms work.now n × WellFormed terms (trail_in w terms work.now n) }
     ensures { Base w terms work.now n m.0 result.count result.top.0 }
 {
-    let b = terms * w;
-    let mut i = n;
-    while 0 < i {
-        i -= 1;
-        let t = work[b + 3 * terms + i] as usize;
-        let before = trail::lower(Level(work[b + terms + t]));
-        if (work[b + 2 * terms + t] == 2) & (before.0 <= m.0) {
+    for i in (0..n).rev() {
+        let t = trail::row_at(work, w, terms, n, i);
+        let before = trail::lower(trail::level(work, w, terms, n, t));
+        if trail::decided(work, w, terms, n, t) & (before <= m) {
             return Kept {
                 count: i,
                 top: before,
@@ -76,19 +71,19 @@ pub fn cut(work: &mut [u64], w: usize, terms: usize, n: usize, m: Level) -> Kept
 {
     let first = base(work, w, terms, n, m);
     let b = terms * w;
-    let most = m.0;
     let mut j = first.count;
     let mut top = first.top;
+    // Stays: the loop writes the words that it reads, so that no iterator over them can be held.
     for i in first.count..n {
         let t = work[b + 3 * terms + i] as usize;
-        let level = work[b + terms + t];
-        if level <= most {
+        let level = Level(work[b + terms + t]);
+        if level <= m {
             work[b + 3 * terms + j] = t as u64;
-            top = trail::larger(top, Level(level));
+            top = trail::larger(top, level);
             j += 1;
         } else {
             work[b + 2 * terms + t] = 0;
         }
     }
-    Kept { count: j, top: top }
+    Kept { count: j, top }
 }

@@ -4,6 +4,3 @@ use Rattle.trail_changes.proofs.base.Given as goal
 
 abbrev pub invariant-loop-i : goal.invariant-loop-i
 invariant-loop-i l = Seeking l.w l.terms l.work l.n l.m.0 l.i
-
-abbrev pub decreases-loop-i : goal.decreases-loop-i
-decreases-loop-i l = l.i

@@ -2,17 +2,8 @@
 use native.Mathlib.Omega.{arith}
 use lib.ListN.{length-set}
 use Rattle.trail.proofs.Laws.{room_one}
-use Rattle.trail_changes.proofs.Pushes.{byte_le, pushed}
+use Rattle.trail_changes.proofs.Pushes.{pushed}
 use Rattle.trail_changes.proofs.push.Goals as goal
-
-pub bounds-work-b-2 : goal.bounds-work-b-2
-bounds-work-b-2 c = simp length-set (omega arith)
-
-pub overflow_add-work-4 : goal.overflow_add-work-4
-overflow_add-work-4 c = omega (arith, byte_le c.args.decided)
-
-pub bounds-work-b-3 : goal.bounds-work-b-3
-bounds-work-b-3 c = simp length-set (omega arith)
 
 pub overflow_add-work-8 : goal.overflow_add-work-8
 overflow_add-work-8 c = omega (arith, room_one _ _ _ _ _ c.requires.0 c.requires.1 c.requires.2)
@@ -24,4 +15,4 @@ pub bounds-work-b-4 : goal.bounds-work-b-4
 bounds-work-b-4 c = simp length-set (omega (arith, room_one _ _ _ _ _ c.requires.0 c.requires.1 c.requires.2))
 
 pub returns : goal.returns
-returns c = pushed _ _ _ _ _ _ _ _ (omega arith) c.requires.0 c.requires.1 c.requires.2
+returns c = rw (c.from.ensures, c.from-2.ensures) (pushed _ _ _ _ _ _ _ _ (omega arith) c.requires.0 c.requires.1 c.requires.2)
