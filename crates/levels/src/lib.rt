@@ -1,12 +1,12 @@
 // The level of a set of rows on the trail, by its members alone, word by word.
 #![tactic(auto)]
 
-ghost use Rattle.std.specs.Prelude.{◌≡◌, max};
+ghost use Rattle.std.specs.Prelude.{◌≡◌, false, ℕ, ◌/◌, ◌<◌, ◌≤◌, max};
 ghost use Rattle.calculus.specs.Terms.{filled};
-ghost use Rattle.calculus.specs.Trail.{remove, without, level_of};
+ghost use Rattle.calculus.specs.Trail.{Set, remove, without, level_of};
 ghost use Rattle.calculus.specs.WellFormed.{Within};
 ghost use Rattle.bitset.specs.Windows.{set_at};
-ghost use Rattle.bitset.specs.Members.{word_of};
+ghost use Rattle.bitset.specs.Members.{word_of, IsWord};
 ghost use Rattle.trail.specs.Words.{trail_in, Laid};
 ghost use Rattle.levels.specs.Sets.{SetOn};
 
@@ -28,17 +28,26 @@ fn word_level(work: &[u64], w: usize, terms: usize, n: usize, k: usize, x: u64, 
     most
 }
 
+// The level of the set s, whose members are all on the trail, and whose words `word` gives.
+fn level_by<F: Fn(usize) -> u64>(work: &[u64], w: usize, terms: usize, n: usize, word: F) -> Level
+    ghost s: { Set }
+    requires { Laid w terms work.now n × Within s (trail_in w terms work.now n) × ((u : ℕ) → w ≤ u / 64 → s u ≡ false)
+        × ((k : ℕ) → k < w → F.pre word k) × ((k x : ℕ) → k < w → F.post word k x → IsWord s k x) }
+    ensures { result.0 ≡ level_of (trail_in w terms work.now n) s }
+{
+    let mut top = Level(0);
+    for k in 0..w {
+        top = word_level(work, w, terms, n, k, word(k), top);
+    }
+    top
+}
+
 // The level of the set at e, whose members are all on the trail.
 pub fn level_of(work: &[u64], w: usize, terms: usize, n: usize, e: usize) -> Level
     requires { SetOn w terms work.now n e }
     ensures { result.0 ≡ level_of (trail_in w terms work.now n) (set_at work.now e w) }
 {
-    let mut top = Level(0);
-    for k in 0..w {
-        let x = work[e + k];
-        top = word_level(work, w, terms, n, k, x, top);
-    }
-    top
+    level_by(work, w, terms, n, |k| work[e + k])
 }
 
 // The level of the set at e without the row a.
@@ -46,12 +55,8 @@ pub fn level_without(work: &[u64], w: usize, terms: usize, n: usize, e: usize, a
     requires { SetOn w terms work.now n e }
     ensures { result.0 ≡ level_of (trail_in w terms work.now n) (remove (set_at work.now e w) a.0) }
 {
-    let mut most = Level(0);
-    for k in 0..w {
-        let x = bitset::word_without(k, work[e + k], a);
-        most = word_level(work, w, terms, n, k, x, most);
-    }
-    most
+    let rest = |k: usize| bitset::word_without(k, work[e + k], a);
+    level_by(work, w, terms, n, rest)
 }
 
 // The level of the set at e without the rows in ps before the first blank.
@@ -66,10 +71,6 @@ pub fn level_without_all(
     requires { SetOn w terms work.now n e }
     ensures { result.0 ≡ level_of (trail_in w terms work.now n) (without (set_at work.now e w) (filled ps.now)) }
 {
-    let mut high = Level(0);
-    for k in 0..w {
-        let x = bitset::word_without_all(k, work[e + k], ps);
-        high = word_level(work, w, terms, n, k, x, high);
-    }
-    high
+    let left = |k: usize| bitset::word_without_all(k, work[e + k], ps);
+    level_by(work, w, terms, n, left)
 }

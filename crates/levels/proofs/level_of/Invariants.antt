@@ -1,12 +1,6 @@
--- `levels::level_of` meets its contract. The greatest level so far is that of the members in the words passed. Assumes nothing.
-use Prim.Native.Nat.{◌-◌}
+-- `levels::level_of` meets its contract. The set is the one at e. Assumes nothing.
 use Rattle.bitset.specs.Windows.{set_at}
-use Rattle.trail.specs.Words.{trail_in}
-use Rattle.levels.proofs.Laws.{Levels}
 use Rattle.levels.proofs.level_of.Given as goal
 
-abbrev pub invariant-loop-k : goal.invariant-loop-k
-invariant-loop-k l = Levels (trail_in l.w l.terms l.work l.n) (set_at l.work l.e l.w) l.w l.k l.top.0
-
-abbrev pub decreases-loop-k : goal.decreases-loop-k
-decreases-loop-k l = l.w - l.k
+abbrev pub ghost-level_by : goal.ghost-level_by
+ghost-level_by a = set_at a.word.0.now a.word.1.now a.w

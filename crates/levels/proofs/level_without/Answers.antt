@@ -1,21 +1,24 @@
--- `levels::level_without` meets its contract. The greatest level so far is that of the members in the words passed. Assumes nothing.
-use Rattle.trail.proofs.Walks.{word_within}
+-- `levels::level_without` meets its contract. Assumes nothing.
+use Prim.Native.Nat.{◌+◌}
+use mathlib.Core.Path.{◌≡◌}
+use borrow.Author.Rules.{rules, lives}
+use lib.ListN.{get_or}
+use Rattle.calculus.specs.Trail.{remove}
+use Rattle.bitset.specs.Members.{word_of}
 use Rattle.bitset.proofs.Members.{set_word, part_word}
-use Rattle.levels.proofs.Laws.{levels_start, levels_more, levels_all, part_within, part_past}
+use Rattle.levels.proofs.Laws.{part_within, part_past}
 use Rattle.levels.proofs.level_without.Goals as goal
 
-pub loop-k-init : goal.loop-k-init
-loop-k-init c = levels_start _ _ _
-
-pub word_level-most-requires : goal.word_level-most-requires
-word_level-most-requires c =
-    let word = part_word _ _ _ _ _ (set_word _ c.args.e _ _ c.loop-k-test.true) c.word_without-x.ensures in
-    (c.requires.0, word_within _ _ _ _ word (part_within _ _ _ c.requires.2))
-
-pub loop-k-preserved : goal.loop-k-preserved
-loop-k-preserved c =
-    let word = part_word _ _ _ _ _ (set_word _ _ _ _ c.loop-k-test.true) c.word_without-x.ensures in
-    levels_more _ c.loop-k.invariant c.loop-k-test.true word c.word_level-most.ensures
-
-pub returns : goal.returns
-returns c = levels_all c.loop-k.invariant c.loop-k-test.false (part_past _ _ _ _)
+pub level_by-requires : goal.level_by-requires
+level_by-requires c κs within = (
+  search lives depth 12 fits 4000,
+  (
+    c.requires.0,
+    part_within _ _ _ c.requires.2,
+    part_past _ _ _ _,
+    (λ k l. search rules),
+    (λ k x l p.
+        let e : word_of k x ≡ remove (word_of k (get_or c.args.work.now (c.args.e + k) 0)) c.args.a.0 = search rules in
+        part_word _ _ _ _ _ (set_word c.args.work.now c.args.e c.args.w k l) e),
+  ),
+)

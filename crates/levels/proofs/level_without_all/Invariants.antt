@@ -1,14 +1,8 @@
--- `levels::level_without_all` meets its contract. The greatest level so far is that of the members in the words passed. Assumes nothing.
-use Prim.Native.Nat.{◌-◌}
-use Rattle.bitset.specs.Windows.{set_at}
-use Rattle.trail.specs.Words.{trail_in}
+-- `levels::level_without_all` meets its contract. The set is the one at e, without the rows in ps. Assumes nothing.
 use Rattle.calculus.specs.Terms.{filled}
 use Rattle.calculus.specs.Trail.{without}
-use Rattle.levels.proofs.Laws.{Levels}
+use Rattle.bitset.specs.Windows.{set_at}
 use Rattle.levels.proofs.level_without_all.Given as goal
 
-abbrev pub invariant-loop-k : goal.invariant-loop-k
-invariant-loop-k l = Levels (trail_in l.w l.terms l.work l.n) (without (set_at l.work l.e l.w) (filled l.ps)) l.w l.k l.high.0
-
-abbrev pub decreases-loop-k : goal.decreases-loop-k
-decreases-loop-k l = l.w - l.k
+abbrev pub ghost-level_by : goal.ghost-level_by
+ghost-level_by a = without (set_at a.word.0.now a.word.1.now a.w) (filled a.word.2.now)
