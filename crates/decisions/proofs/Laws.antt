@@ -7,33 +7,24 @@ use mathlib.Core.List.{List}
 use lib.Dec.{eqb}
 use lib.ListN.{get_or}
 use lib.Bits.{bit_and}
-use borrow.Author.Tests.{eq-eqb, ne_eqb}
 use Rattle.calculus.specs.Terms.{prop}
-use Rattle.calculus.specs.Trail.{Set, Trail, Entry, intersection, on, entry, holds, first_order}
+use Rattle.calculus.specs.Trail.{Set, Trail, Entry, intersection, on, entry, decided_at, level_at, holds, first_order}
+use Rattle.calculus.proofs.Entries.{entry_in}
 use Rattle.calculus.specs.WellFormed.{Distinct, Within}
-use Rattle.calculus.proofs.Facts.{both_true}
+use Rattle.calculus.proofs.Facts.{both_true, true_T}
 use Rattle.bitset.specs.Windows.{set_at}
 use Rattle.bitset.proofs.Windows.{set_past}
 use Rattle.bitset.specs.Members.{word_of, first_of, IsWord}
 use Rattle.bitset.proofs.Members.{none_left, first_member, word_first, word_in, first_words, words_none, words_more, words_all, set_word, both_word}
-use Rattle.trail.specs.Words.{kinds, levels, trail_in}
 use Rattle.calculus.proofs.Trails.{holds_yes, holds_empty, holds_skip, holds_union, holds_wider}
-use Rattle.trail.proofs.Laws.{entry_at}
 use Rattle.trail.proofs.Walks.{Rest, first_on, rest_next}
 
--- ---- an entry, by its words
+-- ---- an entry, by its look-ups
 
-module _ (w N : ℕ) (ws ts : List ℕ) (n t m : ℕ) (o : on (trail_in w N ws n) t ≡ true) where
-  first_order_word : eqb (get_or ws (kinds w N + t) 0) 2 && (not (prop ts t) && eqb (get_or ws (levels w N + t) 0) m)
-      ≡ first_order ts m (entry (trail_in w N ws n) t)
-  first_order_word = sym (ap (first_order ts m) (entry_at w N ws n t o))
-
-  pub decision_word : get_or ws (kinds w N + t) 0 ≡ 2
-      → not (prop ts t) && eqb (get_or ws (levels w N + t) 0) m ≡ first_order ts m (entry (trail_in w N ws n) t)
-  decision_word e = rw (eq-eqb _ 2 e) at first_order_word
-
-  pub justified_word : (get_or ws (kinds w N + t) 0 ≡ 2 → ⊥) → false ≡ first_order ts m (entry (trail_in w N ws n) t)
-  justified_word e = rw (ne_eqb _ 2 e) at first_order_word
+pub first_order_told : (tr : Trail) (ts : List ℕ) (t l m : ℕ) (d : Bool) → on tr t ≡ true → d ≡ decided_at tr t → (d ≡ true → l ≡ level_at tr t)
+    → d && (not (prop ts t) && eqb l m) ≡ first_order ts m (entry tr t)
+first_order_told tr ts t l m true o d_is l_is = rw (← d_is, l_is refl, (entry_in tr t (true_T _ o)).1) refl
+first_order_told tr ts t l m false o d_is l_is = rw (← d_is) refl
 
 -- ---- a word, member by member
 

@@ -24,10 +24,8 @@ fn first_order(
     requires { Laid w terms work.now n × (terms * 6 ≤ length sheet.now) × (t.0 < terms) × (on (trail_in w terms work.now n) t.0 ≡ true) }
     ensures { result ≡ first_order sheet.now m.0 (entry (trail_in w terms work.now n) t.0) }
 {
-    let b = terms * w;
-    let u = t.0 as usize;
-    if work[b + 2 * terms + u] == 2 {
-        return !(sheet[u * 6 + 1] == 0) & (work[b + terms + u] == m.0);
+    if trail::decided(work, w, terms, n, t) {
+        return (sheet[t.0 as usize * 6 + 1] != 0) & (trail::level(work, w, terms, n, t) == m);
     }
     false
 }
@@ -70,13 +68,7 @@ pub fn holds_first_order(
     requires { Searchable w terms work.now n sheet.now e }
     ensures { result ≡ holds (trail_in w terms work.now n) (set_at work.now e w) (first_order sheet.now m.0) }
 {
-    for k in 0..w {
-        let x = work[e + k];
-        if word_holds(work, w, terms, n, sheet, k, x, m) {
-            return true;
-        }
-    }
-    false
+    share_first_order(work, w, terms, n, sheet, e, e, m)
 }
 
 // Whether the sets at e and f share a first-order decision of level m; the members of the first are all on the trail.
