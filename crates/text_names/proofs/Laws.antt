@@ -1,17 +1,14 @@
 -- Laws of slots.
 use Prim.Native.Nat.{ℕ, suc, ◌+◌, ◌*◌, ◌/◌, ◌%◌, ◌≤◌, ◌<◌}
 use mathlib.Core.Path.{◌≡◌, refl, ap, sym, ◌∙◌}
-use mathlib.Core.Bool.{false}
 use mathlib.Core.List.{List, append_assoc}
 use native.Mathlib.Omega.{arith}
 use native.Mathlib.Nat.{add-zero}
 use native.Mathlib.Numerals.{add-one}
-use borrow.Author.Tests.{eq-eqb, ne_eqb}
 use lib.ListN.{length, take, drop, get_or, set, length-set}
-use lib.Seq.{drop-drop, paste, paste-zero, paste-suc, length-paste, take-paste, drop-paste}
-use Rattle.text_fields.specs.Split.{same}
+use lib.Seq.{drop-drop, paste, paste-zero, paste-suc, take-paste, drop-paste}
 use Rattle.text_tags.specs.Tags.{tag_of}
-use Rattle.text_names.specs.Table.{length_at, name_from, held, slot_of, slot_put}
+use Rattle.text_names.specs.Table.{slot_of, slot_put}
 
 -- the bytes of a name's slot
 module _ (name : List ℕ) where
@@ -36,9 +33,6 @@ module _ (d : List ℕ) (at : ℕ) (s : List ℕ) (i : ℕ) (t : List ℕ) (is :
   pub put_more : (v : ℕ) → v ≡ get_or s i 0 → i < length s → at + i < length d → set t (at + i) v ≡ paste d at s (i + 1)
   put_more v e h k = rw (is, e, add-one) (paste-suc d at s i 0 k h)
 
-  pub put_length : i ≤ length s → at + i ≤ length d → length t ≡ length d
-  put_length h k = ap length is ∙ length-paste d at s i k h
-
 -- the stores that write a name's slot: three bytes, and then the name
 module _ (t : List ℕ) (s : ℕ) (name : List ℕ) (fits : s * 67 + 67 ≤ length t) (short : length name ≤ 64) where
   abbrev headed : ℕ → List ℕ
@@ -55,10 +49,6 @@ module _ (t : List ℕ) (s : ℕ) (name : List ℕ) (fits : s * 67 + 67 ≤ leng
   head_length : (tag : ℕ) → length (headed tag) ≡ length t
   head_length tag = simp length-set
 
-  pub slot_put_length : (tag : ℕ) (p : List ℕ) → p ≡ paste (headed tag) (s * 67 + 3) name (length name) → length p ≡ length t
-  slot_put_length tag p e =
-      ap length e ∙ length-paste (headed tag) (s * 67 + 3) name (length name) (omega (arith, head_length tag)) (omega arith) ∙ head_length tag
-
   pub slot_put_lem : {tag : ℕ} → tag ≡ tag_of name → (p : List ℕ) → p ≡ paste (headed tag) (s * 67 + 3) name (length name) → p ≡ slot_put t s name
   unfolding slot_of
   slot_put_lem is p e =
@@ -70,13 +60,3 @@ module _ (t : List ℕ) (s : ℕ) (name : List ℕ) (fits : s * 67 + 67 ≤ leng
       let tail : drop (a + 3 + n) u ≡ drop (a + 3 + n) t =
       sym (drop-drop n (a + 3) u) ∙ ap (drop n) (drop-paste t a l 3 (omega arith) (omega arith)) ∙ drop-drop n (a + 3) t in
       e ∙ rw (is, head_put, take-paste t a l 3 (omega arith) (omega arith), tail, z, append_assoc (take a t) (take 3 l) (take n name))
-
--- whether a slot holds a name
-module _ (t : List ℕ) (s : ℕ) (name : List ℕ) where
-  pub held_not : (length_at t s ≡ length name → ⊥) → false ≡ held t s name
-  unfolding held
-  held_not h = rw (ne_eqb (length_at t s) (length name) h)
-
-  pub held_by : length_at t s ≡ length name → same (take (length name) (drop (name_from s) t)) name ≡ held t s name
-  unfolding held
-  held_by h = rw (eq-eqb (length_at t s) (length name) h)

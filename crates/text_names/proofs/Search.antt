@@ -5,14 +5,14 @@ use mathlib.Core.Bool.{Bool, true, false}
 use mathlib.Core.List.{List}
 use native.Mathlib.Omega.{arith}
 use native.Mathlib.Numerals.{add-one}
-use borrow.Author.Tests.{eqb-true, eq-eqb, ne_eqb, leb-true, leb-false, le-leb, lt-leb, ltb-true, lt-ltb, le-ltb}
+use borrow.Author.Tests.{eqb-true, leb-true, leb-false, le-leb, lt-leb, ltb-true, lt-ltb, le-ltb}
 use lib.Dec.{eqb, leb, ltb}
-use lib.ListN.{length, get_or, get_or-eq_default}
+use lib.ListN.{length, get_or}
 use Rattle.text_fields.specs.Split.{pick}
 use Rattle.text_tags.specs.Tags.{tag_of}
 use Rattle.text_tags.proofs.Laws.{tag_small}
-use Rattle.text_names.specs.declared.Spot.TheVariants.{Held, Free}
-use Rattle.text_names.specs.Table.{tag_at, held, first_place, below_place, digit_of, number_at, next_place, leads_on, seek_from, spot_of}
+use Rattle.std.specs.Prelude.{Ok, Err}
+use Rattle.text_names.specs.Table.{Spot, tag_at, held, first_place, below_place, digit_of, number_at, next_place, leads_on, seek_from, spot_of}
 
 -- ---- a number that leads on
 
@@ -53,14 +53,14 @@ module _ (t : List ℕ) (base n tag low e : ℕ) where
 
 -- ---- the search, step by step
 
-pub free_is : {a b : ℕ} → Free a ≡ Free b → a ≡ b
+pub free_is : {a b : ℕ} → ◌≡◌ {A = Spot} (Err a) (Err b) → a ≡ b
 free_is q = cc
 
-pub held_not_free : {a b : ℕ} → Held a ≡ Free b → ⊥
+pub held_not_free : {a b : ℕ} → ◌≡◌ {A = Spot} (Ok a) (Err b) → ⊥
 held_not_free q = let z : ◌≡◌ {A = ℕ} 0 1 = cc in omega arith
 
 module _ (t : List ℕ) (base n : ℕ) (name : List ℕ) where
-  pub seek_past : (m low place d : ℕ) → n ≤ low → seek_from t base n name m low place d ≡ Free place
+  pub seek_past : (m low place d : ℕ) → n ≤ low → seek_from t base n name m low place d ≡ Err place
   seek_past zero low place d h = refl
   seek_past (suc m) low place d h = rw (not_left t base n (tag_of name) low (number_at t place) h)
 
@@ -69,7 +69,7 @@ module _ (t : List ℕ) (base n : ℕ) (name : List ℕ) where
     abbrev e : ℕ
     e = number_at t place
 
-    pub seek_ends : (m : ℕ) → leads_on t base n (tag_of name) low e ≡ false → seek_from t base n name m low place d ≡ Free place
+    pub seek_ends : (m : ℕ) → leads_on t base n (tag_of name) low e ≡ false → seek_from t base n name m low place d ≡ Err place
     seek_ends zero h = refl
     seek_ends (suc m) h = rw h
 
@@ -78,7 +78,7 @@ module _ (t : List ℕ) (base n : ℕ) (name : List ℕ) where
     seek_left m k h = let r = leads_to t base n (tag_of name) low e h in omega (arith, r.0, r.1)
 
     module _ (m : ℕ) (h : leads_on t base n (tag_of name) low e ≡ true) where
-      pub seek_hits : held t (base + e) name ≡ true → seek_from t base n name (suc m) low place d ≡ Held e
+      pub seek_hits : held t (base + e) name ≡ true → seek_from t base n name (suc m) low place d ≡ Ok e
       seek_hits p = rw (h, p)
 
       pub seek_goes_on : held t (base + e) name ≡ false
@@ -92,20 +92,6 @@ digit_small name d = go (eqb (d % 2) 0) where
   go : (b : Bool) → pick b (get_or name (d / 2) 0 % 16) (get_or name (d / 2) 0 / 16 % 16) < 16
   go true = omega arith
   go false = omega arith
-
-module _ (name : List ℕ) (d : ℕ) where
-  pub digit_past : length name ≤ d / 2 → 0 ≡ digit_of name d
-  digit_past h = go (eqb (d % 2) 0) where
-    go : (b : Bool) → 0 ≡ pick b (get_or name (d / 2) 0 % 16) (get_or name (d / 2) 0 / 16 % 16)
-    go true = rw (get_or-eq_default name 0 h)
-    go false = rw (get_or-eq_default name 0 h)
-
-  module _ {b : ℕ} (b_is : b ≡ get_or name (d / 2) 0) where
-    pub digit_low : d % 2 ≡ 0 → b % 16 ≡ digit_of name d
-    digit_low h = rw (b_is, eq-eqb (d % 2) 0 h)
-
-    pub digit_high : (d % 2 ≡ 0 → ⊥) → b / 16 % 16 ≡ digit_of name d
-    digit_high h = rw (b_is, ne_eqb (d % 2) 0 h)
 
 -- at the first number of a tag, or at a number below one of n names that has the tag
 pub data Reached (t : List ℕ) (base n tag low place : ℕ) : Type 0 where
@@ -145,7 +131,7 @@ module _ (t : List ℕ) (base n : ℕ) where
     pub stops : leads_on t base n (tag_of name) low (number_at t place) ≡ false
 
   seek_ended : (name : List ℕ) (m low place d end : ℕ) → n ≤ low + m → Reached t base n (tag_of name) low place
-      → seek_from t base n name m low place d ≡ Free end → Ended name end
+      → seek_from t base n name m low place d ≡ Err end → Ended name end
   seek_ended name zero low place d end h r q =
       let z : place ≡ end = cc in
       rw (sym z) (record { low = low; reached = r; stops = not_left t base n (tag_of name) low (number_at t place) (omega arith) })
@@ -153,10 +139,10 @@ module _ (t : List ℕ) (base n : ℕ) where
       go (seek_ended name m (suc (number_at t place)) (next_place t base name place d) (suc d) end)
       (leads_on t base n (tag_of name) low (number_at t place)) (held t (base + number_at t place) name) refl q where
         go : (n ≤ suc (number_at t place) + m → Reached t base n (tag_of name) (suc (number_at t place)) (next_place t base name place d)
-            → seek_from t base n name m (suc (number_at t place)) (next_place t base name place d) (suc d) ≡ Free end → Ended name end)
+            → seek_from t base n name m (suc (number_at t place)) (next_place t base name place d) (suc d) ≡ Err end → Ended name end)
             → (b c : Bool) → leads_on t base n (tag_of name) low (number_at t place) ≡ b
-            → pick b (pick c (Held (number_at t place)) (seek_from t base n name m (suc (number_at t place))
-            (next_place t base name place d) (suc d))) (Free place) ≡ Free end
+            → pick b (pick c (Ok (number_at t place)) (seek_from t base n name m (suc (number_at t place))
+            (next_place t base name place d) (suc d))) (Err place) ≡ Err end
             → Ended name end
         go ih true true p z = absurd (let y : ◌≡◌ {A = ℕ} 0 1 = cc in omega arith)
         go ih true false p z =
@@ -164,7 +150,7 @@ module _ (t : List ℕ) (base n : ℕ) where
             ih (omega (arith, s.0)) (reached_next name low (number_at t place) d p) z
         go ih false c p z = let y : place ≡ end = cc in rw (sym y) (record { low = low; reached = r; stops = p })
 
-  pub spot_ended : (name : List ℕ) (place : ℕ) → spot_of t base n name ≡ Free place → Ended name place
+  pub spot_ended : (name : List ℕ) (place : ℕ) → spot_of t base n name ≡ Err place → Ended name place
   unfolding spot_of
   spot_ended name place q = seek_ended name n 0 (first_place base (tag_of name)) 0 place (omega arith) (first refl refl) q
 
@@ -205,11 +191,11 @@ module _ {t : List ℕ} {base count : ℕ} {name : List ℕ} {tag : ℕ} where
     pub seek_inside : place < 55392
     seek_inside = reached_inside t base count l.base_low l.room (rw l.tag_is (tag_small name)) l.reached
 
-    pub seek_over : count ≤ low → Free place ≡ spot_of t base count name
+    pub seek_over : count ≤ low → Err place ≡ spot_of t base count name
     seek_over h = sym (seek_past t base count name l.fuel low place d h) ∙ l.left
 
     module _ {e : ℕ} (e_is : e ≡ number_at t place) {b : Bool} (b_is : b ≡ leads_on t base count tag low e) where
-      pub seek_stops : b ≡ false → Free place ≡ spot_of t base count name
+      pub seek_stops : b ≡ false → Err place ≡ spot_of t base count name
       seek_stops h = sym (seek_ends t base count name low place d l.fuel (rw (l.tag_is, e_is) at (sym b_is ∙ h))) ∙ l.left
 
       module _ (b_leads : b ≡ true) where
@@ -220,14 +206,14 @@ module _ {t : List ℕ} {base count : ℕ} {name : List ℕ} {tag : ℕ} where
         seek_low = let k = leads_to t base count (tag_of name) low (number_at t place) leads in rw e_is (k.0, k.1)
 
         module _ {c : Bool} (c_is : c ≡ held t (base + e) name) where
-          pub seek_finds : c ≡ true → Held e ≡ spot_of t base count name
+          pub seek_finds : c ≡ true → Ok e ≡ spot_of t base count name
           seek_finds h = go l.fuel l.enough l.left where
             there : held t (base + number_at t place) name ≡ true
             there = rw e_is at (sym c_is ∙ h)
 
-            go : (m : ℕ) → count ≤ low + m → seek_from t base count name m low place d ≡ spot_of t base count name → Held e ≡ spot_of t base count name
+            go : (m : ℕ) → count ≤ low + m → seek_from t base count name m low place d ≡ spot_of t base count name → Ok e ≡ spot_of t base count name
             go zero k q = absurd (omega (arith, seek_left t base count name low place d 0 k leads))
-            go (suc m) k q = ap Held e_is ∙ sym (seek_hits t base count name low place d m leads there) ∙ q
+            go (suc m) k q = ap Ok e_is ∙ sym (seek_hits t base count name low place d m leads there) ∙ q
 
           pub seek_next : c ≡ false → {x place' : ℕ} → x ≡ digit_of name d → place' ≡ below_place (base + e) x
               → Seeking t base count name tag place' (e + 1) (d + 1)

@@ -15,13 +15,12 @@ use Rattle.text_fields.specs.Split.{pick}
 use Rattle.text_fields.specs.Class.{class_of, is_name, named}
 use Rattle.text_fields.specs.Words.{index_from}
 use Rattle.text_fields.specs.declared.ByteClass.TheVariants.{Space, Newline, Other}
-use Rattle.text_fields.specs.declared.Found.TheVariants.{At, Nothing}
 use Rattle.text_fields.proofs.Laws.{same_self}
 use Rattle.text_tags.specs.Tags.{tag_of}
 use Rattle.text_tags.proofs.Laws.{tag_small}
-use Rattle.text_names.specs.declared.Spot.{Spot}
-use Rattle.text_names.specs.declared.Spot.TheVariants.{Held, Free}
-use Rattle.text_names.specs.Table.{length_at, tag_at, name_from, held, written, slot_of, first_place, below_place, digit_of, number_at, next_place, leads_on, seek_from, spot_of, found_at, found, is_number, name_at, names_on, names_from, slot_put, put_at, with_name}
+use Rattle.std.specs.Prelude.{Some, None, Ok, Err}
+use Rattle.std.specs.Result.{result_ok}
+use Rattle.text_names.specs.Table.{Spot, length_at, tag_at, name_from, held, written, slot_of, first_place, below_place, digit_of, number_at, next_place, leads_on, seek_from, spot_of, found, is_number, name_at, names_on, names_from, slot_put, put_at, with_name}
 use Rattle.text_names.proofs.Laws.{length_slot, slot_name, slot_length, slot_tag}
 use Rattle.text_names.proofs.Search.{Reached, first, next, Ended, leads_to, not_past, by_tag, not_left, seek_past, seek_ends, seek_hits, seek_goes_on, free_is, held_not_free, reached_next, reached_behind, reached_inside, reached_alike, spot_ended}
 use Rattle.text_names.proofs.Found.{take_most, written_short, held_written, found_is}
@@ -124,10 +123,10 @@ module _ (t u : List ℕ) (long : length u ≡ length t) where
                 → seek_from u base n x m (suc (number_at t place)) (next_place t base x place d) (suc d)
                 ≡ seek_from t base n x m (suc (number_at t place)) (next_place t base x place d) (suc d))
                 → (b : Bool) → leads_on t base n (tag_of x) low (number_at t place) ≡ b
-                → pick b (pick (held u (base + number_at t place) x) (Held (number_at t place))
-                (seek_from u base n x m (suc (number_at t place)) (next_place t base x place d) (suc d))) (Free place)
-                ≡ pick b (pick (held t (base + number_at t place) x) (Held (number_at t place))
-                (seek_from t base n x m (suc (number_at t place)) (next_place t base x place d) (suc d))) (Free place)
+                → pick b (pick (held u (base + number_at t place) x) (Ok (number_at t place))
+                (seek_from u base n x m (suc (number_at t place)) (next_place t base x place d) (suc d))) (Err place)
+                ≡ pick b (pick (held t (base + number_at t place) x) (Ok (number_at t place))
+                (seek_from t base n x m (suc (number_at t place)) (next_place t base x place d) (suc d))) (Err place)
             go ih true p =
                 let e = number_at t place in
                 let k = leads_to t base n (tag_of x) low e p in
@@ -175,7 +174,7 @@ module _ (t : List ℕ) (a : ℕ) (l : List ℕ) (fits : a + length l ≤ length
 
 -- a name that is put where the search for it ended
 module _ (t : List ℕ) (base n : ℕ) (name : List ℕ) (size : length t ≡ 55392) (base_low : base ≤ 288) (few : n < 256) (short : length name ≤ 64)
-    (place : ℕ) (free : spot_of t base n name ≡ Free place) where
+    (place : ℕ) (free : spot_of t base n name ≡ Err place) where
   abbrev after : List ℕ
   after = with_name t base n name
 
@@ -298,22 +297,22 @@ module _ (t : List ℕ) (base n : ℕ) (name : List ℕ) (size : length t ≡ 55
   held_old : (e : ℕ) (x : List ℕ) → length x ≤ 64 → e < n → held after (base + e) x ≡ held t (base + e) x
   held_old e x h k = held_same t after free_length (base + e) (slot_old (base + e) (omega arith) (λ z. omega arith)) x h
 
-  at_place : (m low d : ℕ) → low ≤ n → seek_from after base (suc n) name (suc m) low place d ≡ Held n
+  at_place : (m low d : ℕ) → low ≤ n → seek_from after base (suc n) name (suc m) low place d ≡ Ok n
   at_place m low d h =
       rw (number_new, by_tag after base (suc n) (tag_of name) low n h (omega arith), tag_new, eq-eqb (tag_of name) (tag_of name) refl, held_new)
 
   -- the search for it goes on as before, up to its number
-  seek_new : (m low i d : ℕ) → n ≤ low + m → low ≤ n → 36448 ≤ i → seek_from t base n name m low i d ≡ Free place
-      → seek_from after base (suc n) name (suc m) low i d ≡ Held n
+  seek_new : (m low i d : ℕ) → n ≤ low + m → low ≤ n → 36448 ≤ i → seek_from t base n name m low i d ≡ Err place
+      → seek_from after base (suc n) name (suc m) low i d ≡ Ok n
   seek_new zero low i d h l b q = let z : i ≡ place = cc in rw z (at_place zero low d l)
   seek_new (suc m) low i d h l b q =
       go (seek_new m (suc (number_at t i)) (next_place t base name i d) (suc d)) (eqb i place) refl
       (leads_on t base n (tag_of name) low (number_at t i)) refl (held t (base + number_at t i) name) refl where
         go : (n ≤ suc (number_at t i) + m → suc (number_at t i) ≤ n → 36448 ≤ next_place t base name i d
-            → seek_from t base n name m (suc (number_at t i)) (next_place t base name i d) (suc d) ≡ Free place
-            → seek_from after base (suc n) name (suc m) (suc (number_at t i)) (next_place t base name i d) (suc d) ≡ Held n)
+            → seek_from t base n name m (suc (number_at t i)) (next_place t base name i d) (suc d) ≡ Err place
+            → seek_from after base (suc n) name (suc m) (suc (number_at t i)) (next_place t base name i d) (suc d) ≡ Ok n)
             → (a : Bool) → eqb i place ≡ a → (c : Bool) → leads_on t base n (tag_of name) low (number_at t i) ≡ c
-            → (x : Bool) → held t (base + number_at t i) name ≡ x → seek_from after base (suc n) name (suc (suc m)) low i d ≡ Held n
+            → (x : Bool) → held t (base + number_at t i) name ≡ x → seek_from after base (suc n) name (suc (suc m)) low i d ≡ Ok n
         go ih true p c r x y = rw (eqb-true i place p) (at_place (suc m) low d l)
         go ih false p false r x y = absurd (let z : i ≡ place = free_is (sym (seek_ends t base n name low i d (suc m) r) ∙ q) in eqb-false i place p z)
         go ih false p true r true y =
@@ -324,31 +323,31 @@ module _ (t : List ℕ) (base n : ℕ) (name : List ℕ) (size : length t ≡ 55
             rw (o, leads_old (tag_of name) low (number_at t i) (λ z. omega (arith, k.1)) ∙ r, held_old (number_at t i) name short k.1 ∙ y)
             (ih (omega (arith, k.0)) (omega (arith, k.1)) (omega arith) (sym (seek_goes_on t base n name low i d m r y) ∙ q))
 
-  found_new : found after base (suc n) name ≡ At n
+  found_new : found after base (suc n) name ≡ Some n
   unfolding spot_of
-  found_new = ap found_at (seek_new n 0 (first_place base (tag_of name)) 0 (omega arith) (omega arith) (omega arith) free)
+  found_new = ap result_ok (seek_new n 0 (first_place base (tag_of name)) 0 (omega arith) (omega arith) (omega arith) free)
 
   -- ---- what another search finds
 
   -- what a search finds after the name is put, and what it found before: the same, or the new name and nothing
   abbrev Kept : Spot → Spot → Type 0
-  Kept s r = (found_at s ≡ found_at r) ⊎ ((found_at s ≡ At n) × (found_at r ≡ Nothing))
+  Kept s r = (result_ok s ≡ result_ok r) ⊎ ((result_ok s ≡ Some n) × (result_ok r ≡ None))
 
   module _ (x : List ℕ) (x_short : length x ≤ 64) where
     -- at the new name's number the search ends: there is no name behind it
-    at_new : (m low i d : ℕ) (r : Spot) → number_at after i ≡ n → found_at r ≡ Nothing → Kept (seek_from after base (suc n) x (suc m) low i d) r
+    at_new : (m low i d : ℕ) (r : Spot) → number_at after i ≡ n → result_ok r ≡ None → Kept (seek_from after base (suc n) x (suc m) low i d) r
     at_new m low i d r e none =
         rw e (go (leads_on after base (suc n) (tag_of x) low n) (held after (base + n) x)) where
           go : (b c : Bool) → Kept
-              (pick b (pick c (Held n) (seek_from after base (suc n) x m (suc n) (below_place (base + n) (digit_of x d)) (suc d))) (Free i)) r
+              (pick b (pick c (Ok n) (seek_from after base (suc n) x m (suc n) (below_place (base + n) (digit_of x d)) (suc d))) (Err i)) r
           go true true = inr (refl, none)
           go true false =
-              inl (ap found_at (seek_past after base (suc n) x m (suc n) (below_place (base + n) (digit_of x d)) (suc d) (omega arith)) ∙ sym none)
+              inl (ap result_ok (seek_past after base (suc n) x m (suc n) (below_place (base + n) (digit_of x d)) (suc d) (omega arith)) ∙ sym none)
           go false c = inl (sym none)
 
     -- where the new number stands, no name was found before
-    none_before : (m low i d : ℕ) → Reached t base n (tag_of x) low i → number_at after i ≡ n → found_at (seek_from t base n x m low i d) ≡ Nothing
-    none_before m low i d r e = ap found_at (seek_ends t base n x low i d m (go (eqb i place) refl)) where
+    none_before : (m low i d : ℕ) → Reached t base n (tag_of x) low i → number_at after i ≡ n → result_ok (seek_from t base n x m low i d) ≡ None
+    none_before m low i d r e = ap result_ok (seek_ends t base n x low i d m (go (eqb i place) refl)) where
       go : (b : Bool) → eqb i place ≡ b → leads_on t base n (tag_of x) low (number_at t i) ≡ false
       go true p =
           let z = eqb-true i place p in
@@ -370,7 +369,7 @@ module _ (t : List ℕ) (base n : ℕ) (name : List ℕ) (size : length t ≡ 55
       go true p = let e = eqb-true (number_at after i) n p in at_new 0 low i d (seek_from t base n x 0 low i d) e (none_before 0 low i d r e)
       go false p =
           let q = eqb-false (number_at after i) n p in
-          inl (ap found_at (seek_ends after base (suc n) x low i d 1
+          inl (ap result_ok (seek_ends after base (suc n) x low i d 1
           (leads_old (tag_of x) low (number_at after i) q ∙ not_left t base n (tag_of x) low (number_at after i) (omega arith))))
     kept (suc m) low i d h l r =
         go (kept m (suc (number_at t i)) (next_place t base x i d) (suc d)) (eqb (number_at after i) n) refl
@@ -395,8 +394,8 @@ module _ (t : List ℕ) (base n : ℕ) (name : List ℕ) (size : length t ≡ 55
               let k = leads_to t base n (tag_of x) low (number_at t i) w in
               rw (o, leads_old (tag_of x) low (number_at t i) (λ z. q (o ∙ z)) ∙ w, held_old (number_at t i) x x_short k.1 ∙ v, w, v) (two y) where
                 two : (b : Bool) → Kept
-                    (pick b (Held (number_at t i)) (seek_from after base (suc n) x (suc m) (suc (number_at t i)) (next_place t base x i d) (suc d)))
-                    (pick b (Held (number_at t i)) (seek_from t base n x m (suc (number_at t i)) (next_place t base x i d) (suc d)))
+                    (pick b (Ok (number_at t i)) (seek_from after base (suc n) x (suc m) (suc (number_at t i)) (next_place t base x i d) (suc d)))
+                    (pick b (Ok (number_at t i)) (seek_from t base n x m (suc (number_at t i)) (next_place t base x i d) (suc d)))
                 two true = inl refl
                 two false =
                     let k = leads_to t base n (tag_of x) low (number_at t i) w in
@@ -432,23 +431,23 @@ module _ (t : List ℕ) (base n : ℕ) (name : List ℕ) (size : length t ≡ 55
 -- ---- a name that is put, wherever the search for it ends
 
 module _ (t : List ℕ) (base n : ℕ) (name : List ℕ) (size : length t ≡ 55392) (base_low : base ≤ 288) (few : n < 256) (short : length name ≤ 64) where
-  there : (e : ℕ) → spot_of t base n name ≡ Held e → with_name t base n name ≡ t
+  there : (e : ℕ) → spot_of t base n name ≡ Ok e → with_name t base n name ≡ t
   unfolding with_name
   there e q = ap (put_at t base n name) q
 
   pub length_put : length (with_name t base n name) ≡ length t
   length_put = go (spot_of t base n name) refl where
     go : (s : Spot) → spot_of t base n name ≡ s → length (with_name t base n name) ≡ length t
-    go (Held e) q = ap length (there e q)
-    go (Free place) q = free_length t base n name size base_low few short place q
+    go (Ok e) q = ap length (there e q)
+    go (Err place) q = free_length t base n name size base_low few short place q
 
   -- the names of other tables stay
   names_stay : (b m : ℕ) → ((b + m ≤ base) × (b + 32 ≤ base)) ⊎ ((b ≤ 288) × (base + n < b) × (base + 32 ≤ b)) → b + m ≤ 544
       → names_from (with_name t base n name) b m ≡ names_from t b m
   names_stay b m aside h = go (spot_of t base n name) refl where
     go : (s : Spot) → spot_of t base n name ≡ s → names_from (with_name t base n name) b m ≡ names_from t b m
-    go (Held e) q = ap (λ (u : List ℕ). names_from u b m) (there e q)
-    go (Free place) q = names_aside t base n name size base_low few short place q b m aside h
+    go (Ok e) q = ap (λ (u : List ℕ). names_from u b m) (there e q)
+    go (Err place) q = names_aside t base n name size base_low few short place q b m aside h
 
   pub names_before : (b m : ℕ) → b + m ≤ base → b + 32 ≤ base → names_from (with_name t base n name) b m ≡ names_from t b m
   names_before b m h k = names_stay b m (inl (h, k)) (omega arith)
@@ -457,23 +456,23 @@ module _ (t : List ℕ) (base n : ℕ) (name : List ℕ) (size : length t ≡ 55
   names_after b m i h k g = names_stay b m (inr (i, k, g)) h
 
   -- a name that is new is put behind the names of its table
-  pub names_put : get_or name 0 0 < 256 → index_from 0 (names_from t base n) name ≡ Nothing
+  pub names_put : get_or name 0 0 < 256 → index_from 0 (names_from t base n) name ≡ None
       → names_from (with_name t base n name) base (n + 1) ≡ names_from t base n ++ (name ∷ [])
   names_put byte new = go (spot_of t base n name) refl where
     go : (s : Spot) → spot_of t base n name ≡ s → names_from (with_name t base n name) base (n + 1) ≡ names_from t base n ++ (name ∷ [])
-    go (Held e) q =
-        let z : At e ≡ Nothing = ap found_at (sym q) ∙ found_is t base n name short byte ∙ new in
+    go (Ok e) q =
+        let z : Some e ≡ None = ap result_ok (sym q) ∙ found_is t base n name short byte ∙ new in
         absurd (let y : ◌≡◌ {A = ℕ} 0 1 = cc in omega arith)
-    go (Free place) q = free_put t base n name size base_low few short place q
+    go (Err place) q = free_put t base n name size base_low few short place q
 
 -- ---- the stores that put a name
 
 module _ (t : List ℕ) (base n : ℕ) (name : List ℕ) {s : Spot} (s_is : s ≡ spot_of t base n name) where
-  pub put_none : (e : ℕ) → s ≡ Held e → t ≡ with_name t base n name
+  pub put_none : (e : ℕ) → s ≡ Ok e → t ≡ with_name t base n name
   unfolding with_name
   put_none e q = ap (put_at t base n name) (sym q ∙ s_is)
 
-  module _ (place : ℕ) (s_free : s ≡ Free place) (p : List ℕ) (p_is : p ≡ slot_put t (base + n) name) where
+  module _ (place : ℕ) (s_free : s ≡ Err place) (p : List ℕ) (p_is : p ≡ slot_put t (base + n) name) where
     pub put_some : set p place n ≡ with_name t base n name
     unfolding with_name
     put_some = rw p_is (ap (put_at t base n name) (sym s_free ∙ s_is))

@@ -1,14 +1,11 @@
 -- Tables of names in one list of bytes. Each name has a slot of 67 bytes: its length, its tag in two bytes, and 64 bytes for the name. Behind the 544 slots
 -- stands, for each table and each tag, the number of the first name of that tag; behind those, for each slot, sixteen numbers of names below it. So names
 -- of one tag are a tree: a name that is not in a slot is looked for below it, by the next digit of the name.
-use Rattle.std.specs.Prelude.{ℕ, zero, suc, ◌+◌, ◌*◌, ◌/◌, ◌%◌, Bool, false, List, [], ◌∷◌, eqb, leb, ltb, length, take, drop, get_or, set}
+use Rattle.std.specs.Prelude.{Option, Some, None, Result, Ok, Err, ℕ, zero, suc, ◌+◌, ◌*◌, ◌/◌, ◌%◌, Bool, false, List, [], ◌∷◌, eqb, leb, ltb, length, take, drop, get_or, set}
+use Rattle.std.specs.Result.{result_ok}
 use Rattle.std.proofs.Math.Seq.{paste}
 use Rattle.text_fields.specs.Split.{pick, same}
-use Rattle.text_fields.specs.declared.Found.{Found}
-use Rattle.text_fields.specs.declared.Found.TheVariants.{At, Nothing}
 use Rattle.text_tags.specs.Tags.{tag_of}
-use Rattle.text_names.specs.declared.Spot.{Spot}
-use Rattle.text_names.specs.declared.Spot.TheVariants.{Held, Free}
 
 -- ---- slots
 
@@ -64,32 +61,32 @@ number_at t place = get_or t place 0
 abbrev pub next_place : List ℕ → ℕ → List ℕ → ℕ → ℕ → ℕ
 next_place t base name place d = below_place (base + number_at t place) (digit_of name d)
 
+-- where a search ends: at the number of the name, or at the place for the number of a new one
+abbrev pub Spot : Type 0
+Spot = Result ℕ ℕ
+
 -- where the search for a name among n names ends, from the number at `place` on, which is not below `low`, and from digit d on; each name that is met has a
 -- higher number than the one before it, so that n of them are the most that can be
 abbrev pub seek_from : List ℕ → ℕ → ℕ → List ℕ → ℕ → ℕ → ℕ → ℕ → Spot
-seek_from t base n name zero low place d = Free place
+seek_from t base n name zero low place d = Err place
 seek_from t base n name (suc m) low place d =
     pick (leads_on t base n (tag_of name) low (number_at t place))
-    (pick (held t (base + number_at t place) name) (Held (number_at t place))
+    (pick (held t (base + number_at t place) name) (Ok (number_at t place))
     (seek_from t base n name m (suc (number_at t place)) (next_place t base name place d) (suc d)))
-    (Free place)
+    (Err place)
 
 unfoldable pub spot_of : List ℕ → ℕ → ℕ → List ℕ → Spot
 spot_of t base n name = seek_from t base n name n 0 (first_place base (tag_of name)) 0
 
-abbrev pub found_at : Spot → Found
-found_at (Held e) = At e
-found_at (Free place) = Nothing
-
 -- where a name is found among the n names of a table
-abbrev pub found : List ℕ → ℕ → ℕ → List ℕ → Found
-found t base n name = found_at (spot_of t base n name)
+abbrev pub found : List ℕ → ℕ → ℕ → List ℕ → Option ℕ
+found t base n name = result_ok (spot_of t base n name)
 
 -- ---- the names
 
-abbrev pub is_number : Found → ℕ → Bool
-is_number (At k) j = eqb k j
-is_number Nothing j = false
+abbrev pub is_number : Option ℕ → ℕ → Bool
+is_number (Some k) j = eqb k j
+is_number None j = false
 
 -- name j of n names: what is written in its slot; what is not found there counts as a name that no text has
 unfoldable pub name_at : List ℕ → ℕ → ℕ → ℕ → List ℕ
@@ -108,8 +105,8 @@ names_from t base n = names_on t base n 0 n
 
 -- a name put as name n into the table that begins at slot `base`, where the search for it ends; one that is there already is not put again
 abbrev pub put_at : List ℕ → ℕ → ℕ → List ℕ → Spot → List ℕ
-put_at t base n name (Held e) = t
-put_at t base n name (Free place) = set (slot_put t (base + n) name) place n
+put_at t base n name (Ok e) = t
+put_at t base n name (Err place) = set (slot_put t (base + n) name) place n
 
 unfoldable pub with_name : List ℕ → ℕ → ℕ → List ℕ → List ℕ
 with_name t base n name = put_at t base n name (spot_of t base n name)

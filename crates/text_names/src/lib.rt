@@ -1,4 +1,5 @@
 // A lent list of bytes with tables of names: 67 bytes for each name, and behind the slots the tree of the names of each tag.
+// Stays: the table is bytes that the caller lends, and its tree numbers at places in it: fixed memory, no heap.
 #![tactic(auto)]
 
 ghost use Rattle.std.specs.Prelude.{◌≡◌, ◌+◌, ◌*◌, ◌≤◌, ◌<◌, length};
@@ -7,36 +8,17 @@ ghost use Rattle.text_fields.specs.Words.{index_from};
 ghost use Rattle.text_tags.specs.Tags.{tag_of};
 ghost use Rattle.text_names.specs.Table.{tag_at, held, first_place, below_place, digit_of, leads_on, spot_of, names_from, slot_put, with_name};
 
-use text_fields::Found;
-
-// Where the search for a name ends: at the name that has it, or at the place for the number of a new one.
-#[derive(Clone, Copy)]
-pub enum Spot {
-    Held(usize),
-    Free(usize),
-}
-
-// A byte as an index.
-fn wide(b: u8) -> usize
-    ensures value { result ≡ b }
-    ensures upper_bound { result < 256 }
-{
-    b as usize
-}
-
 // Whether slot s holds a name.
+#[tactic(auto, unfolding(crate::specs::Table::held))]
 fn holds_name(table: &[u8], s: usize, name: &[u8]) -> bool
     requires s_in_bounds { s * 67 + 67 ≤ length table.now }
     requires name_len_bound { length name.now ≤ 64 }
     ensures { result ≡ held table.now s name.now }
 {
     let place = s * 67;
-    if wide(table[place]) != name.len() {
-        return false;
-    }
     let from = place + 3;
-    let to = from + name.len();
-    text_tags::same_name(&table[from..to], name)
+    usize::from(table[place]) == name.len()
+        && text_tags::same_name(&table[from..from + name.len()], name)
 }
 
 // The tag of slot s.
@@ -44,7 +26,7 @@ fn slot_tag(table: &[u8], s: usize) -> usize
     requires { s * 67 + 67 ≤ length table.now }
     ensures { result ≡ tag_at table.now s }
 {
-    wide(table[s * 67 + 1]) + wide(table[s * 67 + 2]) * 256
+    usize::from(table[s * 67 + 1]) + usize::from(table[s * 67 + 2]) * 256
 }
 
 // Where the number of the first name of a tag stands.
@@ -74,7 +56,7 @@ fn digit(name: &[u8], d: usize) -> usize
     if i >= name.len() {
         return 0;
     }
-    let b = wide(name[i]);
+    let b = usize::from(name[i]);
     if d % 2 == 0 {
         return b % 16;
     }
@@ -82,22 +64,17 @@ fn digit(name: &[u8], d: usize) -> usize
 }
 
 // Whether number e leads to one of `count` names: it is not below `low`, and its slot has the tag.
+#[tactic(auto, unfolding(crate::specs::Table::leads_on))]
 fn leads_on(table: &[u8], base: usize, count: usize, tag: usize, low: usize, e: usize) -> bool
     requires table_len { length table.now ≡ 55392 }
     requires count_bound { base + count ≤ 544 }
     ensures { result ≡ leads_on table.now base count tag low e }
 {
-    if e < low {
-        return false;
-    }
-    if e >= count {
-        return false;
-    }
-    slot_tag(table, base + e) == tag
+    low <= e && e < count && slot_tag(table, base + e) == tag
 }
 
-// Where the search for a name ends, from the first name of its tag down the tree.
-fn seek(table: &[u8], base: usize, count: usize, name: &[u8], tag: usize) -> Spot
+// The number of a name, or the place where the number of a new one goes: the search goes from the first name of its tag down the tree.
+fn seek(table: &[u8], base: usize, count: usize, name: &[u8], tag: usize) -> Result<usize, usize>
     requires table_len { length table.now ≡ 55392 }
     requires base_bound { base ≤ 288 }
     requires count_bound { base + count ≤ 544 }
@@ -110,48 +87,33 @@ fn seek(table: &[u8], base: usize, count: usize, name: &[u8], tag: usize) -> Spo
     let mut low = 0;
     let mut d = 0;
     while low < count {
-        let e = wide(table[place]);
+        let e = usize::from(table[place]);
         if !leads_on(table, base, count, tag, low, e) {
-            return Spot::Free(place);
+            return Err(place);
         }
         let s = base + e;
         if holds_name(table, s, name) {
-            return Spot::Held(e);
+            return Ok(e);
         }
         place = below_place(s, digit(name, d));
         low = e + 1;
         d += 1;
     }
-    Spot::Free(place)
+    Err(place)
 }
 
 // Where a name stands among the `count` names of the table that begins at slot `base`.
-pub fn find_name(table: &[u8], base: usize, count: usize, name: &[u8]) -> Found
+pub fn find_name(table: &[u8], base: usize, count: usize, name: &[u8]) -> Option<usize>
     requires table_len { length table.now ≡ 55392 }
     requires base_bound { base ≤ 288 }
     requires count_bound { base + count ≤ 544 }
     ensures { result ≡ index_from 0 (names_from table.now base count) name.now }
 {
     if name.len() > 64 {
-        return Found::Nothing;
+        return None;
     }
     let tag = text_tags::tag_of(name);
-    match seek(table, base, count, name, tag) {
-        Spot::Held(e) => Found::At(e),
-        Spot::Free(_) => Found::Nothing,
-    }
-}
-
-// Copies a name to a place.
-fn copy(table: &mut [u8], at: usize, name: &[u8])
-    requires { at + length name.now ≤ length table.old }
-    ensures { table.new ≡ paste table.old at name.now (length name.now) }
-{
-    let mut i = 0;
-    while i < name.len() {
-        table[at + i] = name[i];
-        i += 1;
-    }
+    seek(table, base, count, name, tag).ok()
 }
 
 // Writes a name's slot.
@@ -166,7 +128,7 @@ fn put_slot(table: &mut [u8], s: usize, name: &[u8], tag: usize)
     table[place] = name.len() as u8;
     table[place + 1] = (tag % 256) as u8;
     table[place + 2] = (tag / 256) as u8;
-    copy(table, place + 3, name);
+    table[place + 3..place + 3 + name.len()].copy_from_slice(name);
 }
 
 // Puts name n into the table that begins at slot `base`, unless the table has it.
@@ -178,9 +140,8 @@ pub fn put_name(table: &mut [u8], base: usize, n: usize, name: &[u8])
     ensures { table.new ≡ with_name table.old base n name.now }
 {
     let tag = text_tags::tag_of(name);
-    let Spot::Free(place) = seek(table, base, n, name, tag) else {
-        return;
-    };
-    put_slot(table, base + n, name, tag);
-    table[place] = n as u8;
+    if let Err(place) = seek(table, base, n, name, tag) {
+        put_slot(table, base + n, name, tag);
+        table[place] = n as u8;
+    }
 }

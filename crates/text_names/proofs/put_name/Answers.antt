@@ -8,7 +8,7 @@ returns-in_default c = put_none _ _ _ _ c.seek.ensures _ c.in_default.is
 pub bounds-table-place : goal.bounds-table-place
 bounds-table-place c =
     let pre = c.requires in
-    put_room _ _ _ _ c.seek.ensures _ c.in-Free.is _ c.put_slot.ensures pre.table_len pre.base_bound pre.n_bound pre.name_len_bound
+    put_room _ _ _ _ c.seek.ensures _ c.in-Err.is _ c.put_slot.ensures pre.table_len pre.base_bound pre.n_bound pre.name_len_bound
 
-pub returns : goal.returns
-returns c = put_some _ _ _ _ c.seek.ensures _ c.in-Free.is _ c.put_slot.ensures
+pub returns-in-Err : goal.returns-in-Err
+returns-in-Err c = put_some _ _ _ _ c.seek.ensures _ c.in-Err.is _ c.put_slot.ensures

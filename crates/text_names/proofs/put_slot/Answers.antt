@@ -1,20 +1,13 @@
 -- A name's slot: three bytes, and then the name.
+use mathlib.Core.Path.{refl}
 use native.Mathlib.Omega.{arith}
-use lib.ListN.{length-set}
-use Rattle.text_names.proofs.Laws.{slot_put_lem, slot_put_length}
+use Rattle.std.proofs.lemmas.Slice.{put_mid-paste}
+use Rattle.text_names.proofs.Laws.{slot_put_lem}
 use Rattle.text_names.proofs.put_slot.Goals as goal
 
-pub bounds-table-place-2 : goal.bounds-table-place-2
-bounds-table-place-2 c = simp length-set (omega arith)
-
-pub bounds-table-place-3 : goal.bounds-table-place-3
-bounds-table-place-3 c = simp length-set (omega arith)
-
-pub copy-requires : goal.copy-requires
-copy-requires c = simp length-set (omega arith)
-
-pub shape_of-table : goal.shape_of-table
-shape_of-table c = search slot_put_length
-
 pub returns : goal.returns
-returns c = search slot_put_lem
+returns c =
+    let a = c.args in
+    let pre = c.requires in
+    slot_put_lem a.table.now a.s a.name.now pre.s_in_bounds pre.name_len_bound pre.tag_value _
+    (put_mid-paste _ _ _ _ _ _ c.copy_from_slice.ensures.after (omega arith) refl)

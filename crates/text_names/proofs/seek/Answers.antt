@@ -17,7 +17,7 @@ returns-then-holds_name c = search seek_finds
 
 pub loop-low-smaller : goal.loop-low-smaller
 loop-low-smaller c =
-    let k = seek_low c.loop-low.invariant c.wide-e.ensures.value c.leads_on.ensures c.if-not-leads_on.false in
+    let k = seek_low c.loop-low.invariant c.from-e.ensures c.leads_on.ensures c.if-not-leads_on.false in
     omega (arith, k.0, k.1)
 
 pub loop-low-preserved : goal.loop-low-preserved
