@@ -12,23 +12,16 @@ ghost use Rattle.conflict_moves.specs.Back.{rest_in};
 ghost use Rattle.conflicts.specs.Conflicts.{Found, conflict_level, in_search};
 
 use calculus::{Level, Row};
-use state::{Answer, Status};
+use rows::BLANK;
+use state::{Answer, Next, Status};
 use trail::Kept;
-
-// Where the conflict's words begin; the workspace holds them.
-fn place(work: &[u64], w: usize, n: usize) -> usize
-    requires { words.conflict w n + w ≤ length work.now }
-    ensures { result ≡ words.conflict w n }
-{
-    n * w + 4 * n
-}
 
 // Whether row t is in the conflict.
 pub fn in_conflict(work: &[u64], w: usize, n: usize, t: Row) -> bool
     requires { (words.conflict w n + w ≤ length work.now) × (n ≤ 64 * w) × (t.0 < n) }
     ensures { result ≡ conflict_in w n work.now t.0 }
 {
-    let e = place(work, w, n);
+    let e = trail::conflict_place(w, n);
     bitset::member(work, e, w, t)
 }
 
@@ -37,7 +30,7 @@ pub fn conflict_level(work: &[u64], w: usize, n: usize, count: usize) -> Level
     requires { Found w n work.now count }
     ensures { result.0 ≡ conflict_level w n work.now count }
 {
-    let e = place(work, w, n);
+    let e = trail::conflict_place(w, n);
     levels::level_of(work, w, n, count, e)
 }
 
@@ -46,7 +39,7 @@ pub fn rest_level(work: &[u64], w: usize, n: usize, count: usize, t: Row) -> Lev
     requires { Found w n work.now count }
     ensures { result.0 ≡ rest_level w n work.now count t.0 }
 {
-    let e = place(work, w, n);
+    let e = trail::conflict_place(w, n);
     levels::level_without(work, w, n, count, e, t)
 }
 
@@ -55,9 +48,8 @@ pub fn all_in_conflict(work: &[u64], w: usize, n: usize, ps: &[u16]) -> bool
     requires { (words.conflict w n + w ≤ length work.now) × (n ≤ 64 * w) × (all (λ p. ltb p n) (filled ps.now) ≡ true) }
     ensures { result ≡ all (conflict_in w n work.now) (filled ps.now) }
 {
-    for k in 0..ps.len() {
-        let p = ps[k];
-        if p == 65535 {
+    for &p in ps {
+        if p == BLANK {
             return true;
         }
         if !in_conflict(work, w, n, Row(p)) {
@@ -72,18 +64,17 @@ pub fn level_of_rest(work: &[u64], w: usize, n: usize, count: usize, ps: &[u16])
     requires { Found w n work.now count }
     ensures { result.0 ≡ level_of (trail_in w n work.now count) (rest_in w n work.now ps.now) }
 {
-    let e = place(work, w, n);
+    let e = trail::conflict_place(w, n);
     levels::level_without_all(work, w, n, count, e, ps)
 }
 
 // The search goes on from the trail that is left.
 pub fn searching(kept: Kept) -> Answer
-    ensures { result ≡ Answer.Allowed (in_search kept.count kept.top) }
+    ensures { result ≡ Ok (Next.On (in_search kept.count kept.top)) }
 {
-    let top = kept.top;
-    Answer::Allowed(Status {
+    Ok(Next::On(Status {
         count: kept.count,
-        top,
+        top: kept.top,
         conflict: false,
-    })
+    }))
 }
