@@ -8,22 +8,14 @@ ghost use Rattle.std.proofs.lemmas.List.Edits.{sets};
 pub fn clear_bytes(d: &mut [u8])
     ensures { d.new ≡ replicate (length d.old) 0 }
 {
-    let mut i = 0;
-    while i < d.len() {
-        d[i] = 0;
-        i += 1;
-    }
+    d.fill(0);
 }
 
 // Clears a buffer of numbers.
 pub fn clear_numbers(numbers: &mut [u16])
     ensures { numbers.new ≡ replicate (length numbers.old) 0 }
 {
-    let mut i = 0;
-    while i < numbers.len() {
-        numbers[i] = 0;
-        i += 1;
-    }
+    numbers.fill(0);
 }
 
 // Stores a byte where there is room for it.
@@ -41,10 +33,8 @@ pub fn put_bytes(d: &mut [u8], at: usize, word: &[u8]) -> usize
     ensures value { result ≡ at + length word.now }
     ensures d_after { d.new ≡ sets d.old at word.now }
 {
-    let mut j = 0;
-    while j < word.len() {
-        put_byte(d, at + j, word[j]);
-        j += 1;
+    for (j, &b) in word.iter().enumerate() {
+        put_byte(d, at + j, b);
     }
-    at + j
+    at + word.len()
 }

@@ -1,12 +1,9 @@
--- Bytes are stored one after the other, where there is room.
+-- What is left of the bytes is stored in what the buffer holds now.
+use Prim.Native.Nat.{◌+◌}
 use mathlib.Core.Path.{◌≡◌}
-use Prim.Native.Nat.{◌-◌, ◌+◌, ◌≤◌}
-use lib.ListN.{length, drop}
+use lib.ListN.{drop}
 use lib.Seq.{sets}
 use Rattle.buffers.proofs.put_bytes.Given as goal
 
 abbrev pub invariant-loop-j : goal.invariant-loop-j
-invariant-loop-j l = (l.j ≤ length l.word) × (length l.d ≡ length l.initial.d) × (sets l.d (l.at + l.j) (drop l.j l.word) ≡ sets l.initial.d l.at l.word)
-
-abbrev pub decreases-loop-j : goal.decreases-loop-j
-decreases-loop-j l = length l.word - l.j
+invariant-loop-j l = sets l.d (l.at + l.j) (drop l.j l.word) ≡ sets l.initial.d l.at l.word
