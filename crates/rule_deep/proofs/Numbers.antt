@@ -5,6 +5,7 @@ use mathlib.Core.Bool.{Bool, true, false, cond}
 use Prim.Native.Nat.{ℕ, ◌+◌, ◌*◌, ◌/◌, ◌%◌, ◌≤◌, ◌<◌}
 use native.Mathlib.Omega.{arith}
 use lib.Dec.{eqb, leb}
+use mir.Val.{bool_byte}
 use borrow.Author.Tests.{eqb-true, eqb-false, eq-eqb, ne_eqb, le-leb, lt-leb}
 use Rattle.calculus.specs.Lists.{num, is_true}
 use Rattle.calculus.proofs.Facts.{num_le, is_or_not}
@@ -72,6 +73,10 @@ pub premised_zero : (m v : ℕ) → premised m v ≡ 0 → m ≡ 0
 premised_zero m v e = omega (arith, premised_met m v)
 
 -- ---- as the code makes them
+
+pub from_num : (b : Bool) → bool_byte b ≡ num b
+from_num true = refl
+from_num false = refl
 
 pub number_le : {n : ℕ} (b : Bool) → n ≡ num b → n ≤ 1
 number_le b e = omega (arith, num_le b)

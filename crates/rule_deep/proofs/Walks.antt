@@ -6,6 +6,10 @@ use mathlib.Core.List.{List, [], ◌∷◌}
 use Prim.Native.Nat.{ℕ, zero, suc, ◌+◌, ◌-◌, ◌/◌, ◌≤◌}
 use native.Mathlib.Omega.{arith}
 use lib.Dec.{eqb, leb}
+use Rattle.std.specs.Prelude.{reverse}
+use Rattle.std.specs.List.{fold}
+use Rattle.std.proofs.lemmas.List.{reverse-append}
+use Rattle.std.proofs.lemmas.List.Sums.{fold-append}
 use borrow.Author.Tests.{eqb-true, eqb-false, eq-eqb, ne_eqb, leb-true, not-true, not-false}
 use Rattle.calculus.specs.declared.Premise.{Premise}
 use Rattle.calculus.specs.declared.Term.{Term}
@@ -18,7 +22,7 @@ use Rattle.calculus.proofs.Facts.{true_T, is_or_not, none_true}
 use Rattle.calculus.proofs.Deep.{value_here}
 use Rattle.rule_claims.specs.Claims.{stated}
 use Rattle.rule_deep.specs.declared.Walked.{Walked}
-use Rattle.rule_deep.specs.Walks.{marked, every_one, same_row, unpacked, Small, Says, no_argument, chain, Notes, recalled, Remembered}
+use Rattle.rule_deep.specs.Walks.{marked, every_one, same_row, unpacked, Small, Says, no_argument, joined, chain, Notes, recalled, Remembered}
 use Rattle.rule_deep.specs.Walks.{FindsRow, FindsArgs, Knows, WalksRow, WalksArgs}
 use Rattle.rule_deep.proofs.Bits.{on_premise}
 use Rattle.rule_deep.proofs.Numbers.{risen, rises, premised_none, premised_met}
@@ -215,6 +219,15 @@ module _ (ts : List ℕ) (ps : List Premise) where
             four_said s =
                 said after_d (args_of t) (a ∷ b ∷ c ∷ d ∷ []) s
                 (λ z. lost_b (t.c ∷ t.d ∷ []) (lost_later t.c (t.d ∷ []) c_in (lost_here t.d [] d_in (wd.lost z)))) four_good wd.knows
+
+-- ---- what was found of the arguments, from the last one on
+
+pub folds : (h : ℕ) (cs : List ℕ) → fold (λ rest c. joined h (unpacked c) rest) (no_argument h) (reverse cs) ≡ chain h cs
+folds h [] = refl
+folds h (c ∷ cs) =
+    let more : Walked → ℕ → Walked = λ rest c. joined h (unpacked c) rest in
+    ap (fold more (no_argument h)) (reverse-append (c ∷ []) cs) ∙ fold-append more (no_argument h) (reverse cs) (c ∷ [])
+    ∙ ap (λ rest. more rest c) (folds h cs)
 
 -- ---- five premises, and at most eight connectives, have room in a number
 

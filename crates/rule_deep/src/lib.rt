@@ -2,7 +2,8 @@
 // What the walk has found of a row is remembered, so that each row of a formula is walked once, however many rows share it.
 #![tactic(auto)]
 
-ghost use Rattle.std.specs.Prelude.{◌≡◌, ◌≢◌, true, false, cond, List, [], ◌∷◌, ◌+◌, ◌*◌, ◌/◌, ◌≤◌, ◌<◌, leb, get_or};
+ghost use Rattle.std.specs.Prelude.{◌≡◌, ◌≢◌, true, false, cond, List, [], ◌∷◌, ◌+◌, ◌*◌, ◌/◌, ◌≤◌, ◌<◌, leb, get_or, reverse};
+ghost use Rattle.std.specs.List.{fold};
 ghost use Rattle.calculus.specs.declared.Premise.{Premise};
 ghost use Rattle.calculus.specs.declared.Rule.TheVariants.{Deep};
 ghost use Rattle.calculus.specs.Terms.{args_of};
@@ -13,7 +14,7 @@ ghost use Rattle.rule_deep.specs.Walks.{Small, Says, Empty, Noted, Notes, Rememb
 
 use calculus::{Premise, Row, Term};
 use rows::{BLANK, term_at};
-use rule_claims::{AND, Claim, NOT, OR, larger, number};
+use rule_claims::{AND, Claim, NOT, OR};
 
 // How many connectives may lie on a path.
 const LAYERS: u16 = 8;
@@ -28,6 +29,7 @@ pub struct Walked {
 }
 
 // ---- what is found, as one number, which is never 0
+// Stays: 0 where nothing is found, and not an Option, since 256 such numbers lie in the memory of a walk, of which each is 16 bits.
 
 // What the number c says.
 fn unpacked(c: u16) -> Walked
@@ -45,7 +47,7 @@ fn packed(r: Walked) -> u16
     requires { Small r }
     ensures { (unpacked result ≡ r) × (result ≢ 0) }
 {
-    r.met * 64 + r.height * 4 + number(r.truth) * 2 + 1
+    r.met * 64 + r.height * 4 + u16::from(r.truth) * 2 + 1
 }
 
 // What is found of a row on which there are the premises m, of which the first gives it the value v; 0 where there are none.
@@ -56,7 +58,7 @@ fn premised(m: u16, v: u16) -> u16
     if m == 0 {
         return 0;
     }
-    m * 64 + number(v == 1) * 2 + 1
+    m * 64 + u16::from(v == 1) * 2 + 1
 }
 
 // ---- premises by their row
@@ -114,11 +116,12 @@ fn note(memo: &mut [u16; 256], p: Premise, bit: u16)
 {
     if p.row < 256 {
         let i = p.row as usize;
-        memo[i] = (memo[i] / 64 + bit) * 64 + number(p.value == 1) * 2 + 1;
+        memo[i] = (memo[i] / 64 + bit) * 64 + u16::from(p.value == 1) * 2 + 1;
     }
 }
 
 // The premise of column t is noted, where there is one; and those from column s, r, q, p on. The answer has a bit for each of them.
+// Stays: a function for each column, the last of which is noted first; one loop over them made every other log dearer, and those by deep no faster.
 fn note_t(memo: &mut [u16; 256], x: Claim) -> u16
     requires { Empty memo.old }
     ensures { Notes 16 (stated (x.t ∷ [])) memo.new result }
@@ -221,7 +224,7 @@ fn joined(h: u16, r: Walked, rest: Walked) -> Walked
     ensures { result ≡ joined h r rest }
 {
     Walked {
-        height: larger(r.height, rest.height),
+        height: r.height.max(rest.height),
         met: r.met | rest.met,
         truth: connected(h, r.truth, rest.truth),
     }
@@ -238,29 +241,14 @@ fn none(h: u16) -> Walked
     }
 }
 
-// One argument, of which the number a says what was found; two, three, four.
-fn one(h: u16, a: u16) -> Walked
-    ensures { result ≡ chain h (a ∷ []) }
+// The arguments of which the numbers cs say what was found.
+#[inline(always)]
+fn chain(h: u16, cs: &[u16]) -> Walked
+    ensures { result ≡ fold (λ rest c. joined h (unpacked c) rest) (no_argument h) (reverse cs.now) }
 {
-    joined(h, unpacked(a), none(h))
-}
-
-fn two(h: u16, a: u16, b: u16) -> Walked
-    ensures { result ≡ chain h (a ∷ b ∷ []) }
-{
-    joined(h, unpacked(a), one(h, b))
-}
-
-fn three(h: u16, a: u16, b: u16, c: u16) -> Walked
-    ensures { result ≡ chain h (a ∷ b ∷ c ∷ []) }
-{
-    joined(h, unpacked(a), two(h, b, c))
-}
-
-fn four(h: u16, a: u16, b: u16, c: u16, d: u16) -> Walked
-    ensures { result ≡ chain h (a ∷ b ∷ c ∷ d ∷ []) }
-{
-    joined(h, unpacked(a), three(h, b, c, d))
+    cs.iter()
+        .rev()
+        .fold(none(h), |rest, c| joined(h, unpacked(*c), rest))
 }
 
 // The number that says r, which was found with the number of the last argument; 0 where that is.
@@ -302,6 +290,20 @@ fn walk(terms: &[u16], x: Claim, memo: &mut [u16; 256], t: Row, left: u16) -> u1
     r
 }
 
+// What is known of row t, or else the walk down from it, through at most `left` connectives.
+#[cycle(walk_walk_args)]
+#[inline(always)]
+fn found(terms: &[u16], x: Claim, memo: &mut [u16; 256], t: Row, left: u16) -> u16
+    requires { (left ≤ layers) × Knows terms.now (premises_of x) memo.old }
+    ensures { WalksRow terms.now (premises_of x) memo.new left t.0 result }
+{
+    let known = recall(memo, x, t);
+    if known == 0 {
+        return walk(terms, x, memo, t, left);
+    }
+    within(known, left)
+}
+
 // The walks down from the arguments of a term, each through at most `left` connectives.
 #[cycle(walk_walk_args)]
 fn walk_args(terms: &[u16], x: Claim, memo: &mut [u16; 256], e: Term, left: u16) -> u16
@@ -312,40 +314,20 @@ fn walk_args(terms: &[u16], x: Claim, memo: &mut [u16; 256], e: Term, left: u16)
     if e.a == BLANK {
         return packed(none(h));
     }
-    let known = recall(memo, x, Row(e.a));
-    let a = if known == 0 {
-        walk(terms, x, memo, Row(e.a), left)
-    } else {
-        within(known, left)
-    };
+    let a = found(terms, x, memo, Row(e.a), left);
     if (a == 0) | (e.b == BLANK) {
-        return said(a, one(h, a));
+        return said(a, chain(h, &[a]));
     }
-    let known = recall(memo, x, Row(e.b));
-    let b = if known == 0 {
-        walk(terms, x, memo, Row(e.b), left)
-    } else {
-        within(known, left)
-    };
+    let b = found(terms, x, memo, Row(e.b), left);
     if (b == 0) | (e.c == BLANK) {
-        return said(b, two(h, a, b));
+        return said(b, chain(h, &[a, b]));
     }
-    let known = recall(memo, x, Row(e.c));
-    let c = if known == 0 {
-        walk(terms, x, memo, Row(e.c), left)
-    } else {
-        within(known, left)
-    };
+    let c = found(terms, x, memo, Row(e.c), left);
     if (c == 0) | (e.d == BLANK) {
-        return said(c, three(h, a, b, c));
+        return said(c, chain(h, &[a, b, c]));
     }
-    let known = recall(memo, x, Row(e.d));
-    let d = if known == 0 {
-        walk(terms, x, memo, Row(e.d), left)
-    } else {
-        within(known, left)
-    };
-    said(d, four(h, a, b, c, d))
+    let d = found(terms, x, memo, Row(e.d), left);
+    said(d, chain(h, &[a, b, c, d]))
 }
 
 // Whether the walk down from the claim's term gives it the claim's value and meets every premise.
@@ -363,5 +345,5 @@ pub fn deep(terms: &[u16], x: Claim) -> bool
         return false;
     }
     let r = unpacked(c);
-    (r.met == all) & (x.value == number(r.truth))
+    (r.met == all) & (x.value == u16::from(r.truth))
 }

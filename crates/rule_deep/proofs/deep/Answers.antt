@@ -1,9 +1,10 @@
 -- `rule_deep::deep` meets its contract.
-use mathlib.Core.Path.{refl}
+use mathlib.Core.Path.{refl, ◌∙◌}
 use native.Mathlib.Omega.{arith}
 use lib.ListN.{replicate}
 use Rattle.rule_deep.proofs.Memory.{empties, knows_premises}
 use Rattle.rule_deep.proofs.Walks.{deep_own, own_none, deep_lost, deep_found}
+use Rattle.rule_deep.proofs.Numbers.{from_num}
 use Rattle.rule_deep.proofs.deep.Goals as goal
 
 pub note_all-all-requires : goal.note_all-all-requires
@@ -23,4 +24,4 @@ returns-then-c-eq0 c = deep_lost _ _ _ _ _ c.note_all-all.ensures _ c.walk-c.ens
 pub returns : goal.returns
 returns c =
     deep_found _ _ _ _ _ c.note_all-all.ensures _ c.walk-c.ensures c.recall-own.ensures c.if-own-ne0.false
-    c.if-c-eq0.false c.unpacked-r.ensures c.number.ensures
+    c.if-c-eq0.false c.unpacked-r.ensures (c.from.ensures ∙ from_num _)
