@@ -1,13 +1,11 @@
 -- The cycle of calls {walk, found, walk_args}.
-use mathlib.Core.Path.{sym, subst, subst₂, ◌∙◌}
-use mathlib.Core.List.{List, [], ◌∷◌}
+use mathlib.Core.Path.{sym, subst, ◌∙◌}
+use mathlib.Core.List.{[], ◌∷◌}
 use native.Mathlib.Omega.{arith}
 use borrow.Author.Rules.{rules}
-use Prim.Native.Nat.{ℕ}
 use Rattle.calculus.specs.Terms.{filled, args_of}
-use Rattle.rule_claims.specs.Claims.{premises_of}
 use Rattle.rule_deep.specs.declared.Walked.{Walked}
-use Rattle.rule_deep.specs.Walks.{Small, Says, Knows, WalksRow}
+use Rattle.rule_deep.specs.Walks.{Small, Says}
 use Rattle.rule_deep.proofs.Walks.{goes_on, follows, row_known, row_lost, row_stopped, row_found}
 use Rattle.rule_deep.proofs.Walks.{none_said, one_good, one_said, two_good, two_said, three_good, three_said, four_good, four_said, folds, smalls, said_small}
 use Rattle.rule_deep.proofs.Memory.{recalled_none}
@@ -60,21 +58,21 @@ walk_args-found-a-requires t c = (omega (arith, c.decreases), (c.requires.0, c.r
 
 pub walk_args-said-requires : goal.walk_args-said-requires
 walk_args-said-requires t c u =
-    let a = c.found-a.result in
+    let fa = c.found-a.result in
     let ra = c.found-a.ensures in
     let e = c.args.e in
     let x = c.args.x in
     let good = one_good _ _ c.args.left e.head c.requires.1 e c.if-e-eq-BLANK.false ra in
-    subst Small (sym (c.chain.ensures ∙ folds c.args.e.head (a ∷ [])))
+    subst Small (sym (c.chain.ensures ∙ folds c.args.e.head (fa ∷ [])))
     (smalls c.args.terms.now x.p x.q x.r x.s x.t c.args.left e.head (filled (e.a ∷ []))
-    (a ∷ []) c.requires.0 (good u))
+    (fa ∷ []) c.requires.0 (good u))
 
 pub walk_args-returns-then-a-e : goal.walk_args-returns-then-a-e
 walk_args-returns-then-a-e t c =
-    let a = c.found-a.result in
+    let fa = c.found-a.result in
     let ra = c.found-a.ensures in
-    let is = c.chain.ensures ∙ folds c.args.e.head (a ∷ []) in
-    let says = subst (λ (w : Walked). Says w a c.said.result) is c.said.ensures in
+    let is = c.chain.ensures ∙ folds c.args.e.head (fa ∷ []) in
+    let says = subst (λ (w : Walked). Says w fa c.said.result) is c.said.ensures in
     one_said _ _ c.args.left c.args.e.head c.requires.1 c.args.e c.if-e-eq-BLANK.false ra
     c.if-a-e.true says
 
@@ -83,27 +81,27 @@ walk_args-found-b-requires t c = (omega (arith, c.decreases), (c.requires.0, c.f
 
 pub walk_args-said-requires-then-b-e : goal.walk_args-said-requires-then-b-e
 walk_args-said-requires-then-b-e t c u =
-    let a = c.found-a.result in
+    let fa = c.found-a.result in
     let ra = c.found-a.ensures in
-    let b = c.found-b.result in
+    let fb = c.found-b.result in
     let rb = c.found-b.ensures in
     let e = c.args.e in
     let x = c.args.x in
     let a_on = follows _ _ c.if-a-e.false in
     let good = two_good _ _ c.args.left e.head c.requires.1 e c.if-e-eq-BLANK.false ra a_on.0 a_on.1 rb in
-    subst Small (sym (c.chain-then-b-e.ensures ∙ folds c.args.e.head (a ∷ b ∷ [])))
+    subst Small (sym (c.chain-then-b-e.ensures ∙ folds c.args.e.head (fa ∷ fb ∷ [])))
     (smalls c.args.terms.now x.p x.q x.r x.s x.t c.args.left e.head (filled (e.a ∷ e.b ∷ []))
-    (a ∷ b ∷ []) c.requires.0 (good u))
+    (fa ∷ fb ∷ []) c.requires.0 (good u))
 
 pub walk_args-returns-then-b-e : goal.walk_args-returns-then-b-e
 walk_args-returns-then-b-e t c =
-    let a = c.found-a.result in
+    let fa = c.found-a.result in
     let ra = c.found-a.ensures in
-    let b = c.found-b.result in
+    let fb = c.found-b.result in
     let rb = c.found-b.ensures in
     let a_on = follows _ _ c.if-a-e.false in
-    let is = c.chain-then-b-e.ensures ∙ folds c.args.e.head (a ∷ b ∷ []) in
-    let says = subst (λ (w : Walked). Says w b c.said-then-b-e.result) is c.said-then-b-e.ensures in
+    let is = c.chain-then-b-e.ensures ∙ folds c.args.e.head (fa ∷ fb ∷ []) in
+    let says = subst (λ (w : Walked). Says w fb c.said-then-b-e.result) is c.said-then-b-e.ensures in
     two_said _ _ c.args.left c.args.e.head c.requires.1 c.args.e c.if-e-eq-BLANK.false ra a_on.0 a_on.1 rb
     c.if-b-e.true says
 
@@ -112,33 +110,33 @@ walk_args-found-c-requires t c = (omega (arith, c.decreases), (c.requires.0, c.f
 
 pub walk_args-said-requires-then-c-e : goal.walk_args-said-requires-then-c-e
 walk_args-said-requires-then-c-e t c u =
-    let a = c.found-a.result in
+    let fa = c.found-a.result in
     let ra = c.found-a.ensures in
-    let b = c.found-b.result in
+    let fb = c.found-b.result in
     let rb = c.found-b.ensures in
-    let c = c.found-c.result in
+    let fc = c.found-c.result in
     let rc = c.found-c.ensures in
     let e = c.args.e in
     let x = c.args.x in
     let a_on = follows _ _ c.if-a-e.false in
     let b_on = follows _ _ c.if-b-e.false in
     let good = three_good _ _ c.args.left e.head c.requires.1 e c.if-e-eq-BLANK.false ra a_on.0 a_on.1 rb b_on.0 b_on.1 rc in
-    subst Small (sym (c.chain-then-c-e.ensures ∙ folds c.args.e.head (a ∷ b ∷ c ∷ [])))
+    subst Small (sym (c.chain-then-c-e.ensures ∙ folds c.args.e.head (fa ∷ fb ∷ fc ∷ [])))
     (smalls c.args.terms.now x.p x.q x.r x.s x.t c.args.left e.head (filled (e.a ∷ e.b ∷ e.c ∷ []))
-    (a ∷ b ∷ c ∷ []) c.requires.0 (good u))
+    (fa ∷ fb ∷ fc ∷ []) c.requires.0 (good u))
 
 pub walk_args-returns-then-c-e : goal.walk_args-returns-then-c-e
 walk_args-returns-then-c-e t c =
-    let a = c.found-a.result in
+    let fa = c.found-a.result in
     let ra = c.found-a.ensures in
-    let b = c.found-b.result in
+    let fb = c.found-b.result in
     let rb = c.found-b.ensures in
-    let c = c.found-c.result in
+    let fc = c.found-c.result in
     let rc = c.found-c.ensures in
     let a_on = follows _ _ c.if-a-e.false in
     let b_on = follows _ _ c.if-b-e.false in
-    let is = c.chain-then-c-e.ensures ∙ folds c.args.e.head (a ∷ b ∷ c ∷ []) in
-    let says = subst (λ (w : Walked). Says w c c.said-then-c-e.result) is c.said-then-c-e.ensures in
+    let is = c.chain-then-c-e.ensures ∙ folds c.args.e.head (fa ∷ fb ∷ fc ∷ []) in
+    let says = subst (λ (w : Walked). Says w fc c.said-then-c-e.result) is c.said-then-c-e.ensures in
     three_said _ _ c.args.left c.args.e.head c.requires.1 c.args.e c.if-e-eq-BLANK.false ra a_on.0 a_on.1 rb b_on.0 b_on.1 rc
     c.if-c-e.true says
 
@@ -147,13 +145,13 @@ walk_args-found-d-requires t c = (omega (arith, c.decreases), (c.requires.0, c.f
 
 pub walk_args-said-requires-2 : goal.walk_args-said-requires-2
 walk_args-said-requires-2 t c u =
-    let a = c.found-a.result in
+    let fa = c.found-a.result in
     let ra = c.found-a.ensures in
-    let b = c.found-b.result in
+    let fb = c.found-b.result in
     let rb = c.found-b.ensures in
-    let c = c.found-c.result in
+    let fc = c.found-c.result in
     let rc = c.found-c.ensures in
-    let d = c.found-d.result in
+    let fd = c.found-d.result in
     let rd = c.found-d.ensures in
     let e = c.args.e in
     let x = c.args.x in
@@ -161,24 +159,24 @@ walk_args-said-requires-2 t c u =
     let b_on = follows _ _ c.if-b-e.false in
     let c_on = follows _ _ c.if-c-e.false in
     let good = four_good _ _ c.args.left e.head c.requires.1 e c.if-e-eq-BLANK.false ra a_on.0 a_on.1 rb b_on.0 b_on.1 rc c_on.0 c_on.1 rd in
-    subst Small (sym (c.chain-2.ensures ∙ folds c.args.e.head (a ∷ b ∷ c ∷ d ∷ [])))
+    subst Small (sym (c.chain-2.ensures ∙ folds c.args.e.head (fa ∷ fb ∷ fc ∷ fd ∷ [])))
     (smalls c.args.terms.now x.p x.q x.r x.s x.t c.args.left e.head (args_of e)
-    (a ∷ b ∷ c ∷ d ∷ []) c.requires.0 (good u))
+    (fa ∷ fb ∷ fc ∷ fd ∷ []) c.requires.0 (good u))
 
 pub walk_args-returns : goal.walk_args-returns
 walk_args-returns t c =
-    let a = c.found-a.result in
+    let fa = c.found-a.result in
     let ra = c.found-a.ensures in
-    let b = c.found-b.result in
+    let fb = c.found-b.result in
     let rb = c.found-b.ensures in
-    let c = c.found-c.result in
+    let fc = c.found-c.result in
     let rc = c.found-c.ensures in
-    let d = c.found-d.result in
+    let fd = c.found-d.result in
     let rd = c.found-d.ensures in
     let a_on = follows _ _ c.if-a-e.false in
     let b_on = follows _ _ c.if-b-e.false in
     let c_on = follows _ _ c.if-c-e.false in
-    let is = c.chain-2.ensures ∙ folds c.args.e.head (a ∷ b ∷ c ∷ d ∷ []) in
-    let says = subst (λ (w : Walked). Says w d c.said-2.result) is c.said-2.ensures in
+    let is = c.chain-2.ensures ∙ folds c.args.e.head (fa ∷ fb ∷ fc ∷ fd ∷ []) in
+    let says = subst (λ (w : Walked). Says w fd c.said-2.result) is c.said-2.ensures in
     four_said _ _ c.args.left c.args.e.head c.requires.1 c.args.e c.if-e-eq-BLANK.false ra a_on.0 a_on.1 rb b_on.0 b_on.1 rc c_on.0 c_on.1 rd
     says
