@@ -8,13 +8,13 @@ use lib.Dec.{eqb}
 use borrow.Author.Tests.{eqb-true, eqb-false, eq-eqb}
 use Rattle.calculus.specs.declared.Term.{Term}
 use Rattle.calculus.proofs.Facts.{both_true, T_true, true_T, below_at, unless_ok, first_ok}
-use Rattle.calculus.specs.Lists.{below}
+use Rattle.calculus.specs.Lists.{all, below}
 use Rattle.calculus.specs.Numbers.{unless, first_refusal}
 use Rattle.calculus.specs.Sheets.{term_rows}
-use Rattle.calculus.specs.Terms.{head, cells, left_filled, term_at, head_of, earlier, suits, fresh, term_refusal}
+use Rattle.calculus.specs.Terms.{head, cells, left_filled, term_at, cells_of, head_of, earlier, suits, fresh, term_refusal}
 use Rattle.term_suits.specs.Suits.{Known}
 use Rattle.term_search.specs.Found.{FirstUse, FirstRepeat}
-use Rattle.term_sheet.specs.Found.{row_refusal}
+use Rattle.term_sheet.specs.Found.{before, placed, row_refusal}
 
 -- ---- a row's number, where the first repeated row is known
 
@@ -30,6 +30,14 @@ fresh_is ts n r t F l h = go (eqb t r) refl
 pub row_is : (ss ts : List ℕ) (n r t : ℕ) → FirstRepeat ts n r → t ≤ r → t < n → term_refusal ss ts t ≡ row_refusal ss ts t (not (eqb t r))
 unfolding row_refusal term_refusal
 row_is ss ts n r t F l h = ap (row_refusal ss ts t) (fresh_is ts n r t F l h)
+
+-- a row in its place: what its head says, and whether it is fresh
+pub placed_row : (ss ts : List ℕ) (t : ℕ) (g : Bool) {e : Term} → e ≡ term_at ts t → placed t (cells_of e) ≡ true
+    → row_refusal ss ts t g ≡ unless (suits ss ts t (head_of e.head)) 4 (unless g 5 0)
+unfolding row_refusal earlier cells unless
+placed_row ss ts t g r p =
+    let h = both_true (all (before t) (cells_of (term_at ts t))) (left_filled (cells_of (term_at ts t))) (rw r at p) in
+    rw (r, h.0, h.1)
 
 passed : (a b g : Bool) → g ≡ false → unless a 3 (unless b 4 (unless g 5 0)) ≡ 0 → ⊥
 unfolding unless

@@ -4,9 +4,9 @@
 ghost use Rattle.std.specs.Prelude.{◌≡◌, not, ◌≤◌, length, eqb};
 ghost use Rattle.calculus.specs.Lists.{all};
 ghost use Rattle.calculus.specs.Numbers.{number_in};
-ghost use Rattle.calculus.specs.Terms.{cells_of, left_filled, terms_refusal};
+ghost use Rattle.calculus.specs.Terms.{cells_of, terms_refusal};
 ghost use Rattle.term_suits.specs.Suits.{Known};
-ghost use Rattle.term_sheet.specs.Found.{most_numbers, before, row_refusal};
+ghost use Rattle.term_sheet.specs.Found.{most_numbers, before, placed, row_refusal};
 
 use calculus::{Head, Refusal, Row, Term};
 use rows::BLANK;
@@ -20,14 +20,18 @@ fn all_earlier(e: Term, t: Row) -> bool
         .all(|x| (*x == BLANK) | (*x < t.0))
 }
 
-// Whether a row's arguments are filled from the left.
+// Whether every filled argument of row t is an earlier row, and the arguments are filled from the left. (BLANK is below no row.)
 #[tactic(auto, using(std::proofs::lemmas::Bool::Decides::nat_tests))]
-fn left_filled(e: Term) -> bool
-    ensures { result ≡ left_filled (cells_of e) }
+fn in_place(e: Term, t: Row) -> bool
+    ensures { result ≡ placed t.0 (cells_of e) }
 {
-    ((e.a != BLANK) | (e.b == BLANK))
-        & ((e.b != BLANK) | (e.c == BLANK))
-        & ((e.c != BLANK) | (e.d == BLANK))
+    match (e.a, e.b, e.c, e.d) {
+        (BLANK, BLANK, BLANK, BLANK) => true,
+        (a, BLANK, BLANK, BLANK) => a < t.0,
+        (a, b, BLANK, BLANK) => (a < t.0) & (b < t.0),
+        (a, b, c, BLANK) => (a < t.0) & (b < t.0) & (c < t.0),
+        (a, b, c, d) => (a < t.0) & (b < t.0) & (c < t.0) & (d < t.0),
+    }
 }
 
 // The number of row t, read as e, where row u is the first to use its head and `twin` is the first row that repeats an earlier one.
@@ -43,10 +47,14 @@ fn check_term(
     requires { Known sorts.now terms.now t.0 e u.0 }
     ensures { number_in result ≡ row_refusal sorts.now terms.now t.0 (not (eqb t.0 twin.0)) }
 {
-    if !all_earlier(e, t) {
-        return Err(Refusal::Argument);
+    if !in_place(e, t) {
+        return Err(if all_earlier(e, t) {
+            Refusal::Term
+        } else {
+            Refusal::Argument
+        });
     }
-    if !left_filled(e) || !term_suits::suits_head(sorts, terms, t, e, Head::from(e.head), u) {
+    if !term_suits::suits_head(sorts, terms, t, e, Head::from(e.head), u) {
         return Err(Refusal::Term);
     }
     if t == twin {

@@ -1,19 +1,19 @@
 -- The arguments of a term row, column by column; a free head's uses; what each head asks, by what the code has read.
-use mathlib.Core.Path.{◌≡◌, refl, sym, ap, ◌∙◌}
-use mathlib.Core.Bool.{Bool, true, false, not, ◌&&◌, cond, true≢false, and-true, and-false}
+use mathlib.Core.Path.{◌≡◌, refl, sym, ◌∙◌}
+use mathlib.Core.Bool.{Bool, true, false, not, ◌&&◌, ◌||◌, cond, true≢false, and-true, and-false}
 use mathlib.Core.List.{List, [], ◌∷◌, map}
-use Prim.Native.Nat.{ℕ, suc, ◌+◌}
+use Prim.Native.Nat.{ℕ, ◌+◌}
 use native.Mathlib.Omega.{arith}
 use lib.ListN.{length, take}
 use lib.Dec.{eqb, leb, ltb}
 use native.Mathlib.Numerals.{one-add}
-use Rattle.std.specs.Prelude.{Option, Some, None, unwrap_or, zip}
+use Rattle.std.specs.Prelude.{Option, Some, None, unwrap_or}
 use Rattle.std.proofs.lemmas.List.Sums.{prefix_len-le-length}
 use Rattle.std.specs.List.{list_all, position_or_len}
 use borrow.Author.Tests.{eqb-true, eq-eqb, ltb-false}
 use Rattle.calculus.specs.declared.Head.TheVariants.{Free}
 use Rattle.calculus.specs.declared.Term.{Term}
-use Rattle.calculus.proofs.Facts.{both_true}
+use Rattle.calculus.proofs.Facts.{both_true, none_true}
 use Rattle.calculus.specs.Lists.{all, eq_list}
 use Rattle.calculus.specs.Sheets.{blank, sort_rows}
 use Rattle.calculus.specs.Terms.{head, sort, prop, filled, args, head_of, suits, same_use, first_use}
@@ -48,19 +48,33 @@ pub all_is : (p : ℕ → Bool) (xs : List ℕ) → list_all p xs ≡ all p xs
 all_is p [] = refl
 all_is p (x ∷ xs) = rw (all_is p xs)
 
--- two lists side by side
-pub same_zip : (f : ℕ → ℕ) (xs ys : List ℕ) → length xs ≡ length ys
-    → list_all (λ p. eqb (f p.0) (f p.1)) (zip xs ys) ≡ eq_list (map f xs) (map f ys)
-same_zip f [] [] e = refl
-same_zip f [] (y ∷ ys) e = absurd (omega arith)
-same_zip f (x ∷ xs) [] e = absurd (omega arith)
-same_zip f (x ∷ xs) (y ∷ ys) e = rw (same_zip f xs ys (omega arith))
+-- ---- arguments, one more column in front
 
-pub same_length : (f : ℕ → ℕ) (xs ys : List ℕ) → (length xs ≡ length ys → ⊥) → eq_list (map f xs) (map f ys) ≡ false
-same_length f [] [] d = absurd (d refl)
-same_length f [] (y ∷ ys) d = refl
-same_length f (x ∷ xs) [] d = refl
-same_length f (x ∷ xs) (y ∷ ys) d = rw (same_length f xs ys (λ e. d (ap suc e)), and-false)
+-- one side is at its end, and the other is not
+pub sorts_end : (f : ℕ → ℕ) (x y : ℕ) (xs ys : List ℕ) → (x ≡ y → ⊥) → (eqb x blank || eqb y blank) ≡ true
+    → false ≡ eq_list (map f (filled (x ∷ xs))) (map f (filled (y ∷ ys)))
+sorts_end f x y xs ys d e = go (eqb x blank) refl (eqb y blank) refl e
+  where
+    go : (g : Bool) → eqb x blank ≡ g → (h : Bool) → eqb y blank ≡ h → (g || h) ≡ true
+        → false ≡ eq_list (map f (cond g [] (x ∷ filled xs))) (map f (cond h [] (y ∷ filled ys)))
+    go true p true q r = absurd (d (eqb-true x blank p ∙ sym (eqb-true y blank q)))
+    go true p false q r = refl
+    go false p true q r = refl
+    go false p false q r = absurd (true≢false (sym r))
+
+-- both sides go on
+pub sorts_more : (f : ℕ → ℕ) (x y : ℕ) (xs ys : List ℕ) → (eqb x blank || eqb y blank) ≡ false
+    → eq_list (map f (filled (x ∷ xs))) (map f (filled (y ∷ ys))) ≡ (eqb (f x) (f y) && eq_list (map f (filled xs)) (map f (filled ys)))
+sorts_more f x y xs ys e = let n = none_true (eqb x blank) (eqb y blank) e in rw (n.0, n.1)
+
+-- one term on both sides
+pub sorts_same : (f : ℕ → ℕ) (x y : ℕ) (xs ys : List ℕ) → x ≡ y
+    → eq_list (map f (filled (x ∷ xs))) (map f (filled (y ∷ ys))) ≡ (eqb x blank || eq_list (map f (filled xs)) (map f (filled ys)))
+sorts_same f x y xs ys e = rw (← e) (go (eqb x blank))
+  where
+    go : (g : Bool) → eq_list (map f (cond g [] (x ∷ filled xs))) (map f (cond g [] (x ∷ filled ys))) ≡ (g || eq_list (map f (filled xs)) (map f (filled ys)))
+    go true = refl
+    go false = rw (eq-eqb (f x) (f x) refl)
 
 -- ---- the use of a head
 

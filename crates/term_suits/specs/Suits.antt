@@ -1,7 +1,7 @@
 -- The arguments of a row, column by column, and what is known of a row before its head is tested.
-use Rattle.std.specs.Prelude.{◌≡◌, Bool, true, not, ◌&&◌, List, ℕ, ◌≤◌, ◌<◌, length, eqb}
+use Rattle.std.specs.Prelude.{◌≡◌, Bool, true, not, ◌&&◌, List, map, ℕ, ◌≤◌, ◌<◌, length, eqb}
 use Rattle.calculus.specs.declared.Term.{Term}
-use Rattle.calculus.specs.Lists.{all}
+use Rattle.calculus.specs.Lists.{all, eq_list}
 use Rattle.calculus.specs.Terms.{head, sort, prop, filled, args_of, term_at, head_of, first_use, suits}
 use Rattle.rows.specs.Rows.{Whole}
 
@@ -12,6 +12,10 @@ all_props ts xs = all (prop ts) (filled xs)
 -- none of them is one
 abbrev pub all_plain : List ℕ → List ℕ → Bool
 all_plain ts xs = all (λ a. not (prop ts a)) (filled xs)
+
+-- the arguments in the columns xs and ys are as many and of the same sorts
+abbrev pub same_sorts : List ℕ → List ℕ → List ℕ → Bool
+same_sorts ts xs ys = eq_list (map (sort ts) (filled xs)) (map (sort ts) (filled ys))
 
 -- row e is a prop with two arguments of one sort, which is not prop
 abbrev pub equates : List ℕ → Term → Bool

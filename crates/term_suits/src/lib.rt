@@ -1,11 +1,10 @@
 // Whether a term row suits its head (number 4): the sorts of its arguments, and the use of a free head.
 #![tactic(auto)]
 
-ghost use Rattle.std.specs.Prelude.{◌≡◌, length, map};
-ghost use Rattle.calculus.specs.Lists.{eq_list};
-ghost use Rattle.calculus.specs.Terms.{head, sort, prop, filled, cells_of, args_of, head_of, same_use, suits, term_at};
+ghost use Rattle.std.specs.Prelude.{◌≡◌, List, ◌∷◌, ℕ, length};
+ghost use Rattle.calculus.specs.Terms.{head, prop, filled, cells_of, args_of, head_of, same_use, suits, term_at};
 ghost use Rattle.rows.specs.Rows.{Whole};
-ghost use Rattle.term_suits.specs.Suits.{all_props, all_plain, equates, connects, Known};
+ghost use Rattle.term_suits.specs.Suits.{all_props, all_plain, same_sorts, equates, connects, Known};
 
 use calculus::{Head, Row, Sort, Term};
 use rows::BLANK;
@@ -55,13 +54,17 @@ fn all_plain(terms: &[u16], e: Term) -> bool
         .all(|a| !is_prop(terms, Row(*a)))
 }
 
-// Whether these arguments and those are as many and of the same sorts.
-fn same_sorts(terms: &[u16], xs: &[u16], ys: &[u16]) -> bool
-    ensures { result ≡ eq_list (map (sort terms.now) xs.now) (map (sort terms.now) ys.now) }
+// Whether the arguments from columns x and y on are as many and of the same sorts, where `rest` says it of those after them.
+fn more_sort(terms: &[u16], x: u16, y: u16, rest: bool) -> bool
+    ensures { (xs ys : List ℕ) → rest ≡ same_sorts terms.now xs ys → result ≡ same_sorts terms.now (x ∷ xs) (y ∷ ys) }
 {
-    xs.len() == ys.len()
-        && xs.iter().zip(ys).all(|(x, y)| sheets::sort_of(terms, Row(*x))
-            == sheets::sort_of(terms, Row(*y)))
+    if x == y {
+        return (x == BLANK) | rest;
+    }
+    if (x == BLANK) | (y == BLANK) {
+        return false;
+    }
+    (sheets::sort_of(terms, Row(x)) == sheets::sort_of(terms, Row(y))) & rest
 }
 
 // ---- the use of a free head
@@ -73,12 +76,11 @@ fn same_use(terms: &[u16], u: Row, t: Row, g: Term) -> bool
     ensures { result ≡ same_use terms.now u.0 t.0 }
 {
     let e = rows::whole_term_at(terms, u);
-    e.sort == g.sort
-        && same_sorts(
-            terms,
-            args(&[e.a, e.b, e.c, e.d]),
-            args(&[g.a, g.b, g.c, g.d]),
-        )
+    let d = more_sort(terms, e.d, g.d, true);
+    let c = more_sort(terms, e.c, g.c, d);
+    let b = more_sort(terms, e.b, g.b, c);
+    let a = more_sort(terms, e.a, g.a, b);
+    (e.sort == g.sort) & a
 }
 
 // ---- a row's head, sort and arguments
