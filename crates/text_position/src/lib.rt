@@ -14,36 +14,26 @@ pub struct Position {
 fn step_line(line: usize) -> Position
     ensures { result ≡ record { line = next_line line; at = 0 } }
 {
-    if line < usize::MAX {
-        return Position {
-            line: line + 1,
-            at: 0,
-        };
+    Position {
+        line: line.saturating_add(1),
+        at: 0,
     }
-    Position { line, at: 0 }
 }
 
-// The position after a byte. The place stops at 526, past the longest line that can be good.
-fn step_position(line: usize, at: usize, b: u8) -> Position
-    ensures { result ≡ advanced (record { line = line; at = at }) b }
-{
-    if text_fields::is_newline(b) {
-        return step_line(line);
-    }
-    if at < 526 {
-        return Position { line, at: at + 1 };
-    }
-    Position { line, at }
-}
-
-// Moves a position past a byte.
+// Moves a position past a byte. The place stops at 526, past the longest line that can be good.
+// Stays: the position is lent by &mut, as document 01 says.
 pub fn advance(pos: &mut Position, byte: u8)
     ensures { pos.new ≡ advanced pos.old byte }
 {
-    *pos = step_position(pos.line, pos.at, byte);
+    let Position { line, at } = *pos;
+    if text_fields::is_newline(byte) {
+        *pos = step_line(line);
+    } else if at < 526 {
+        pos.at = at + 1;
+    }
 }
 
-// The same with plain parameters.
+// The position past a byte.
 pub fn advanced_by(line: usize, at: usize, byte: u8) -> Position
     ensures { result ≡ advanced (record { line = line; at = at }) byte }
 {
@@ -59,7 +49,7 @@ pub fn end_line(pos: &mut Position)
     *pos = step_line(pos.line);
 }
 
-// The same with plain parameters.
+// The start of the next line.
 pub fn next_line(line: usize, at: usize) -> Position
     ensures { result ≡ next_start (record { line = line; at = at }) }
 {
