@@ -18,7 +18,7 @@ use trail::Kept;
 pub fn other(v: u16) -> u16
     ensures { result ≡ opposite v }
 {
-    if v == 0 { 1 } else { 0 }
+    u16::from(v == 0)
 }
 
 // The set of the rows in ps before the first blank, in the window at b.
@@ -27,8 +27,7 @@ fn gather(work: &mut [u64], b: usize, w: usize, ps: &[u16])
     ensures { Holds work.old work.new b w (has (filled ps.now)) }
 {
     bitset::clear(work, b, w);
-    for k in 0..ps.len() {
-        let p = ps[k];
+    for &p in ps {
         if p == 65535 {
             return;
         }
@@ -58,11 +57,11 @@ pub fn decide(
     requires { ToDecide w terms work.old n top.0 t.0 }
     ensures { Stands w terms work.new result.count result.top.0 (decided_in w terms work.old n t.0 v) }
 {
-    let l = 1 + top.0;
-    trail_changes::push(work, w, terms, n, t, v, Level(l), true);
+    let above = Level(1 + top.0);
+    trail_changes::push(work, w, terms, n, t, v, above, true);
     Kept {
         count: n + 1,
-        top: Level(l),
+        top: above,
     }
 }
 
@@ -84,10 +83,9 @@ pub fn propagate(
     let b = t.0 as usize * w;
     gather(work, b, w, ps);
     trail_changes::push(work, w, terms, n, t, v, level, false);
-    let l = trail::larger(top, level);
     Kept {
         count: n + 1,
-        top: l,
+        top: trail::larger(top, level),
     }
 }
 
@@ -96,7 +94,7 @@ pub fn conflict(work: &mut [u64], w: usize, terms: usize, n: usize, l: Row, ps: 
     requires { Laid w terms work.old n × (l.0 < terms) × Within (has (filled ps.now)) (trail_in w terms work.old n) }
     ensures { Conflicts w terms work.new n (trail_in w terms work.old n) (has (l.0 ∷ filled ps.now)) }
 {
-    let e = terms * w + 4 * terms;
+    let e = trail::conflict_place(w, terms);
     gather(work, e, w, ps);
     bitset::insert(work, e, w, l);
 }

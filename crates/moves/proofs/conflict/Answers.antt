@@ -8,4 +8,6 @@ pub gather-requires : goal.gather-requires
 gather-requires c = (omega (arith, c.requires.0.enough), rows_in _ _ _ _ _ c.requires.0 c.requires.2)
 
 pub returns : goal.returns
-returns c = conflict_clash _ _ _ _ _ _ _ (filled c.args.ps.now) c.requires.0 c.gather.ensures c.insert.ensures
+returns c =
+    let at = c.conflict_place-e.ensures in
+    conflict_clash _ _ _ _ _ _ _ (filled c.args.ps.now) c.requires.0 (rw at at c.gather.ensures) (rw at at c.insert.ensures)

@@ -1,15 +1,7 @@
 -- `moves::give` meets its contract. Assumes nothing.
-use native.Mathlib.Omega.{arith}
-use Rattle.trail.proofs.Laws.{why_in_lem}
 use Rattle.trail.proofs.Frames.{built}
 use Rattle.moves.proofs.Laws.{given_stands}
 use Rattle.moves.proofs.give.Goals as goal
-
-pub overflow_mul-t : goal.overflow_mul-t
-overflow_mul-t c = omega (arith, why_in_lem c.args.w _ _ c.requires.1, c.requires.0.enough)
-
-pub clear-requires : goal.clear-requires
-clear-requires c = omega (arith, why_in_lem c.args.w _ _ c.requires.1, c.requires.0.enough)
 
 pub push-requires : goal.push-requires
 push-requires c =

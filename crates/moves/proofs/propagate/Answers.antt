@@ -5,9 +5,6 @@ use Rattle.trail.proofs.Frames.{built}
 use Rattle.moves.proofs.Laws.{rows_in, justified_stands}
 use Rattle.moves.proofs.propagate.Goals as goal
 
-pub overflow_mul-b : goal.overflow_mul-b
-overflow_mul-b c = omega (arith, why_in_lem c.args.w _ _ c.requires.1, c.requires.0.enough)
-
 pub gather-requires : goal.gather-requires
 gather-requires c = (
   omega (arith, why_in_lem c.args.w _ _ c.requires.1, c.requires.0.enough),
@@ -30,4 +27,4 @@ returns c =
     let p = c.requires in
     let g = c.gather.ensures in
     let a = built _ _ _ _ _ _ p.0 p.1 p.2 g.only in
-    rw c.larger-l.ensures (justified_stands _ _ _ _ _ _ _ _ _ _ _ a.trail p.3 g.set p.5 c.push.ensures)
+    rw c.larger.ensures (justified_stands _ _ _ _ _ _ _ _ _ _ _ a.trail p.3 g.set p.5 c.push.ensures)
