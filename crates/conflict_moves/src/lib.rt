@@ -14,7 +14,7 @@ pub fn resolve(work: &mut [u64], w: usize, terms: usize, n: usize, a: Row)
     requires { ToResolve w terms work.old n a.0 }
     ensures { Conflicts w terms work.new n (trail_in w terms work.old n) (resolved_in w terms work.old n a.0) }
 {
-    let e = terms * w + 4 * terms;
+    let e = trail::conflict_place(w, terms);
     // The justification, which does not hold a, comes first: a word just written is not read again as part of a longer one.
     bitset::union_into(work, e, a.0 as usize * w, w);
     bitset::remove(work, e, w, a);
@@ -47,16 +47,14 @@ pub fn backjump(
     ensures { Stands w terms work.new result.count result.top.0
         (backjumped_in w terms work.old n t.0 v m.0 ps.now) }
 {
-    let e = terms * w + 4 * terms;
+    let e = trail::conflict_place(w, terms);
     let b = t.0 as usize * w;
     let kept = trail_changes::cut(work, w, terms, n, m);
-    let k = kept.count;
     bitset::copy_without(work, b, e, w, ps);
-    trail_changes::push(work, w, terms, k, t, v, level, false);
-    let l = trail::larger(kept.top, level);
+    trail_changes::push(work, w, terms, kept.count, t, v, level, false);
     Kept {
-        count: k + 1,
-        top: l,
+        count: kept.count + 1,
+        top: trail::larger(kept.top, level),
     }
 }
 
@@ -77,7 +75,5 @@ pub fn flip(work: &mut [u64], w: usize, terms: usize, n: usize, l: Row, level: L
     let old = trail::value(work, w, terms, n, l);
     let m = trail::lower(level);
     let kept = trail_changes::cut(work, w, terms, n, m);
-    let k = kept.count;
-    let top = kept.top;
-    moves::decide(work, w, terms, k, top, l, moves::other(old))
+    moves::decide(work, w, terms, kept.count, kept.top, l, moves::other(old))
 }
