@@ -1,9 +1,11 @@
 -- What the code's counts, rows and table of names stand for.
-use Rattle.std.specs.Prelude.{ℕ, ◌≤◌, List, ◌≡◌, length, take}
+use Rattle.std.specs.Prelude.{Result, Ok, Err, ℕ, ◌≤◌, List, ◌≡◌, length, take}
 use Rattle.text_names.specs.Table.{names_from}
-use Rattle.text_rows.specs.Rows.{Kept, Taken}
+use Rattle.text_rows.specs.Rows.{Kept, Taken, refused}
 use Rattle.text_rows.specs.declared.Counts.{Counts}
 use Rattle.text_rows.specs.declared.Row.{Row}
+use Rattle.text_rows.specs.declared.BadRow.{BadRow}
+use Rattle.text_rows.specs.declared.BadRow.TheVariants.{Name, Ceiling, Malformed}
 
 -- the table has the names of sorts from slot 0 on, of terms from slot 32, of free heads from slot 288
 abbrev pub kept_of : Counts → List ℕ → Kept
@@ -16,9 +18,25 @@ kept_of n table =
       steps = n.steps;
     }
 
+-- a good row
 abbrev pub taken_of : Row → List ℕ → Taken
-taken_of r table =
-    record { number = r.number; place = r.place; kept = kept_of r.counts table; cells = take r.width r.cells }
+taken_of r table = record { number = 0; place = 0; kept = kept_of r.counts table; cells = take r.width r.cells }
+
+-- a line that is no row: the number of its fault, and its place
+abbrev pub bad_number : BadRow → ℕ
+bad_number Name = 2
+bad_number Ceiling = 30
+bad_number (Malformed place) = 31
+
+abbrev pub bad_place : BadRow → ℕ
+bad_place Name = 1
+bad_place Ceiling = 0
+bad_place (Malformed place) = place
+
+-- a line of values, after these counts: one that is no row leaves the counts as they were
+abbrev pub taken_in : Counts → Result Row BadRow → List ℕ → Taken
+taken_in n (Ok r) table = taken_of r table
+taken_in n (Err b) table = refused (kept_of n table) (bad_number b) (bad_place b)
 
 -- counts within the ceilings; there is at most one free head for each term
 abbrev pub Bounded : Counts → Type 0
