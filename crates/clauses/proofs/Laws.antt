@@ -1,6 +1,6 @@
 -- One of at most four arguments taken out, cell by cell; members and arguments in pairs, one pair more.
 use mathlib.Core.Path.{◌≡◌, refl, sym, ap, subst, ◌∙◌}
-use mathlib.Core.Bool.{Bool, true, false, ◌&&◌, cond, or-false}
+use mathlib.Core.Bool.{Bool, true, false, not, ◌&&◌, cond, or-false}
 use mathlib.Core.List.{List, [], ◌∷◌}
 use Prim.Native.Nat.{ℕ, zero, suc, ◌+◌, ◌-◌, ◌≤◌, ◌<◌}
 use native.Mathlib.Numerals.{add-one}
@@ -8,16 +8,35 @@ use native.Mathlib.Omega.{arith}
 use native.Mathlib.Decide.{dec_lt}
 use lib.Dec.{eqb}
 use borrow.Author.Tests.{eq-eqb, ne_eqb}
-use lib.ListN.{length}
+use lib.ListN.{length, get_or, take, drop}
+use lib.Seq.{take-length}
 use Rattle.calculus.specs.Sheets.{blank}
 use Rattle.calculus.specs.Terms.{filled}
-use Rattle.calculus.specs.Clauses.{taking_one, literal, paired}
+use Rattle.calculus.specs.Lists.{all}
+use Rattle.calculus.specs.Clauses.{different, taking_one, literal, paired}
 use Rattle.calculus.specs.declared.Premise.{Premise}
 use Rattle.calculus.proofs.Facts.{true_or_false}
+use Rattle.calculus.proofs.Walks.{not_has}
 use Rattle.rule_claims.specs.Claims.{gap, stated, no_premise}
 use Rattle.clauses.specs.declared.Members.{Members}
 use Rattle.clauses.specs.declared.Left.{Left}
 use Rattle.clauses.specs.Pairs.{members_of, others_of, from, left_of}
+
+-- ---- one row more in front of those that are named once
+
+apart : (x : ℕ) (xs : List ℕ) {g : Bool} → (x ≡ blank → ⊥) → g ≡ all (λ y. not (eqb x y)) (filled xs)
+    → different (filled (x ∷ xs)) ≡ (g && different (filled xs))
+apart x xs h e = rw (ne_eqb x blank h) (ap (λ (b : Bool). b && different (filled xs)) (sym (e ∙ not_has x (filled xs))))
+
+-- as the code takes the first off
+pub apart_first : (xs : List ℕ) {g : Bool} → 1 ≤ length xs → (get_or xs 0 0 ≡ blank → ⊥)
+    → g ≡ all (λ y. not (eqb (get_or xs 0 0) y)) (filled (take (length xs - 1) (drop 1 xs)))
+    → different (filled xs) ≡ (g && different (filled (take (length xs - 1) (drop 1 xs))))
+apart_first [] l h e = absurd (omega arith)
+apart_first (x ∷ xs) {g} l h e =
+    let n : suc (length xs) - 1 ≡ length xs = omega arith in
+    let q : take (suc (length xs) - 1) xs ≡ xs = rw n (take-length xs) in
+    subst (λ (ys : List ℕ). g ≡ all (λ y. not (eqb x y)) (filled ys) → different (filled (x ∷ xs)) ≡ (g && different (filled ys))) (sym q) (apart x xs h) e
 
 -- ---- one cell more in front, where one of the filled cells is taken out
 

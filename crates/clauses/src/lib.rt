@@ -1,7 +1,7 @@
 // Clausal forms: whether a clause, which is an or or an and, has the opposites of some assignments as its arguments.
 #![tactic(auto)]
 
-ghost use Rattle.std.specs.Prelude.{◌≡◌, false, not, ◌&&◌, suc, ◌≤◌, eqb, length, drop, [], ◌∷◌};
+ghost use Rattle.std.specs.Prelude.{◌≡◌, false, not, ◌&&◌, suc, eqb, [], ◌∷◌};
 ghost use Rattle.calculus.specs.Lists.{all};
 ghost use Rattle.calculus.specs.Clauses.{different, is_clause, clause_value, literal, paired, clausal};
 ghost use Rattle.calculus.specs.Terms.{prop, filled};
@@ -10,7 +10,7 @@ ghost use Rattle.clauses.specs.Pairs.{members_of, from, left_of};
 
 use calculus::{Premise, Row};
 use rows::{BLANK, term_at};
-use rule_claims::{AND, NOT, OR};
+use rule_claims::{AND, NO_PREMISE, NOT, OR};
 
 // Up to four members with their values. One whose row is blank is none, and those after it are not read.
 #[derive(Clone, Copy)]
@@ -43,7 +43,7 @@ pub fn value(terms: &[u16], t: Row) -> u16
     ensures { result ≡ clause_value terms.now t.0 }
 {
     let e = term_at(terms, t);
-    if e.head == OR { 1 } else { 0 }
+    u16::from(e.head == OR)
 }
 
 // ---- the rows in ps before the first blank
@@ -52,8 +52,7 @@ pub fn value(terms: &[u16], t: Row) -> u16
 pub fn all_props(terms: &[u16], ps: &[u16]) -> bool
     ensures { result ≡ all (prop terms.now) (filled ps.now) }
 {
-    for k in 0..ps.len() {
-        let p = ps[k];
+    for &p in ps {
         if p == BLANK {
             return true;
         }
@@ -65,13 +64,11 @@ pub fn all_props(terms: &[u16], ps: &[u16]) -> bool
     true
 }
 
-// Whether x is none of those from column `from` on.
-fn absent_from(ps: &[u16], from: usize, x: u16) -> bool
-    requires { from ≤ length ps.now }
-    ensures { result ≡ all (λ y. not (eqb x y)) (filled (drop from ps.now)) }
+// Whether x is none of them.
+fn absent_from(ps: &[u16], x: u16) -> bool
+    ensures { result ≡ all (λ y. not (eqb x y)) (filled ps.now) }
 {
-    for i in from..ps.len() {
-        let p = ps[i];
+    for &p in ps {
         if p == BLANK {
             return true;
         }
@@ -86,14 +83,15 @@ fn absent_from(ps: &[u16], from: usize, x: u16) -> bool
 pub fn different(ps: &[u16]) -> bool
     ensures { result ≡ different (filled ps.now) }
 {
-    for k in 0..ps.len() {
-        let p = ps[k];
-        if p == BLANK {
+    let mut left = ps;
+    while let [p, rest @ ..] = left {
+        if *p == BLANK {
             return true;
         }
-        if !absent_from(ps, k + 1, p) {
+        if !absent_from(rest, *p) {
             return false;
         }
+        left = rest;
     }
     true
 }
@@ -101,6 +99,7 @@ pub fn different(ps: &[u16]) -> bool
 // ---- literals in pairs with arguments
 
 // Whether the assignment p appears as x in a clause that becomes v: negated where v is its value, as itself where it has the other.
+#[tactic(auto, unfolding(calculus::specs::Clauses::literal, calculus::specs::Terms::cells, calculus::specs::Terms::arg))]
 fn literal(terms: &[u16], v: u16, p: Premise, x: u16) -> bool
     ensures { result ≡ literal terms.now v p x }
 {
@@ -112,6 +111,7 @@ fn literal(terms: &[u16], v: u16, p: Premise, x: u16) -> bool
 }
 
 // Member k, counted from 0; past the last there is none.
+#[tactic(auto, using(crate::proofs::Laws::from_past), unfolding(crate::specs::Pairs::from))]
 fn member(h: Members, k: usize) -> Premise
     ensures { result ≡ (from k h).p }
 {
@@ -120,10 +120,7 @@ fn member(h: Members, k: usize) -> Premise
         1 => h.q,
         2 => h.r,
         3 => h.s,
-        _ => Premise {
-            row: BLANK,
-            value: 0,
-        },
+        _ => NO_PREMISE,
     }
 }
 
@@ -184,6 +181,7 @@ fn paired(terms: &[u16], v: u16, h: Members, k: usize, e: Left) -> bool
 }
 
 // Whether the clause t is a clausal form of the members.
+#[tactic(auto, unfolding(calculus::specs::Terms::args, calculus::specs::Terms::cells, crate::specs::Pairs::from))]
 pub fn clausal(terms: &[u16], t: Row, h: Members) -> bool
     ensures { result ≡ clausal terms.now t.0 (members_of h) }
 {

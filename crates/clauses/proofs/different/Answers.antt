@@ -1,18 +1,14 @@
--- `clauses::different` meets its contract. The rows passed are named once. Assumes nothing.
-use Rattle.calculus.proofs.Walks.{once_none, once_blank, once_all, once_more, once_no}
+-- `clauses::different` meets its contract.
+use mathlib.Core.Path.{sym, ◌∙◌}
+use Rattle.clauses.proofs.Laws.{apart_first}
 use Rattle.clauses.proofs.different.Goals as goal
 
-pub loop-k-init : goal.loop-k-init
-loop-k-init c = once_none _
-
-pub returns-then-p : goal.returns-then-p
-returns-then-p c = once_blank c.loop-k.invariant c.loop-k-test.true c.if-p.true
-
 pub returns-then-not-absent_from : goal.returns-then-not-absent_from
-returns-then-not-absent_from c = once_no c.loop-k.invariant c.loop-k-test.true c.if-p.false c.absent_from.ensures c.if-not-absent_from.true
+returns-then-not-absent_from c =
+    let e = apart_first c.loop-left.left.now c.in-len1-up.len_at_least c.if-p.false c.absent_from.ensures in
+    sym (c.loop-left.invariant ∙ e ∙ rw c.if-not-absent_from.true)
 
-pub loop-k-preserved : goal.loop-k-preserved
-loop-k-preserved c = once_more c.loop-k.invariant c.loop-k-test.true c.if-p.false c.absent_from.ensures c.if-not-absent_from.false
-
-pub returns : goal.returns
-returns c = once_all c.loop-k.invariant c.loop-k-test.false
+pub loop-left-preserved : goal.loop-left-preserved
+loop-left-preserved c =
+    let e = apart_first c.loop-left.left.now c.in-len1-up.len_at_least c.if-p.false c.absent_from.ensures in
+    c.loop-left.invariant ∙ e ∙ rw c.if-not-absent_from.false

@@ -1,11 +1,11 @@
--- `clauses::different` meets its contract. The rows passed are named once. Assumes nothing.
-use Prim.Native.Nat.{◌-◌}
-use lib.ListN.{length}
-use Rattle.calculus.proofs.Walks.{Once}
+-- `clauses::different` meets its contract. What stands before is named once.
+use Rattle.std.proofs.Common.{◌≡◌, length}
+use Rattle.calculus.specs.Clauses.{different}
+use Rattle.calculus.specs.Terms.{filled}
 use Rattle.clauses.proofs.different.Given as goal
 
-abbrev pub invariant-loop-k : goal.invariant-loop-k
-invariant-loop-k l = Once l.ps l.k
+abbrev pub invariant-loop-left : goal.invariant-loop-left
+invariant-loop-left l = different (filled l.ps) ≡ different (filled l.left)
 
-abbrev pub decreases-loop-k : goal.decreases-loop-k
-decreases-loop-k l = length l.ps - l.k
+abbrev pub decreases-loop-left : goal.decreases-loop-left
+decreases-loop-left l = length l.left
