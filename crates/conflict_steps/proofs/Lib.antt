@@ -1,4 +1,2 @@
 -- The laws.
 pub mod Laws
-pub mod Tests
-pub mod Answers

@@ -1,17 +1,11 @@
 -- `conflict_steps::clear` meets its contract.
+use Rattle.std.proofs.Common.{rules}
 use Rattle.conflicts.proofs.Laws.{found}
-use Rattle.conflict_steps.proofs.Answers.{clear_refused, clear_on, clear_done}
-use borrow.Author.Rules.{rules}
+use Rattle.conflict_steps.proofs.Laws.{to_clear}
 use Rattle.conflict_steps.proofs.clear.Goals as goal
 
-pub clear_refusal-c-requires : goal.clear_refusal-c-requires
-clear_refusal-c-requires c = search (rules, found)
-
-pub returns-then-c-ne0 : goal.returns-then-c-ne0
-returns-then-c-ne0 c = search clear_refused
+pub clear_refusal-requires : goal.clear_refusal-requires
+clear_refusal-requires c = search (rules, found)
 
 pub clear-requires : goal.clear-requires
-clear-requires c = (search rules, search rules, search clear_on, (found _ _ _ _ _ c.requires).well_formed)
-
-pub returns : goal.returns
-returns c = search clear_done
+clear-requires c = to_clear _ _ _ _ _ _ c.requires c.in_ok-clear_refusal.ensures.number

@@ -1,22 +1,14 @@
 -- `conflict_steps::jump` meets its contract.
+use Rattle.std.proofs.Common.{rules}
 use Rattle.conflicts.proofs.Laws.{found}
-use Rattle.conflict_steps.proofs.Answers.{jump_refused, jump_above, jump_done}
-use borrow.Author.Rules.{rules}
+use Rattle.conflict_steps.proofs.Laws.{to_jump}
 use Rattle.conflict_steps.proofs.jump.Goals as goal
 
 pub rest_level-m-requires : goal.rest_level-m-requires
 rest_level-m-requires c = search found
 
-pub jump_refusal-c-requires : goal.jump_refusal-c-requires
-jump_refusal-c-requires c = search (rules, found)
-
-pub returns-then-c-ne0 : goal.returns-then-c-ne0
-returns-then-c-ne0 c = search jump_refused
+pub jump_refusal-requires : goal.jump_refusal-requires
+jump_refusal-requires c = search (rules, found)
 
 pub jump-requires : goal.jump-requires
-jump-requires c =
-    let start = c.requires in
-    (jump_above _ _ _ _ _ _ c.jump_refusal-c.ensures c.if-c-ne0.false start, search rules)
-
-pub returns : goal.returns
-returns c = search jump_done
+jump-requires c = (to_jump _ _ _ _ _ _ c.requires c.in_ok-jump_refusal.ensures.number, search rules)
