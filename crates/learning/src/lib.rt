@@ -2,6 +2,7 @@
 #![tactic(auto)]
 
 ghost use Rattle.std.specs.Prelude.{◌≡◌, ◌&&◌, leb, ltb};
+ghost use Rattle.calculus.specs.Numbers.{number_in, place_in};
 ghost use Rattle.calculus.specs.Lists.{all, has};
 ghost use Rattle.calculus.specs.Terms.{prop};
 ghost use Rattle.calculus.specs.Clauses.{different, is_clause, clausal};
@@ -19,6 +20,7 @@ use clauses::Members;
 use state::{Answer, Status};
 
 // The row's members with their values, where all stand on the trail.
+#[tactic(auto, using(crate::proofs::Laws::four_members))]
 fn members(work: &[u64], w: usize, n: usize, count: usize, x: Step) -> Members
     requires { Named w n work.now count x }
     ensures { members_of result ≡ premises_at (trail_in w n work.now count) (premises x) }
@@ -34,6 +36,7 @@ fn members(work: &[u64], w: usize, n: usize, count: usize, x: Step) -> Members
 // ---- the tests; ps are the row's columns of members
 
 // Whether the members are props and the term is a clause.
+#[tactic(auto, using(crate::proofs::Laws::columns))]
 fn kinds_suit(terms: &[u16], x: Step, ps: &[u16]) -> bool
     requires { ps.now ≡ premise_cells x }
     ensures { result ≡ (all (prop terms.now) (premises x) && is_clause terms.now x.term) }
@@ -44,6 +47,7 @@ fn kinds_suit(terms: &[u16], x: Step, ps: &[u16]) -> bool
 }
 
 // Whether the members, which all stand on the trail, are different and the term is a clausal form of them.
+#[tactic(auto, using(crate::proofs::Laws::columns))]
 fn form_suits(
     terms: &[u16],
     work: &[u64],
@@ -69,13 +73,14 @@ fn level_suits(work: &[u64], w: usize, n: usize, count: usize, x: Step, rest: Le
     ensures { result ≡ (leb rest.0 x.value && ltb x.value (level_of (trail_in w n work.now count) (has (premises x)))) }
 {
     let h = premises::level(work, w, n, count, x);
-    let m = x.value as u64;
-    (rest.0 <= m) & (m < h.0)
+    let m = Level(x.value as u64);
+    (rest <= m) & (m < h)
 }
 
 // ---- the number
 
 // Numbers 17, 22, 25, 14, 21; `rest` is the level of the rest of the conflict.
+#[tactic(auto, using(crate::proofs::Laws::columns, crate::proofs::Laws::premised), unfolding(calculus::specs::Steps::learn_refusal, calculus::specs::Numbers::unless))]
 fn learn_refusal(
     terms: &[u16],
     work: &[u64],
@@ -85,32 +90,34 @@ fn learn_refusal(
     x: Step,
     ps: &[u16],
     rest: Level,
-) -> u16
+) -> Result<(), Refusal>
     requires { ToTest w n work.now count x ps.now rest.0 }
-    ensures { result ≡ learn_refusal terms.now (trail_in w n work.now count) (conflict_in w n work.now)
+    ensures number { number_in result ≡ learn_refusal terms.now (trail_in w n work.now count) (conflict_in w n work.now)
         x.term x.value (premises x) }
+    ensures place { place_in result ≡ 0 }
 {
     if !conflicts::all_in_conflict(work, w, n, ps) {
-        return 17;
+        return Err(Refusal::NoMember);
     }
     if !kinds_suit(terms, x, ps) {
-        return 22;
+        return Err(Refusal::Unsuited);
     }
     if !form_suits(terms, work, w, n, count, x, ps) {
-        return 25;
+        return Err(Refusal::NoForm);
     }
     if state::stands(work, w, n, count, Row(x.term)) {
-        return 14;
+        return Err(Refusal::There);
     }
     if !level_suits(work, w, n, count, x, rest) {
-        return 21;
+        return Err(Refusal::Level);
     }
-    0
+    Ok(())
 }
 
 // ---- the step
 
 // Back to the row's level, where the rest of the conflict justifies the clause.
+#[tactic(auto, using(state::proofs::States::refused_with), unfolding(calculus::specs::Steps::learn, calculus::specs::Steps::premises, calculus::specs::Steps::answer, state::specs::States::state_in, state::specs::States::Answers))]
 pub fn learn(terms: &[u16], work: &mut [u64], w: usize, n: usize, st: Status, x: Step) -> Answer
     requires { ToLearn w n terms.now work.old st x }
     ensures { Answers w n terms.now work.old work.new nowhere
@@ -120,13 +127,7 @@ pub fn learn(terms: &[u16], work: &mut [u64], w: usize, n: usize, st: Status, x:
     let count = st.count;
     let ps = [x.p, x.q, x.r, x.s, x.t];
     let rest = conflicts::level_of_rest(work, w, n, count, &ps);
-    let c = learn_refusal(terms, work, w, n, count, x, &ps, rest);
-    if c != 0 {
-        return Answer::Refused(Refusal {
-            number: c,
-            place: 0,
-        });
-    }
+    learn_refusal(terms, work, w, n, count, x, &ps, rest)?;
     let t = Row(x.term);
     let v = clauses::value(terms, t);
     let m = Level(x.value as u64);
