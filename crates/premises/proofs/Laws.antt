@@ -1,24 +1,23 @@
 -- The level of premises column by column, and the first that is not on the trail.
 use mathlib.Core.Path.{◌≡◌, sym, ap, ◌∙◌}
-use mathlib.Core.Bool.{Bool, true, false, ◌||◌}
-use mathlib.Core.List.{List, []}
+use mathlib.Core.Bool.{Bool, true, false, not, ◌||◌}
+use mathlib.Core.List.{List, [], ◌∷◌}
 use Prim.Native.Nat.{ℕ, suc, ◌+◌, ◌≤◌, ◌<◌, max}
 use native.Mathlib.Numerals.{add-one}
 use native.Mathlib.Omega.{arith}
 use lib.Dec.{eqb}
 use lib.ListN.{length, get_or, drop}
-use Rattle.calculus.specs.declared.Step.{Step}
 use Rattle.calculus.specs.Lists.{all, has}
 use Rattle.calculus.specs.Sheets.{blank}
 use Rattle.calculus.specs.Terms.{filled}
 use Rattle.calculus.specs.Trail.{Trail, on, level_at, level_of}
-use Rattle.calculus.specs.Place.{absent_place}
+use Rattle.calculus.specs.Place.{first_fault}
 use Rattle.calculus.specs.WellFormed.{Distinct}
 use Rattle.calculus.proofs.Entries.{level_empty}
-use Rattle.calculus.proofs.Forms.{fault_later, fault_here, premise_fault_lem}
+use Rattle.calculus.proofs.Forms.{fault_later, fault_here}
+use lib.Seq.{drop-cons, drop-length}
 use Rattle.calculus.proofs.Walks.{left_blank, left_more, left_none, Passed, passed_at}
 use Rattle.calculus.proofs.WellFormed.{level_more}
-use Rattle.premises.specs.Columns.{MoreAbsent}
 
 -- the first k columns of ps, none of them blank, have the level m, and all up to the first blank stand on the trail
 pub record Levelled (tr : Trail) (ps : List ℕ) (m k : ℕ) : Type 0 where
@@ -54,15 +53,28 @@ module _ {tr : Trail} {ps : List ℕ} {m k : ℕ} (u : Levelled tr ps m k) where
               ∙ rw (r_is, l-is, add-one) (omega arith);
         }
 
--- a column that is blank or stands on the trail is passed over, another is the first
-module _ (tr : Trail) (c p rest : ℕ) {s : Bool} (s_is : s ≡ on tr p) where
-  pub absent_later : (eqb p blank || s) ≡ true → MoreAbsent tr c p rest rest
-  absent_later e = λ xs h. h ∙ sym (fault_later (on tr) c p xs s_is e)
+-- the first k of ps, which stand from column c on, are blank or on the trail
+pub record Present (tr : Trail) (c : ℕ) (ps : List ℕ) (k : ℕ) : Type 0 where
+  pub so_far : k ≤ length ps
+  pub left : first_fault (λ y. not (on tr y)) c ps ≡ first_fault (λ y. not (on tr y)) (c + k) (drop k ps)
 
-  pub absent_here : (eqb p blank || s) ≡ false → MoreAbsent tr c p rest c
-  absent_here e = λ xs h. sym (fault_here (on tr) c p xs s_is e)
+pub present_none : (tr : Trail) (c : ℕ) (ps : List ℕ) → Present tr c ps 0
+present_none tr c ps = record { so_far = omega arith; left = let e : c ≡ c + 0 = omega arith in ap (λ (j : ℕ). first_fault (λ y. not (on tr y)) j ps) e }
 
-pub absent_found : (tr : Trail) (x : Step) {p q r s t : ℕ} → MoreAbsent tr 9 x.t 10 t → MoreAbsent tr 8 x.s t s → MoreAbsent tr 7 x.r s r
-    → MoreAbsent tr 6 x.q r q → MoreAbsent tr 5 x.p q p → p ≡ absent_place tr x
-unfolding absent_place
-absent_found tr x last fourth third second first = premise_fault_lem _ x last fourth third second first
+module _ {tr : Trail} {c : ℕ} {ps : List ℕ} {k : ℕ} (u : Present tr c ps k) where
+  pub present_all : length ps ≤ k → c + k ≡ first_fault (λ y. not (on tr y)) c ps
+  present_all h =
+      let e : k ≡ length ps = omega (arith, u.so_far) in
+      sym (u.left ∙ ap (first_fault (λ y. not (on tr y)) (c + k)) (ap (λ (i : ℕ). drop i ps) e ∙ drop-length ps))
+
+  module _ (h : k < length ps) {s : Bool} (s_is : s ≡ on tr (get_or ps k 0)) where
+    opened : first_fault (λ y. not (on tr y)) c ps ≡ first_fault (λ y. not (on tr y)) (c + k) (get_or ps k 0 ∷ drop (suc k) ps)
+    opened = u.left ∙ ap (first_fault (λ y. not (on tr y)) (c + k)) (drop-cons ps k 0 h)
+
+    pub present_more : (eqb (get_or ps k 0) blank || s) ≡ true → Present tr c ps (k + 1)
+    present_more e =
+        let next : c + (k + 1) ≡ suc (c + k) = omega arith in
+        record { so_far = omega arith; left = rw (next, add-one) (opened ∙ fault_later (on tr) (c + k) (get_or ps k 0) (drop (suc k) ps) s_is e) }
+
+    pub absent_here : (eqb (get_or ps k 0) blank || s) ≡ false → c + k ≡ first_fault (λ y. not (on tr y)) c ps
+    absent_here e = sym (opened ∙ fault_here (on tr) (c + k) (get_or ps k 0) (drop (suc k) ps) s_is e)

@@ -1,10 +1,9 @@
--- What the premises of a step row are found to be in the words, what a claim says beside its step row, and the first premise that is absent.
-use Rattle.std.specs.Prelude.{◌≡◌, true, not, List, ◌∷◌, ℕ, suc}
+-- What the premises of a step row are found to be in the words, and what a claim says beside its step row.
+use Rattle.std.specs.Prelude.{◌≡◌, true, List, ℕ}
 use Rattle.calculus.specs.Lists.{all}
 use Rattle.calculus.specs.declared.Step.{Step}
 use Rattle.calculus.specs.Trail.{Trail, on, premises_at}
 use Rattle.calculus.specs.Steps.{premises}
-use Rattle.calculus.specs.Place.{first_fault}
 use Rattle.rule_claims.specs.declared.Claim.{Claim}
 use Rattle.rule_claims.specs.Claims.{premises_of}
 use Rattle.trail.specs.Words.{trail_in, Laid}
@@ -19,8 +18,3 @@ pub record Claims (tr : Trail) (x : Step) (y : Claim) : Type 0 where
   pub term : y.term.0 ≡ x.term
   pub value : y.value ≡ x.value
   pub premises : premises_of y ≡ premises_at tr (premises x)
-
--- the column of the first premise that is not on the trail: what column c, which holds p, makes of the answer for the rest
-abbrev pub MoreAbsent : Trail → ℕ → ℕ → ℕ → ℕ → Type 0
-MoreAbsent tr c p rest r =
-    (xs : List ℕ) → rest ≡ first_fault (λ y. not (on tr y)) (suc c) xs → r ≡ first_fault (λ y. not (on tr y)) c (p ∷ xs)

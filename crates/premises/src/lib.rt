@@ -8,7 +8,7 @@ ghost use Rattle.calculus.specs.Steps.{premises};
 ghost use Rattle.rule_claims.specs.Claims.{Looked};
 ghost use Rattle.trail.specs.Words.{trail_in, Laid};
 ghost use Rattle.calculus.specs.Place.{absent_place};
-ghost use Rattle.premises.specs.Columns.{Premised, Claims, MoreAbsent};
+ghost use Rattle.premises.specs.Columns.{Premised, Claims};
 
 use calculus::{Level, Premise, Row, Step};
 use rows::BLANK;
@@ -19,9 +19,7 @@ pub fn all_on(work: &[u64], w: usize, n: usize, count: usize, x: Step) -> bool
     requires { Laid w n work.now count }
     ensures { result ≡ all (on (trail_in w n work.now count)) (premises x) }
 {
-    let ps = [x.p, x.q, x.r, x.s, x.t];
-    for k in 0..5 {
-        let p = ps[k];
+    for p in [x.p, x.q, x.r, x.s, x.t] {
         if p == BLANK {
             return true;
         }
@@ -32,28 +30,18 @@ pub fn all_on(work: &[u64], w: usize, n: usize, count: usize, x: Step) -> bool
     true
 }
 
-// The column of the first premise that is not on the trail: column c, which holds p, in front of the rest.
-fn more_absent(work: &[u64], w: usize, n: usize, count: usize, c: u16, p: u16, rest: u16) -> u16
-    requires { Laid w n work.now count }
-    ensures { MoreAbsent (trail_in w n work.now count) c p rest result }
-{
-    let s = state::stands(work, w, n, count, Row(p));
-    if (p == BLANK) | s {
-        return rest;
-    }
-    c
-}
-
 // The column of the first premise that is not on the trail.
 pub fn absent_place(work: &[u64], w: usize, n: usize, count: usize, x: Step) -> u16
     requires { Laid w n work.now count }
     ensures { result ≡ absent_place (trail_in w n work.now count) x }
 {
-    let t = more_absent(work, w, n, count, 9, x.t, 10);
-    let s = more_absent(work, w, n, count, 8, x.s, t);
-    let r = more_absent(work, w, n, count, 7, x.r, s);
-    let q = more_absent(work, w, n, count, 6, x.q, r);
-    more_absent(work, w, n, count, 5, x.p, q)
+    let ps = [x.p, x.q, x.r, x.s, x.t];
+    for (k, &p) in ps.iter().enumerate() {
+        if !((p == BLANK) | state::stands(work, w, n, count, Row(p))) {
+            return 5 + k as u16;
+        }
+    }
+    10
 }
 
 // The level of the premises as a set, where all stand on the trail.
@@ -61,10 +49,8 @@ pub fn level(work: &[u64], w: usize, n: usize, count: usize, x: Step) -> Level
     requires { Premised w n work.now count x }
     ensures { result.0 ≡ level_of (trail_in w n work.now count) (has (premises x)) }
 {
-    let ps = [x.p, x.q, x.r, x.s, x.t];
     let mut m = Level(0);
-    for k in 0..5 {
-        let p = ps[k];
+    for p in [x.p, x.q, x.r, x.s, x.t] {
         if p == BLANK {
             return m;
         }
