@@ -1,68 +1,31 @@
--- The trail as numbers, one entry more: four stores. Assumes nothing.
-use Prim.Native.Nat.{ℕ, suc, ◌+◌, ◌*◌, ◌%◌, ◌≤◌, ◌<◌}
+-- The trail as numbers, one entry more. Assumes nothing.
+use Prim.Native.Nat.{ℕ, ◌+◌, ◌-◌, ◌*◌, ◌≤◌, ◌<◌}
 use native.Mathlib.Omega.{arith}
 use mathlib.Core.Path.{◌≡◌, refl, sym, ap, ap₂, ◌∙◌}
-use mathlib.Core.Bool.{Bool, true, false}
+use mathlib.Core.Bool.{true}
 use mathlib.Core.List.{List, [], ◌∷◌, ◌++◌, append_assoc}
-use lib.Dec.{eqb}
-use lib.ListN.{length, get_or, set, drop, length-set, length-append}
-use lib.Seq.{drop-cons, set_at, append_snoc}
-use mir.Val.{bool_byte}
+use lib.ListN.{length, drop, length-append}
+use lib.Seq.{drop-drop}
+use borrow.Rule.Slice.PartMut.{put_mid}
+use Rattle.std.proofs.lemmas.List.{places, take_at, drop_at}
 use Rattle.calculus.specs.Lists.{num}
-use Rattle.calculus.specs.Trail.{Trail, Entry, everything, top_level, entry_numbers, trail_numbers_of}
+use Rattle.calculus.specs.Trail.{Trail, Entry, everything, on, value_at, level_at, decided_at, top_level, entry_numbers, trail_numbers_of}
 use Rattle.calculus.specs.Run.{written}
 use Rattle.calculus.proofs.Columns.{numbers_length}
 use Rattle.calculus.proofs.Entries.{level_at_lem}
-use Rattle.trail.specs.Words.{values, levels, kinds, order, trail_in, entry_for, Laid}
+use Rattle.trail.specs.Words.{row_at, trail_in, entry_for, Laid}
 use Rattle.trail.proofs.Laws.{trail_length, trail_more, on_at, below_at, entry_at, room_all}
 
--- one number more
-written_at : (xs buffer : List ℕ) (k x : ℕ) → length xs ≡ k → k < length buffer → set (written xs buffer) k x ≡ written (xs ++ (x ∷ [])) buffer
-written_at xs buffer k x e h =
-    let n : length (xs ++ (x ∷ [])) ≡ suc k = length-append xs (x ∷ []) ∙ (let z : length xs + 1 ≡ suc k = omega arith in z) in
-    ap (λ (i : ℕ). set (xs ++ drop i buffer) k x) e
-    ∙ ap (λ (l : List ℕ). set (xs ++ l) k x) (drop-cons buffer k 0 h)
-    ∙ set_at xs (get_or buffer k 0) (drop (suc k) buffer) x k e
-    ∙ sym (append_snoc xs x (drop (suc k) buffer))
-    ∙ ap (λ (i : ℕ). (xs ++ (x ∷ [])) ++ drop i buffer) (sym n)
-
-snoc_length : (xs : List ℕ) (k x : ℕ) → length xs ≡ k → length (xs ++ (x ∷ [])) ≡ k + 1
-snoc_length xs k x e = length-append xs (x ∷ []) ∙ ap (λ (i : ℕ). i + 1) e
-
--- four numbers more
-module _ (xs buffer : List ℕ) (k : ℕ) (e : length xs ≡ k) (h : k + 4 ≤ length buffer) (a b c d : ℕ) where
-  abbrev one : List ℕ
-  one = xs ++ (a ∷ [])
-
-  abbrev two : List ℕ
-  two = one ++ (b ∷ [])
-
-  abbrev three : List ℕ
-  three = two ++ (c ∷ [])
-
-  long_one : length one ≡ k + 1
-  long_one = snoc_length xs k a e
-
-  long_two : length two ≡ k + 2
-  long_two = snoc_length one (k + 1) b long_one ∙ (let z : k + 1 + 1 ≡ k + 2 = omega arith in z)
-
-  long_three : length three ≡ k + 3
-  long_three = snoc_length two (k + 2) c long_two ∙ (let z : k + 2 + 1 ≡ k + 3 = omega arith in z)
-
-  written_four : set (set (set (set (written xs buffer) k a) (k + 1) b) (k + 2) c) (k + 3) d ≡ written (xs ++ (a ∷ b ∷ c ∷ d ∷ [])) buffer
-  written_four =
-      let q : three ++ (d ∷ []) ≡ xs ++ (a ∷ b ∷ c ∷ d ∷ []) = simp append_assoc in
-      ap (λ (l : List ℕ). set (set (set l (k + 1) b) (k + 2) c) (k + 3) d) (written_at xs buffer k a e (omega arith))
-      ∙ ap (λ (l : List ℕ). set (set l (k + 2) c) (k + 3) d) (written_at one buffer (k + 1) b long_one (omega arith))
-      ∙ ap (λ (l : List ℕ). set l (k + 3) d) (written_at two buffer (k + 2) c long_two (omega arith))
-      ∙ written_at three buffer (k + 3) d long_three (omega arith)
-      ∙ ap (λ (l : List ℕ). written l buffer) q
+-- four numbers more, in the place that follows
+written_four : (xs ys buffer : List ℕ) (k : ℕ) → length xs ≡ k → length ys ≡ 4 → put_mid k (k + 4 - k) (written xs buffer) ys ≡ written (xs ++ ys) buffer
+written_four xs ys buffer k e f =
+    let rest : List ℕ = drop (length xs) buffer in
+    let past : length xs + (k + 4 - k) ≡ length (xs ++ ys) = omega (arith, length-append xs ys) in
+    ap₂ (λ (p q : List ℕ). p ++ (ys ++ drop (k + 4 - k) q)) (take_at xs rest k e) (drop_at xs rest k e)
+    ∙ sym (append_assoc xs ys _)
+    ∙ ap (λ (l : List ℕ). (xs ++ ys) ++ l) (drop-drop (k + 4 - k) (length xs) buffer ∙ ap (λ (m : ℕ). drop m buffer) past)
 
 -- ---- the numbers of a trail in words
-
-flag : (b : Bool) → bool_byte b ≡ num b
-flag true = refl
-flag false = refl
 
 numbers_more : (e : Entry) (older : Trail) → trail_numbers_of (e ∷ older) ≡ trail_numbers_of older ++ entry_numbers e
 unfolding trail_numbers_of
@@ -87,29 +50,20 @@ writing_all {w} {N} {ws} {out₀} {out} {n} {i} u h = let e : i ≡ n = omega (a
 
 module _ {w N : ℕ} {ws out₀ out : List ℕ} {n i : ℕ} (u : Writing w N ws out₀ out n i) (l : i < n) where
   abbrev row : ℕ
-  row = get_or ws (order w N + i) 0
+  row = row_at w N ws i
 
-  -- what is stored for the entry at i
-  abbrev value : ℕ
-  value = get_or ws (values w N + row) 0 % 65536
+  abbrev tr : Trail
+  tr = trail_in w N ws n
 
-  abbrev level : ℕ
-  level = get_or ws (levels w N + row) 0
+  -- the row is on the trail, and the numbers fit
+  pub row_on : on tr row ≡ true
+  row_on = on_at w N ws n i l
 
-  abbrev decision : Bool
-  decision = eqb (get_or ws (kinds w N + row) 0) 2
+  pub row_small : row < N
+  row_small = below_at N w N ws n i u.laid.below l
 
-  abbrev stored : List ℕ → ℕ → List ℕ
-  stored l d = set (set (set (set l (4 * i) row) (4 * i + 1) value) (4 * i + 2) level) (4 * i + 3) d
-
-  -- the numbers fit
-  pub row_fits : row < N
-  row_fits = below_at N w N ws n i u.laid.below l
-
-  pub level_fits : top_level (trail_in w N ws n) < 65536 → level < 65536
-  level_fits h =
-      let o = on_at w N ws n i l in
-      omega (arith, h, level_at_lem (trail_in w N ws n) everything row o refl, ap (λ (e : Entry). e.level) (entry_at w N ws n row o))
+  pub level_fits : top_level tr < 65536 → level_at tr row < 65536
+  level_fits h = omega (arith, h, level_at_lem tr everything row row_on refl)
 
   -- four numbers stand there for each entry so far
   long_so_far : length (trail_numbers_of (trail_in w N ws i)) ≡ 4 * i
@@ -118,16 +72,24 @@ module _ {w N : ℕ} {ws out₀ out : List ℕ} {n i : ℕ} (u : Writing w N ws 
   one_more : trail_numbers_of (trail_in w N ws i) ++ entry_numbers (entry_for w N ws row) ≡ trail_numbers_of (trail_in w N ws (i + 1))
   one_more = sym (numbers_more (entry_for w N ws row) (trail_in w N ws i)) ∙ sym (ap trail_numbers_of (trail_more w N ws i))
 
-  pub writing_more : Writing w N ws out₀ (stored out (bool_byte decision)) n (i + 1)
-  writing_more =
+  -- the numbers of the entry, by its look-up
+  looked : (row ∷ value_at tr row ∷ level_at tr row ∷ num (decided_at tr row) ∷ []) ≡ entry_numbers (entry_for w N ws row)
+  looked = ap (λ (e : Entry). row ∷ e.value ∷ e.level ∷ num e.decided ∷ []) (entry_at w N ws n row row_on)
+
+  pub writing_more : {new : List ℕ} → new ≡ row ∷ value_at tr row ∷ level_at tr row ∷ num (decided_at tr row) ∷ []
+      → Writing w N ws out₀ (put_mid (4 * i) (4 * i + 4 - 4 * i) out new) n (i + 1)
+  writing_more {new} e =
+      let four : length new ≡ 4 = ap length e in
+      let room : 4 * i + 4 ≤ length out = omega (arith, u.space, u.long) in
       record {
         laid = u.laid;
         room = u.room;
         space = u.space;
         so_far = omega arith;
-        long = simp length-set u.long;
+        long = (let same : length (put_mid (4 * i) (4 * i + 4 - 4 * i) out new) ≡ length out = grind (arith, places) in same) ∙ u.long;
         same =
-            ap₂ stored u.same (flag decision)
-            ∙ written_four (trail_numbers_of (trail_in w N ws i)) out₀ (4 * i) long_so_far (omega (arith, u.space)) row value level (num decision)
-            ∙ ap (λ (l : List ℕ). written l out₀) one_more;
+            ap (λ (o : List ℕ). put_mid (4 * i) (4 * i + 4 - 4 * i) o new) u.same
+            ∙ written_four (trail_numbers_of (trail_in w N ws i)) new out₀ (4 * i) long_so_far four
+            ∙ ap (λ (x : List ℕ). written (trail_numbers_of (trail_in w N ws i) ++ x) out₀) (e ∙ looked)
+            ∙ ap (λ (x : List ℕ). written x out₀) one_more;
       }

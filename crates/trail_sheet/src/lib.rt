@@ -11,13 +11,11 @@ pub fn write(work: &[u64], w: usize, terms: usize, n: usize, out: &mut [u16])
     requires { Laid w terms work.now n × (4 * n ≤ length out.old) × (top_level (trail_in w terms work.now n) < 65536) }
     ensures { out.new ≡ written (trail_numbers_of (trail_in w terms work.now n)) out.old }
 {
-    let b = terms * w;
     for i in 0..n {
-        let t = work[b + 3 * terms + i] as usize;
-        let k = 4 * i;
-        out[k] = t as u16;
-        out[k + 1] = (work[b + t] % 65536) as u16;
-        out[k + 2] = work[b + terms + t] as u16;
-        out[k + 3] = (work[b + 2 * terms + t] == 2) as u16;
+        let t = trail::row_at(work, w, terms, n, i);
+        let value = trail::value(work, w, terms, n, t);
+        let level = trail::level(work, w, terms, n, t).0 as u16;
+        let decided = u16::from(trail::decided(work, w, terms, n, t));
+        out[4 * i..4 * i + 4].copy_from_slice(&[t.0, value, level, decided]);
     }
 }
