@@ -16,6 +16,7 @@ use rule_functions::{cong, pred};
 use rule_units::unit;
 
 // Whether the rule gives the claim's term its value from the claim's premises.
+#[tactic(auto, unfolding(calculus::specs::Rules::fits))]
 pub fn fits(terms: &[u16], rule: Rule, x: Claim) -> bool
     ensures { result ≡ allows terms.now rule x }
 {

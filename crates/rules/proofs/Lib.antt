@@ -1,2 +1,0 @@
--- What a rule answers.
-pub mod Laws
