@@ -1,18 +1,15 @@
 -- Laws of a line cut at its spaces: the bytes of names at the front of what is left, and what they say of the fields.
-use Prim.Native.Nat.{ℕ, suc, ◌+◌, ◌≤◌, ◌<◌}
+use Prim.Native.Nat.{ℕ, suc, ◌<◌}
 use mathlib.Core.Path.{◌≡◌, refl, sym, ◌∙◌}
 use mathlib.Core.Bool.{Bool, true, false}
 use mathlib.Core.Logic.{◌⊎◌, inl, inr}
 use mathlib.Core.List.{List, [], ◌∷◌}
 use native.Mathlib.Omega.{arith}
-use native.Mathlib.Numerals.{add-one}
 use borrow.Author.Tests.{eq-eqb}
 use lib.Dec.{eqb}
-use lib.ListN.{length, take, drop, get_or, drop_of_length-le}
-use lib.Seq.{drop-cons}
+use lib.ListN.{length, take, drop, get_or}
 use Rattle.text_fields.specs.Split.{pick, before, prepend, pieces}
 use Rattle.text_fields.specs.Class.{class_of, is_name, named, run}
-use Rattle.text_fields.proofs.Fours.{Ends}
 
 -- no separator: one piece
 pub pieces_one : (c : ℕ) (l : List ℕ) → before c l ≡ length l → pieces c l ≡ l ∷ []
@@ -62,28 +59,3 @@ run_named (b ∷ bs) = go (run_named bs) (is_name (class_of b)) refl where
   go : named (take (run bs) bs) ≡ true → (t : Bool) → is_name (class_of b) ≡ t → named (take (pick t (suc (run bs)) 0) (b ∷ bs)) ≡ true
   go ih true e = rw (e, ih)
   go ih false e = refl
-
--- the bytes of names from i on
-module _ (l : List ℕ) (i : ℕ) where
-  pub run_more : i < length l → is_name (class_of (get_or l i 0)) ≡ true → run (drop i l) ≡ suc (run (drop (i + 1) l))
-  run_more h e = rw (drop-cons l i 0, e, add-one)
-
-  pub run_stop : i < length l → is_name (class_of (get_or l i 0)) ≡ false → run (drop i l) ≡ 0
-  run_stop h e = rw (drop-cons l i 0, e)
-
-  pub run_end : length l ≤ i → run (drop i l) ≡ 0
-  run_end h = rw drop_of_length-le
-
--- so a search for their end stops at a byte that is part of no name
-pub name_ends : (l : List ℕ) → Ends run l (λ p. is_name (class_of (get_or l p 0)) ≡ false)
-name_ends l = record { here = run_stop l; further = λ p h n. run_more l p h (go (is_name (class_of (get_or l p 0))) n) } where
-  go : (b : Bool) → (b ≡ false → ⊥) → b ≡ true
-  go true n = refl
-  go false n = absurd (n refl)
-
--- what a test of a byte tells
-pub no_name : {b x : Bool} → b ≡ x → b ≡ false → x ≡ false
-no_name e h = sym e ∙ h
-
-pub a_name : {b x : Bool} → b ≡ x → b ≡ true → x ≡ false → ⊥
-a_name e h q = let z : ◌≡◌ {A = Bool} true false = sym h ∙ e ∙ q in absurd (let y : ◌≡◌ {A = ℕ} 0 1 = cc in omega arith)

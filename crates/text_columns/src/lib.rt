@@ -46,17 +46,10 @@ fn names_of_four(line: &[u8], i: usize) -> usize
     requires { i + 4 ≤ length line.now }
     ensures { Passes run line.now i result }
 {
-    if !is_name_byte(line[i]) {
-        return 0;
-    }
-    if !is_name_byte(line[i + 1]) {
-        return 1;
-    }
-    if !is_name_byte(line[i + 2]) {
-        return 2;
-    }
-    if !is_name_byte(line[i + 3]) {
-        return 3;
+    for k in 0..4 {
+        if !is_name_byte(line[i + k]) {
+            return k;
+        }
     }
     4
 }
@@ -67,14 +60,12 @@ fn name_rest(line: &[u8], from: usize) -> usize
     ensures value { result ≡ name_end line.now from }
     ensures upper_bound { result ≤ length line.now }
 {
-    let mut i = from;
-    while i < line.len() {
+    for i in from..line.len() {
         if !is_name_byte(line[i]) {
             return i;
         }
-        i += 1;
     }
-    i
+    line.len()
 }
 
 // The end of the bytes of names that stand from `from` on: four bytes at a time, as far as there are four, then one.

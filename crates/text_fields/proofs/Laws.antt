@@ -1,14 +1,14 @@
 -- Laws of the definitions of specs/.
-use Prim.Native.Nat.{ℕ, zero, suc, ◌+◌, ◌≤◌, ◌<◌}
+use Prim.Native.Nat.{ℕ, zero, suc, ◌+◌, ◌≤◌}
 use mathlib.Core.Path.{◌≡◌, refl, ap, sym, ◌∙◌}
-use mathlib.Core.Bool.{Bool, true, false, ◌&&◌, ◌||◌, true≢false}
+use mathlib.Core.Bool.{Bool, true, false, ◌&&◌}
 use mathlib.Core.List.{List, [], ◌∷◌}
 use native.Mathlib.Omega.{arith}
-use native.Mathlib.Numerals.{add-one}
-use borrow.Author.Tests.{eq-eqb, ne_eqb, eqb-true, eqb-false}
+use borrow.Author.Tests.{eq-eqb, eqb-true}
 use lib.Dec.{eqb, leb}
-use lib.ListN.{length, take, drop, get_or, length-drop, drop_of_length-le}
-use lib.Seq.{drop-cons, drop-drop}
+use lib.ListN.{length, take, drop, length-drop}
+use lib.Seq.{drop-drop}
+use Rattle.std.specs.Cmp.Lexicographic.{pointwise}
 use Rattle.text_fields.specs.Split.{pick, before, same}
 use Rattle.text_fields.specs.Class.{class_of, is_space, is_newline}
 use Rattle.text_fields.specs.declared.ByteClass.{ByteClass}
@@ -36,22 +36,6 @@ newline_is b = go (eqb b 32) (eqb b 10) refl refl where
   go true l d e = let z : b ≡ 32 = eqb-true b 32 d in rw z
   go false true d e = sym e
   go false false d e = neither is_newline refl refl (leb 33 b) (leb b 126) ∙ sym e
-
-module _ (c : ℕ) (l : List ℕ) (i : ℕ) where
-  pub before_hit : i < length l → get_or l i 0 ≡ c → before c (drop i l) ≡ 0
-  before_hit h e = rw (drop-cons l i 0, eq-eqb _ _ e)
-
-  pub before_miss : i < length l → (get_or l i 0 ≡ c → ⊥) → before c (drop i l) ≡ suc (before c (drop (i + 1) l))
-  before_miss h e = rw (drop-cons l i 0, ne_eqb _ _ e, add-one)
-
-  pub before_end : length l ≤ i → before c (drop i l) ≡ 0
-  before_end h = rw drop_of_length-le
-
-  -- one more byte is not `c`
-  pub before_on : i < length l → (x : Bool) → (x ≡ false → i + before c (drop i l) ≡ before c l)
-      → (x || eqb (get_or l i 0) c) ≡ false → i + 1 + before c (drop (i + 1) l) ≡ before c l
-  before_on h true p e = absurd (true≢false e)
-  before_on h false p e = omega (arith, p refl, before_miss h (eqb-false _ _ e))
 
 -- some bytes without `c` at the front
 before_past : (c : ℕ) (l : List ℕ) (n : ℕ) → n ≤ length l → before c (take n l) ≡ length (take n l) → before c l ≡ n + before c (drop n l)
@@ -85,19 +69,15 @@ same_length [] (y ∷ ys) h = refl
 same_length (x ∷ xs) [] h = refl
 same_length (x ∷ xs) (y ∷ ys) h = pick_both (eqb x y) (same_length xs ys (λ e. h (ap suc e))) refl
 
-module _ (a b : List ℕ) (i : ℕ) where
-  same_more : i < length a → i < length b → same (drop i a) (drop i b) ≡ pick (eqb (get_or a i 0) (get_or b i 0)) (same (drop (i + 1) a) (drop (i + 1) b)) false
-  same_more h k = rw (drop-cons a i 0, drop-cons b i 0, add-one)
-
-  -- one more byte is compared, and none is left
-  pub same_on : i < length a → i < length b → (x : Bool)
-      → pick (x && eqb (get_or a i 0) (get_or b i 0)) (same (drop (i + 1) a) (drop (i + 1) b)) false ≡ pick x (same (drop i a) (drop i b)) false
-  same_on h k true = sym (same_more h k)
-  same_on h k false = refl
-
-  pub same_done : length a ≤ i → length b ≤ i → (x : Bool) → pick x (same (drop i a) (drop i b)) false ≡ x
-  same_done h k true = rw (drop_of_length-le a, drop_of_length-le b)
-  same_done h k false = refl
+-- the comparison of slices is that of the words
+pub same_pointwise : (a b : List ℕ) → pointwise eqb a b ≡ same a b
+same_pointwise [] [] = refl
+same_pointwise [] (y ∷ ys) = refl
+same_pointwise (x ∷ xs) [] = refl
+same_pointwise (x ∷ xs) (y ∷ ys) = go (eqb x y) (same_pointwise xs ys) where
+  go : (t : Bool) → pointwise eqb xs ys ≡ same xs ys → (t && pointwise eqb xs ys) ≡ pick t (same xs ys) false
+  go true h = h
+  go false h = refl
 
 -- lists that are the same are equal
 pub same_equal : (a b : List ℕ) → same a b ≡ true → a ≡ b

@@ -1,5 +1,3 @@
 pub mod Laws
 pub mod Table
-pub mod Fours
 pub mod Lines
-pub mod Words

@@ -59,10 +59,8 @@ fn holds(s: &[u8], c: u8) -> bool
     ensures { result ≡ false → before c s.now ≡ length s.now }
 {
     let mut any = false;
-    let mut i = 0;
-    while i < s.len() {
-        any = any | (s[i] == c);
-        i += 1;
+    for &b in s {
+        any |= b == c;
     }
     any
 }
@@ -88,35 +86,25 @@ fn of_four(s: &[u8], c: u8, i: usize) -> usize
     requires { i + 4 ≤ length s.now }
     ensures { Passes (before c) s.now i result }
 {
-    if s[i] == c {
-        return 0;
-    }
-    if s[i + 1] == c {
-        return 1;
-    }
-    if s[i + 2] == c {
-        return 2;
-    }
-    if s[i + 3] == c {
-        return 3;
+    for k in 0..4 {
+        if s[i + k] == c {
+            return k;
+        }
     }
     4
 }
 
-// How many bytes stand before the first `c`, which is sought from `from` on, one byte at a time.
-fn scan_rest(s: &[u8], c: u8, from: usize) -> usize
-    requires { from ≤ length s.now }
-    ensures value { result ≡ from + before c (drop from s.now) }
+// How many bytes stand before the first `c`, one byte at a time.
+fn scan_rest(s: &[u8], c: u8) -> usize
+    ensures value { result ≡ before c s.now }
     ensures upper_bound { result ≤ length s.now }
 {
-    let mut i = from;
-    while i < s.len() {
-        if s[i] == c {
+    for (i, &b) in s.iter().enumerate() {
+        if b == c {
             return i;
         }
-        i += 1;
     }
-    i
+    s.len()
 }
 
 // How many bytes stand before the first `c`: it is sought sixteen bytes at a time, then four, then one.
@@ -132,23 +120,15 @@ pub fn scan(s: &[u8], c: u8) -> usize
         }
         i += 4;
     }
-    scan_rest(s, c, i)
+    i + scan_rest(&s[i..], c)
 }
 
-// Whether two slices hold the same bytes. All bytes are compared, with no way out: so several are compared at once.
+// Whether two slices hold the same bytes.
+#[tactic(auto, using(crate::proofs::Laws::same_pointwise))]
 pub fn same(a: &[u8], b: &[u8]) -> bool
     ensures { result ≡ sameBytes a.now b.now }
 {
-    if a.len() != b.len() {
-        return false;
-    }
-    let mut alike = true;
-    let mut i = 0;
-    while i < a.len() {
-        alike = alike & (a[i] == b[i]);
-        i += 1;
-    }
-    alike
+    a == b
 }
 
 // Whether a byte ends a line.

@@ -5,24 +5,10 @@ use native.Mathlib.Omega.{arith}
 use Rattle.text_fields.proofs.Laws.{before_block}
 use Rattle.text_fields.proofs.skip.Goals as goal
 
-pub returns-then-holds : goal.returns-then-holds
-returns-then-holds c =
-    record {
-      s_value = c.loop-i.invariant.1;
-      upper_bound = c.loop-i.invariant.0;
-    }
-
 pub loop-i-preserved : goal.loop-i-preserved
 loop-i-preserved c =
     let a = c.args in
     let i = c.loop-i.i in
     let n : i + 16 - i ≡ 16 = omega arith in
     let h = c.holds.ensures c.if-holds.false in
-    omega (arith, before_block a.c a.s.now i 16 (omega arith) (rw n at h), c.loop-i.invariant.1)
-
-pub returns : goal.returns
-returns c =
-    record {
-      s_value = c.loop-i.invariant.1;
-      upper_bound = c.loop-i.invariant.0;
-    }
+    (omega arith, omega (arith, before_block a.c a.s.now i 16 (omega arith) (rw n at h), c.loop-i.invariant.1))
