@@ -17,9 +17,9 @@ use Rattle.calculus.proofs.Facts.{true_T, is_or_not, none_true}
 use Rattle.calculus.proofs.Entries.{entry_in}
 use Rattle.calculus.proofs.Trails.{on_below, holds_yes}
 use Rattle.calculus.proofs.Acceptable.{added_on, added_value, asked_before}
-use Rattle.trail.specs.Words.{order, trail_in, Laid}
-use Rattle.trail.proofs.Laws.{trail_more, below_at, on_at, entry_at, room_all}
-use Rattle.acceptance.specs.Added.{added, row_at, is_side, Decidable, Skipped}
+use Rattle.trail.specs.Words.{order, row_at, trail_in, Laid}
+use Rattle.trail.proofs.Laws.{trail_more, on_at, entry_at, room_all}
+use Rattle.acceptance.specs.Added.{added, is_side, Decidable, Skipped}
 
 -- ---- values with the decision
 
@@ -54,12 +54,7 @@ module _ (tr : Trail) (t v : ℕ) where
 pub whole : (w n : ℕ) (ts ws : List ℕ) (count t l : ℕ) → Decidable w n ts ws count t → on (trail_in w n ws count) l ≡ true → l * 6 + 6 ≤ length ts
 whole w n ts ws count t l g o = let r = on_below n l _ g.laid.below o in omega (arith, g.rows)
 
--- the row of the entry at i: there is a word for it, it fits 16 bits, and the sheet has it
-pub word_there : (w n : ℕ) (ws : List ℕ) (count i : ℕ) → Laid w n ws count × (i < count) → (order w n + i < length ws) × (row_at w n ws i < 65536)
-word_there w n ws count i g =
-    let d = g.0 in
-    (omega (arith, room_all w n ws count d, d.enough, g.1), omega (arith, below_at n w n ws count i d.below g.1, d.wide, d.narrow))
-
+-- the row of the entry at i: the sheet has it
 pub row_there : (w n : ℕ) (ts ws : List ℕ) (count t i : ℕ) {l : ℕ} → Decidable w n ts ws count t × (i < count) → l ≡ row_at w n ws i → l * 6 + 6 ≤ length ts
 row_there w n ts ws count t i g e = rw e (whole w n ts ws count t _ g.0 (on_at w n ws count i g.1))
 

@@ -1,9 +1,9 @@
 -- The trail with a decision added, and what the test of the decision finds.
-use Rattle.std.specs.Prelude.{◌≡◌, Bool, false, ◌||◌, List, ◌∷◌, ℕ, ◌+◌, ◌≤◌, ◌<◌, eqb, get_or}
+use Rattle.std.specs.Prelude.{◌≡◌, Bool, false, ◌||◌, List, ◌∷◌, ℕ, ◌≤◌, ◌<◌, eqb}
 use Rattle.calculus.specs.Sheets.{term_rows}
 use Rattle.calculus.specs.Terms.{arg}
 use Rattle.calculus.specs.Trail.{Trail, decision}
-use Rattle.trail.specs.Words.{order, trail_in, Laid}
+use Rattle.trail.specs.Words.{row_at, trail_in, Laid}
 use Rattle.state.specs.States.{PropEquations}
 
 -- the trail in the words, and then t with the value v as a decision
@@ -16,10 +16,6 @@ pub record Decidable (w n : ℕ) (ts ws : List ℕ) (count t : ℕ) : Type 0 whe
   pub rows : n ≡ term_rows ts
   pub equations : PropEquations ts
   pub row : t < n
-
--- the row of the entry at i, the oldest entry being at 0
-abbrev pub row_at : ℕ → ℕ → List ℕ → ℕ → ℕ
-row_at w n ws i = get_or ws (order w n + i) 0
 
 -- t is the first or the second argument of row l
 abbrev pub is_side : List ℕ → ℕ → ℕ → Bool

@@ -5,8 +5,8 @@
 ghost use Rattle.std.specs.Prelude.{◌≡◌, true, ◌||◌, ◌<◌, ◌≤◌, eqb};
 ghost use Rattle.calculus.specs.Trail.{on, entry, value_at};
 ghost use Rattle.calculus.specs.Steps.{misfits, opposes, acceptable};
-ghost use Rattle.trail.specs.Words.{trail_in, Laid};
-ghost use Rattle.acceptance.specs.Added.{added, row_at, is_side, Decidable, Skipped};
+ghost use Rattle.trail.specs.Words.{row_at, trail_in, Laid};
+ghost use Rattle.acceptance.specs.Added.{added, is_side, Decidable, Skipped};
 
 use calculus::Row;
 use rule_claims::EQ;
@@ -18,8 +18,7 @@ fn valued(work: &[u64], w: usize, n: usize, count: usize, t: Row, u: Row) -> boo
     requires { Laid w n work.now count }
     ensures { result ≡ (eqb t.0 u.0 || on (trail_in w n work.now count) u.0) }
 {
-    let there = state::stands(work, w, n, count, u);
-    (t.0 == u.0) | there
+    (t == u) | state::stands(work, w, n, count, u)
 }
 
 // The value of u, where it has one.
@@ -27,10 +26,11 @@ fn value_of(work: &[u64], w: usize, n: usize, count: usize, t: Row, v: u16, u: R
     requires { Laid w n work.now count }
     ensures { on (added w n work.now count t.0 v) u.0 ≡ true → result ≡ value_at (added w n work.now count t.0 v) u.0 }
 {
-    if t.0 == u.0 {
-        return v;
+    if t == u {
+        v
+    } else {
+        state::value_at(work, w, n, count, u)
     }
-    state::value_at(work, w, n, count, u)
 }
 
 // Whether a and b have values by which a = b should have another value than e.
@@ -52,8 +52,7 @@ fn misfits(
     let also = valued(work, w, n, count, t, b);
     let x = value_of(work, w, n, count, t, v, a);
     let y = value_of(work, w, n, count, t, v, b);
-    let given = rule_claims::number(x == y);
-    held & (also & !(e == given))
+    held & (also & (e != u16::from(x == y)))
 }
 
 // Whether the entry of l opposes t.
@@ -77,7 +76,7 @@ fn opposes(
     }
     let a = Row(terms[i + 2]);
     let b = Row(terms[i + 3]);
-    if (a.0 == t.0) | (b.0 == t.0) {
+    if (a == t) | (b == t) {
         let e = trail::value(work, w, n, count, l);
         return misfits(work, w, n, count, t, v, a, b, e);
     }
@@ -86,20 +85,12 @@ fn opposes(
 
 // ---- the trail, entry by entry
 
-// The row of the entry at i, the oldest entry being at 0.
-fn row_at(work: &[u64], w: usize, n: usize, count: usize, i: usize) -> Row
-    requires { Laid w n work.now count × (i < count) }
-    ensures { result.0 ≡ row_at w n work.now i }
-{
-    Row(work[n * w + 3 * n + i] as u16)
-}
-
 // Whether t is the first or the second argument of the entry at i.
 fn has_side(terms: &[u16], work: &[u64], w: usize, n: usize, count: usize, t: Row, i: usize) -> bool
     requires { Decidable w n terms.now work.now count t.0 × (i < count) }
     ensures { result ≡ is_side terms.now t.0 (row_at w n work.now i) }
 {
-    let l = row_at(work, w, n, count, i);
+    let l = trail::row_at(work, w, n, count, i);
     let k = l.0 as usize * 6;
     (terms[k + 2] == t.0) | (terms[k + 3] == t.0)
 }
@@ -110,6 +101,7 @@ fn skip(terms: &[u16], work: &[u64], w: usize, n: usize, count: usize, t: Row, f
     ensures { Skipped w n terms.now work.now count t.0 from result }
 {
     let mut i = from;
+    // Stays: one entry at a time, as a `for` over them would ask, takes 134 ns a decision where this takes 61 (docs/BENCHMARKS.md).
     while count - i >= 4 {
         let first = has_side(terms, work, w, n, count, t, i);
         let second = has_side(terms, work, w, n, count, t, i + 1);
@@ -140,12 +132,13 @@ pub fn acceptable(
         return true;
     }
     let mut i = 0;
+    // Stays: `skip` moves i on by what it passes, four entries at a time.
     while i < count {
         i = skip(terms, work, w, n, count, t, i);
         if i == count {
             return true;
         }
-        let l = row_at(work, w, n, count, i);
+        let l = trail::row_at(work, w, n, count, i);
         if opposes(terms, work, w, n, count, t, v, l) {
             return false;
         }

@@ -21,8 +21,12 @@ value-e-requires c =
     let laid = c.requires.0.laid in
     (laid, on_below _ _ _ laid.below c.requires.1)
 
-pub returns-then-a-t : goal.returns-then-a-t
-returns-then-a-t c = search equation
+pub returns-then-eq : goal.returns-then-eq
+returns-then-eq c =
+    let side = rw (c.eq.ensures, c.eq-2.ensures) at c.if-eq.true in
+    search equation
 
 pub returns : goal.returns
-returns c = search other_sides
+returns c =
+    let side = rw (c.eq.ensures, c.eq-2.ensures) at c.if-eq.false in
+    search other_sides
