@@ -6,7 +6,6 @@ use Prim.Native.Nat.{ℕ, zero, suc, ◌+◌, ◌≤◌, min}
 use native.Mathlib.Omega.{arith}
 use lib.Dec.{eqb}
 use lib.ListN.{length, take}
-use borrow.Author.Tests.{eq-eqb, ne_eqb}
 use Rattle.calculus.specs.declared.Premise.{Premise}
 use Rattle.calculus.specs.declared.Term.{Term}
 use Rattle.calculus.specs.Sheets.{blank}
@@ -41,25 +40,6 @@ filled_length (x ∷ xs) = go (eqb x blank) (filled_length xs)
     go : (g : Bool) → length (filled xs) ≤ length xs → length (cond g [] (x ∷ filled xs)) ≤ suc (length xs)
     go true h = omega arith
     go false h = omega arith
-
-module _ (e : Term) where
-  pub count_0 : e.a ≡ blank → 0 ≡ length (args_of e)
-  count_0 a = rw (eq-eqb e.a blank a)
-
-  module _ (a : e.a ≡ blank → ⊥) where
-    pub count_1 : e.b ≡ blank → 1 ≡ length (args_of e)
-    count_1 b = rw (ne_eqb e.a blank a, eq-eqb e.b blank b)
-
-    module _ (b : e.b ≡ blank → ⊥) where
-      pub count_2 : e.c ≡ blank → 2 ≡ length (args_of e)
-      count_2 c = rw (ne_eqb e.a blank a, ne_eqb e.b blank b, eq-eqb e.c blank c)
-
-      module _ (c : e.c ≡ blank → ⊥) where
-        pub count_3 : e.d ≡ blank → 3 ≡ length (args_of e)
-        count_3 d = rw (ne_eqb e.a blank a, ne_eqb e.b blank b, ne_eqb e.c blank c, eq-eqb e.d blank d)
-
-        pub count_4 : (e.d ≡ blank → ⊥) → 4 ≡ length (args_of e)
-        count_4 d = rw (ne_eqb e.a blank a, ne_eqb e.b blank b, ne_eqb e.c blank c, ne_eqb e.d blank d)
 
 -- ---- all arguments, and the equalities between two terms' arguments
 

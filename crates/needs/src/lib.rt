@@ -1,10 +1,9 @@
 // The premises that a rule needs for a term and its value: rows that are still open follow from the first premise, or are found in the term sheet.
 // Finding an equality reads up to N rows, where the sheet has N: sym, trans and skip find one, cong and pred four; the other rules find none.
-#![tactic(auto)]
+#![tactic(auto, unfolding(completions::specs::Needs::needs, calculus::specs::Terms::cells, calculus::specs::Terms::arg, calculus::specs::Terms::args))]
 
-ghost use Rattle.std.specs.Prelude.{◌≡◌, cond, [], ◌∷◌, map, ◌<◌, ◌≤◌, min, eqb, length};
+ghost use Rattle.std.specs.Prelude.{◌≡◌, cond, [], ◌∷◌, map, ◌<◌, ◌≤◌, eqb, length};
 ghost use Rattle.calculus.specs.declared.Rule.TheVariants.{Same, Differ, Symmetry, Transitivity, Negated, Part, Unit, Evaluation, Congruence, Predicate, Skip};
-ghost use Rattle.calculus.specs.Lists.{opposite};
 ghost use Rattle.calculus.specs.Sheets.{blank, term_rows};
 ghost use Rattle.calculus.specs.Terms.{args_of};
 ghost use Rattle.calculus.specs.Rules.{is_eq, all_but};
@@ -14,9 +13,11 @@ ghost use Rattle.needs.specs.Listed.{listed, Four, three_of, needs_of};
 
 use calculus::{Premise, Row, Rule, Term};
 use rows::{BLANK, term_at};
-use rule_claims::{EQ, is_eq};
+use rule_claims::{EQ, NO_PREMISE, is_eq};
 
 // The first `count` of five premises, from the left; what stands after them is not read.
+// Stays: five fields and a count, and not an array, since a rule's premises are the five columns of a step row, each of which has a name in `Claim` and
+// in the sheets' format.
 #[derive(Clone, Copy)]
 pub struct Columns {
     pub count: u16,
@@ -43,32 +44,23 @@ fn with(w: u16, a: Row) -> Premise
     Premise { row: a.0, value: w }
 }
 
-// The other truth value.
-fn other(v: u16) -> u16
-    ensures { result ≡ opposite v }
-{
-    if v == 0 { 1 } else { 0 }
-}
-
 // No premise.
+#[tactic(auto, unfolding(crate::specs::Listed::listed))]
 fn none() -> Columns
     ensures { listed result ≡ [] }
 {
-    let p = Premise {
-        row: BLANK,
-        value: 0,
-    };
     Columns {
         count: 0,
-        p,
-        q: p,
-        r: p,
-        s: p,
-        t: p,
+        p: NO_PREMISE,
+        q: NO_PREMISE,
+        r: NO_PREMISE,
+        s: NO_PREMISE,
+        t: NO_PREMISE,
     }
 }
 
 // One premise.
+#[tactic(auto, unfolding(crate::specs::Listed::listed))]
 fn one(p: Premise) -> Columns
     ensures { listed result ≡ p ∷ [] }
 {
@@ -83,6 +75,7 @@ fn one(p: Premise) -> Columns
 }
 
 // Two premises.
+#[tactic(auto, unfolding(crate::specs::Listed::listed))]
 fn two(p: Premise, q: Premise) -> Columns
     ensures { listed result ≡ p ∷ q ∷ [] }
 {
@@ -101,17 +94,13 @@ fn front(p: Premise, x: Columns) -> Columns
     requires { x.count ≤ 4 }
     ensures { listed result ≡ p ∷ listed x }
 {
-    let q = x.p;
-    let r = x.q;
-    let s = x.r;
-    let t = x.s;
     Columns {
         count: x.count + 1,
         p,
-        q,
-        r,
-        s,
-        t,
+        q: x.p,
+        r: x.q,
+        s: x.r,
+        t: x.s,
     }
 }
 
@@ -204,12 +193,10 @@ fn find_equation(terms: &[u16], n: u16, a: Row, b: Row) -> Row
     requires { n ≡ term_rows terms.now }
     ensures { result.0 ≡ equation terms.now a.0 b.0 }
 {
-    let mut e: u16 = 0;
-    while e < n {
+    for e in 0..n {
         if is_equation(terms, n, Row(e), a, b) {
             return Row(e);
         }
-        e += 1;
     }
     Row(n)
 }
@@ -222,19 +209,12 @@ fn equal(terms: &[u16], n: u16, a: Row, b: Row) -> Premise
     with(1, find_equation(terms, n, a, b))
 }
 
-// The smaller of two numbers.
-fn smaller(a: u16, b: u16) -> u16
-    ensures { result ≡ min a b }
-{
-    if a < b { a } else { b }
-}
-
 // The true equalities between the arguments of f and g, position by position as far as both have one.
 fn equalities(terms: &[u16], n: u16, f: Term, g: Term) -> Columns
     requires { n ≡ term_rows terms.now }
     ensures { Four result (equations terms.now (args_of f) (args_of g)) }
 {
-    let m = smaller(count(f), count(g));
+    let m = count(f).min(count(g));
     let p = equal(terms, n, Row(f.a), Row(g.a));
     let q = equal(terms, n, Row(f.b), Row(g.b));
     let r = equal(terms, n, Row(f.c), Row(g.c));
@@ -266,7 +246,7 @@ fn differ(terms: &[u16], x: Known) -> Columns
 {
     let e = term_at(terms, x.term);
     let v = x.first.value;
-    two(with(v, Row(e.a)), with(other(v), Row(e.b)))
+    two(with(v, Row(e.a)), with(1u16.saturating_sub(v), Row(e.b)))
 }
 
 // The equality the other way round.
@@ -294,7 +274,7 @@ fn trans(terms: &[u16], n: u16, x: Known) -> Columns
 fn neg(terms: &[u16], x: Known) -> Columns
     ensures { listed result ≡ needs_of terms.now Negated x }
 {
-    one(with(other(x.value), Row(x.first.row)))
+    one(with(1u16.saturating_sub(x.value), Row(x.first.row)))
 }
 
 // The first premise, with the same value.
@@ -310,7 +290,7 @@ fn unit(terms: &[u16], x: Known) -> Columns
 {
     let p = Row(x.first.row);
     let e = term_at(terms, p);
-    let rest = arguments(other(x.value), but(x.way, e));
+    let rest = arguments(1u16.saturating_sub(x.value), but(x.way, e));
     front(with(x.value, p), rest)
 }
 
@@ -364,7 +344,6 @@ pub fn needed(terms: &[u16], n: u16, rule: Rule, x: Known) -> Columns
     match rule {
         Rule::Same => same(terms, x),
         Rule::Differ => differ(terms, x),
-        Rule::Reflexivity => none(),
         Rule::Symmetry => sym(terms, n, x),
         Rule::Transitivity => trans(terms, n, x),
         Rule::Negated => neg(terms, x),
@@ -373,9 +352,7 @@ pub fn needed(terms: &[u16], n: u16, rule: Rule, x: Known) -> Columns
         Rule::Evaluation => eval(terms, x),
         Rule::Congruence => cong(terms, n, x),
         Rule::Predicate => pred(terms, n, x),
-        Rule::Read => none(),
         Rule::Skip => skip(terms, n, x),
-        Rule::Deep => none(),
-        Rule::Unlisted => none(),
+        Rule::Reflexivity | Rule::Read | Rule::Deep | Rule::Unlisted => none(),
     }
 }

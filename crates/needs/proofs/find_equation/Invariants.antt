@@ -1,10 +1,6 @@
 -- `needs::find_equation` meets its contract.
-use Prim.Native.Nat.{◌-◌, ◌≤◌}
 use Rattle.needs.proofs.Rules.{NoneBefore}
 use Rattle.needs.proofs.find_equation.Given as goal
 
 abbrev pub invariant-loop-e : goal.invariant-loop-e
-invariant-loop-e l = (l.e ≤ l.n) × NoneBefore l.terms l.a.0 l.b.0 l.e
-
-abbrev pub decreases-loop-e : goal.decreases-loop-e
-decreases-loop-e l = l.n - l.e
+invariant-loop-e l = NoneBefore l.terms l.a.0 l.b.0 l.e

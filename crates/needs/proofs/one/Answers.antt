@@ -1,8 +1,0 @@
--- `needs::one` meets its contract.
-use mathlib.Core.Path.{refl}
-use Rattle.needs.specs.Listed.{listed}
-use Rattle.needs.proofs.one.Goals as goal
-
-pub returns : goal.returns
-unfolding listed
-returns c = refl
