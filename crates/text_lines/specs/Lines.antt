@@ -1,21 +1,21 @@
 -- The lines of the four sheets as text: headers, empty lines, rows, and what a line does.
-use Rattle.std.specs.Prelude.{ℕ, Bool, true, false, List, [], eqb, leb, length}
+use Rattle.std.specs.Prelude.{Option, Some, None, ℕ, Bool, true, false, List, [], eqb, leb, length}
 use Rattle.text_fields.specs.Split.{pick, pieces, same}
 use Rattle.text_fields.specs.Words.{sort_header, term_header, input_header, step_header}
 use Rattle.text_faults.specs.Why.{header_why, row_why}
 use Rattle.text_faults.specs.declared.Why.{Why}
-use Rattle.text_faults.specs.declared.Why.TheVariants.{Fine, Long, Empty}
+use Rattle.text_faults.specs.declared.Why.TheVariants.{Long, Empty}
 use Rattle.text_rows.specs.Rows.{Kept, Taken, sort_row, term_row, input_row, step_row}
 use Rattle.text_lines.specs.declared.Sheet.{Sheet}
 use Rattle.text_lines.specs.declared.Sheet.TheVariants.{Sorts, Terms, Inputs, Steps}
 
 -- where the reading of lines stands: the number and the place of the first bad line's fault, 0 where no line is bad; the number of that line, or of
--- the last one read; why that line is malformed; the sheet that lines go to, and whether its header was read; what later rows need of earlier ones
+-- the last one read; why that line is malformed, if it is; the sheet that lines go to, and whether its header was read; what later rows need of earlier ones
 pub record Control : Type 0 where
   pub number : ℕ
   pub place : ℕ
   pub line : ℕ
-  pub why : Why
+  pub why : Option Why
   pub sheet : Sheet
   pub headed : Bool
   pub kept : Kept
@@ -32,7 +32,7 @@ quiet c = record { control = c; cells = [] }
 abbrev pub bad : Control → Why → Effect
 bad c why =
     quiet
-    (record { number = 31; place = 0; line = c.line; why = why; sheet = c.sheet; headed = c.headed; kept = c.kept })
+    (record { number = 31; place = 0; line = c.line; why = Some why; sheet = c.sheet; headed = c.headed; kept = c.kept })
 
 -- the lines of a sheet begin, or have begun
 abbrev pub enter : Control → Sheet → Bool → Effect
@@ -72,8 +72,8 @@ value_column Inputs = 2
 value_column Steps = 4
 
 -- why a row is malformed, if its number says that it is
-abbrev pub why_row : Sheet → ℕ → ℕ → List ℕ → Why
-why_row sheet number place l = pick (eqb number 31) (row_why (value_column sheet) place l) Fine
+abbrev pub why_row : Sheet → ℕ → ℕ → List ℕ → Option Why
+why_row sheet number place l = pick (eqb number 31) (Some (row_why (value_column sheet) place l)) None
 
 abbrev pub row : Control → Taken → List ℕ → Effect
 row c t l =
@@ -109,4 +109,4 @@ abbrev pub nothing_kept : Kept
 nothing_kept = record { sorts = []; terms = []; heads = []; inputs = 0; steps = 0 }
 
 abbrev pub started : Control
-started = record { number = 0; place = 0; line = 0; why = Fine; sheet = Sorts; headed = false; kept = nothing_kept }
+started = record { number = 0; place = 0; line = 0; why = None; sheet = Sorts; headed = false; kept = nothing_kept }

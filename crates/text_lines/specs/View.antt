@@ -1,17 +1,66 @@
 -- What the code's values and buffers stand for: where the reading stands, what a line does, and the four lent sheets.
-use Rattle.std.specs.Prelude.{ℕ, ◌*◌, ◌≤◌, ◌≡◌, List, length, take}
+use Rattle.std.specs.Prelude.{Option, Some, None, ℕ, ◌*◌, ◌≤◌, ◌≡◌, List, length, take}
 use Rattle.std.proofs.lemmas.List.Edits.{sets}
+use Rattle.text_faults.specs.Why.{row_why}
+use Rattle.text_faults.specs.declared.Why.{Why}
 use Rattle.text_rows.specs.Rows.{Kept}
 use Rattle.text_rows.specs.View.{kept_of, Bounded}
-use Rattle.text_lines.specs.Lines.{Control, Effect, line_effect}
+use Rattle.text_rows.specs.declared.BadRow.{BadRow}
+use Rattle.text_rows.specs.declared.BadRow.TheVariants as bad
+use Rattle.text_lines.specs.Lines.{Control, Effect, line_effect, value_column}
+use Rattle.text_lines.specs.declared.Fault.{Fault}
+use Rattle.text_lines.specs.declared.Fault.TheVariants.{Name, Ceiling, Malformed}
 use Rattle.text_lines.specs.declared.Sheet.{Sheet}
 use Rattle.text_lines.specs.declared.Sheet.TheVariants.{Sorts, Terms, Inputs, Steps}
 use Rattle.text_lines.specs.declared.Core.{Core}
 use Rattle.text_lines.specs.declared.Step.{Step}
 
+-- the number of a fault, its place, and why a line is malformed
+abbrev pub fault_number : Fault → ℕ
+fault_number Name = 2
+fault_number Ceiling = 30
+fault_number (Malformed place why) = 31
+
+abbrev pub fault_place : Fault → ℕ
+fault_place Name = 1
+fault_place Ceiling = 0
+fault_place (Malformed place why) = place
+
+abbrev pub fault_why : Fault → Option Why
+fault_why Name = None
+fault_why Ceiling = None
+fault_why (Malformed place why) = Some why
+
+-- the same where there may be none: the numbers are 0 then
+abbrev pub number_at : Option Fault → ℕ
+number_at None = 0
+number_at (Some f) = fault_number f
+
+abbrev pub place_at : Option Fault → ℕ
+place_at None = 0
+place_at (Some f) = fault_place f
+
+abbrev pub why_at : Option Fault → Option Why
+why_at None = None
+why_at (Some f) = fault_why f
+
+-- the fault of a line of values that is no row
+abbrev pub row_fault : Sheet → BadRow → List ℕ → Fault
+row_fault sheet bad.Name l = Name
+row_fault sheet bad.Ceiling l = Ceiling
+row_fault sheet (bad.Malformed place) l = Malformed place (row_why (value_column sheet) place l)
+
 abbrev pub control_of : Core → List ℕ → Control
 control_of c table =
-    record { number = c.number; place = c.place; line = c.line; why = c.why; sheet = c.sheet; headed = c.headed; kept = kept_of c.counts table }
+    record {
+      number = number_at c.fault;
+      place = place_at c.fault;
+      line = c.line;
+      why = why_at c.fault;
+      sheet = c.sheet;
+      headed = c.headed;
+      kept = kept_of c.counts table;
+    }
 
 abbrev pub effect_of : Step → List ℕ → Effect
 effect_of s table = record { control = control_of s.core table; cells = take s.width s.cells }
