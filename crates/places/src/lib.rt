@@ -23,7 +23,7 @@ ghost use Rattle.places.specs.Tested.{Tested, Begins, Counted, claim_of};
 use calculus::{Premise, Refusal, Row, Rule};
 use needs::{Columns, Known, needed};
 use rows::{BLANK, term_at};
-use rule_claims::{Claim, EQ, larger};
+use rule_claims::{Claim, EQ, NO_PREMISE};
 
 // ---- known premises over what is needed
 
@@ -40,7 +40,7 @@ fn laid_over(x: Columns, y: Columns) -> Columns
 {
     let m = x.count;
     Columns {
-        count: larger(m, y.count),
+        count: m.max(y.count),
         p: pick(0 < m, x.p, y.p),
         q: pick(1 < m, x.q, y.q),
         r: pick(2 < m, x.r, y.r),
@@ -64,14 +64,7 @@ fn all_rows(n: u16, x: Columns) -> bool
 fn counted(b: bool, p: Premise) -> Premise
     ensures { result ≡ cond b p no_premise }
 {
-    pick(
-        b,
-        p,
-        Premise {
-            row: BLANK,
-            value: 0,
-        },
-    )
+    pick(b, p, NO_PREMISE)
 }
 
 // The claim that the premises give l the value v.
@@ -108,21 +101,9 @@ fn ways(k: Rule) -> u16
     ensures { result ≡ ways k }
 {
     match k {
-        Rule::Same => 1,
-        Rule::Differ => 1,
-        Rule::Reflexivity => 1,
-        Rule::Symmetry => 1,
-        Rule::Transitivity => 1,
-        Rule::Negated => 1,
-        Rule::Part => 1,
         Rule::Unit => 4,
         Rule::Evaluation => 2,
-        Rule::Congruence => 1,
-        Rule::Predicate => 1,
-        Rule::Read => 1,
-        Rule::Skip => 1,
-        Rule::Deep => 1,
-        Rule::Unlisted => 1,
+        _ => 1,
     }
 }
 
@@ -131,21 +112,8 @@ fn tried(n: u16, k: Rule) -> u16
     ensures { result ≡ cond (searched k) n 1 }
 {
     match k {
-        Rule::Same => 1,
-        Rule::Differ => 1,
-        Rule::Reflexivity => 1,
-        Rule::Symmetry => 1,
-        Rule::Transitivity => n,
-        Rule::Negated => n,
-        Rule::Part => n,
-        Rule::Unit => n,
-        Rule::Evaluation => 1,
-        Rule::Congruence => 1,
-        Rule::Predicate => n,
-        Rule::Read => 1,
-        Rule::Skip => 1,
-        Rule::Deep => 1,
-        Rule::Unlisted => 1,
+        Rule::Transitivity | Rule::Negated | Rule::Part | Rule::Unit | Rule::Predicate => n,
+        _ => 1,
     }
 }
 
@@ -154,9 +122,7 @@ fn followed(terms: &[u16], n: u16, k: Rule, l: Row, v: u16, known: Columns, f: P
     requires { n ≡ term_rows terms.now }
     ensures { result ≡ followed terms.now k l.0 v (listed known) f }
 {
-    let w = ways(k);
-    let mut i: u16 = 0;
-    while i < w {
+    for i in 0..ways(k) {
         let open = needed(
             terms,
             n,
@@ -171,7 +137,6 @@ fn followed(terms: &[u16], n: u16, k: Rule, l: Row, v: u16, known: Columns, f: P
         if serves(terms, n, k, l, v, laid_over(known, open)) {
             return true;
         }
-        i += 1;
     }
     false
 }
@@ -208,13 +173,10 @@ fn extensible(terms: &[u16], n: u16, k: Rule, l: Row, v: u16, known: Columns) ->
     if known.count != 0 {
         return followed(terms, n, k, l, v, known, known.p);
     }
-    let w = tried(n, k);
-    let mut r: u16 = 0;
-    while r < w {
+    for r in 0..tried(n, k) {
         if begun(terms, n, k, l, v, known, Row(r)) {
             return true;
         }
-        r += 1;
     }
     false
 }
@@ -248,18 +210,13 @@ fn first(m: u16, x: Claim) -> Columns
     requires { m ≤ length (premises_of x) }
     ensures { listed result ≡ take m (premises_of x) }
 {
-    let p = x.p;
-    let q = x.q;
-    let r = x.r;
-    let s = x.s;
-    let t = x.t;
     Columns {
         count: m,
-        p,
-        q,
-        r,
-        s,
-        t,
+        p: x.p,
+        q: x.q,
+        r: x.r,
+        s: x.s,
+        t: x.t,
     }
 }
 
@@ -287,12 +244,10 @@ fn first_unfit(terms: &[u16], n: u16, k: Rule, x: Claim) -> u16
     ensures { result ≡ first_unfit terms.now k x.term.0 x.value (premises_of x) }
 {
     let m = count(x);
-    let mut j: u16 = 0;
-    while j < 7 {
+    for j in 0..7 {
         if !findable(terms, n, k, x, m, 3 + j) {
             return 3 + j;
         }
-        j += 1;
     }
     10
 }
