@@ -10,106 +10,63 @@ use std::io;
 
 // ---- sheets as texts: a character for each column, a digit for 0 to 9, a letter for 10 and on, and a point for blank
 
+// The column that a character stands for.
 fn column(c: u8) -> u16 {
-    if c < b'0' {
-        return BLANK;
+    match c {
+        b'0'..=b'9' => u16::from(c - b'0'),
+        b'a'.. => u16::from(c - b'a') + 10,
+        _ => BLANK,
     }
-    if c < b'a' {
-        return (c - b'0') as u16;
-    }
-    (c - b'a') as u16 + 10
 }
 
 // The columns of a text, 48 at most, and zeros after them.
-fn columns(text: &[u8]) -> [u16; 48] {
-    let mut sheet = [0u16; 48];
-    for i in 0..48 {
-        if i < text.len() {
-            sheet[i] = column(text[i]);
-        }
+fn columns(text: &str) -> [u16; 48] {
+    let mut sheet = [0; 48];
+    for (cell, c) in sheet.iter_mut().zip(text.as_bytes()) {
+        *cell = column(*c);
     }
     sheet
 }
 
 // How many columns it fills.
-fn filled(text: &[u8]) -> usize
+fn filled(text: &str) -> usize
     ensures { result ≤ 48 }
 {
-    if text.len() < 48 { text.len() } else { 48 }
-}
-
-// Where the part of the text that begins at `from` ends: at the next stroke, or with the text.
-fn part_end(text: &[u8], from: usize) -> usize
-    requires { from ≤ length text.now }
-    ensures { (from ≤ result) × (result ≤ length text.now) }
-{
-    let mut i = from;
-    while i < text.len() {
-        if text[i] == b'/' {
-            return i;
-        }
-        i += 1;
-    }
-    i
-}
-
-// Where the next part begins.
-fn part_next(end: usize, all: usize) -> usize
-    requires { end ≤ all }
-    ensures { result ≤ all }
-{
-    if end < all { end + 1 } else { end }
+    text.len().min(48)
 }
 
 // ---- printing
 
 // The verdict's word.
-fn print_verdict(rt: &impl Print, v: u16) -> io::Result<()> {
-    match v {
-        0 => rt.write_all(b"open"),
-        1 => rt.write_all(b"refuted"),
-        _ => rt.write_all(b"refused"),
+// Stays: the verdict is a number in the struct of the C interface.
+fn word(verdict: u16) -> &'static str {
+    match verdict {
+        0 => "open",
+        1 => "refuted",
+        _ => "refused",
     }
 }
 
-// A space and a number.
-fn print_number(rt: &impl Print, x: u16) -> io::Result<()> {
-    print!(rt; " {x}")
-}
-
-// The name of a run and what the call answered.
-fn print_outcome(rt: &impl Print, name: &[u8], o: Outcome) -> io::Result<()> {
-    rt.write_all(name)?;
-    rt.write_all(b": ")?;
-    print_verdict(rt, o.verdict)?;
-    print_number(rt, o.steps)?;
-    print_number(rt, o.number)?;
-    print_number(rt, o.entries)?;
-    print_number(rt, o.place)
-}
-
-// Entry i of the trail buffer, where there is one.
-fn print_entry(rt: &impl Print, trail: &[u16; 1028], i: usize, entries: u16) -> io::Result<()>
-    requires { i < 257 }
-{
-    if i < entries as usize {
-        let k = 4 * i;
-        rt.write_all(b",")?;
-        print_number(rt, trail[k])?;
-        print_number(rt, trail[k + 1])?;
-        print_number(rt, trail[k + 2])?;
-        print_number(rt, trail[k + 3])?;
+// A line: the name of a run, what the call answered, and the entries of the trail buffer.
+fn print_outcome(rt: &impl Print, name: &str, o: Outcome, trail: &[u16]) -> io::Result<()> {
+    let verdict = word(o.verdict);
+    print!(rt;
+        "{name}: {verdict} {} {} {} {}",
+        o.steps, o.number, o.entries, o.place
+    )?;
+    let (entries, _) = trail.as_chunks::<4>();
+    for [term, value, level, decided] in entries.iter().take(usize::from(o.entries)) {
+        print!(rt; ", {term} {value} {level} {decided}")?;
     }
-    Ok(())
+    println!(rt)
 }
 
 // ---- runs
 
-// The call on these sheets, with so much of the buffers lent. The workspace holds something before it. No run here has more than four
-// entries.
+// The call on these sheets, with so much of the buffers lent. The workspace holds something before it.
 fn run_lent(
     rt: &impl Print,
-    name: &[u8],
+    name: &str,
     terms: &[u16],
     input: &[u16],
     log: &[u16],
@@ -126,109 +83,102 @@ fn run_lent(
         terms,
         input,
         log,
-        &mut work[0..words],
-        &mut trail[0..numbers],
+        &mut work[..words],
+        &mut trail[..numbers],
     );
-    print_outcome(rt, name, o)?;
-    print_entry(rt, &trail, 0, o.entries)?;
-    print_entry(rt, &trail, 1, o.entries)?;
-    print_entry(rt, &trail, 2, o.entries)?;
-    print_entry(rt, &trail, 3, o.entries)?;
-    rt.write_all(b"\n")
+    print_outcome(rt, name, o, &trail)
 }
 
 // An input and a log on the small board: a, b, e is a = b, then F(a), F(b), g is F(a) = F(b), not(e), or(e, g).
 fn run_board(
     rt: &impl Print,
-    name: &[u8],
-    input: &[u8],
-    log: &[u8],
+    name: &str,
+    input: &str,
+    log: &str,
     words: usize,
     numbers: usize,
 ) -> io::Result<()>
     requires { (words ≤ 2068) × (numbers ≤ 1028) }
 {
-    let terms = columns(b"g1....h1....0001..i10...i11...0034..102...3025..");
+    let terms = columns("g1....h1....0001..i10...i11...0034..102...3025..");
     let given = columns(input);
     let rows = columns(log);
     let g = filled(input);
     let n = filled(log);
-    run_lent(rt, name, &terms, &given[0..g], &rows[0..n], words, numbers)
+    run_lent(rt, name, &terms, &given[..g], &rows[..n], words, numbers)
 }
 
 // A run on the board from a text of three parts: its name, its input rows, each a term and its value, and its step rows, each step, rule,
 // term, value and five premises.
-fn run_lines(rt: &impl Print, text: &[u8], words: usize, numbers: usize) -> io::Result<()>
+fn run_lines(rt: &impl Print, text: &str, words: usize, numbers: usize) -> io::Result<()>
     requires { (words ≤ 2068) × (numbers ≤ 1028) }
 {
-    let all = text.len();
-    let a = part_end(text, 0);
-    let b = part_next(a, all);
-    let c = part_end(text, b);
-    let d = part_next(c, all);
-    run_board(rt, &text[0..a], &text[b..c], &text[d..all], words, numbers)
+    let (name, sheets) = text.split_once('/').unwrap_or((text, ""));
+    let (input, log) = sheets.split_once('/').unwrap_or((sheets, ""));
+    run_board(rt, name, input, log, words, numbers)
 }
 
 // With 8N + 12 words and 4N numbers lent.
-fn run(rt: &impl Print, text: &[u8]) -> io::Result<()> {
+fn run(rt: &impl Print, text: &str) -> io::Result<()> {
     run_lines(rt, text, 76, 32)
 }
 
 // The rows of the table.
 fn table(rt: &impl Print) -> io::Result<()> {
-    run(rt, b"nothing given//")?;
-    run(rt, b"fail/2150/79512....")?;
-    run(rt, b"opposite absent/21/79512....")?;
-    run(rt, b"jump over a decision/50/0.21.....29512....5.2......")?;
-    run(rt, b"decided twice//0.07.....0.07.....")?;
-    run(rt, b"resolve in search//3.0......")?;
+    run(rt, "nothing given//")?;
+    run(rt, "fail/2150/79512....")?;
+    run(rt, "opposite absent/21/79512....")?;
+    run(rt, "jump over a decision/50/0.21.....29512....5.2......")?;
+    run(rt, "decided twice//0.07.....0.07.....")?;
+    run(rt, "resolve in search//3.0......")?;
     run(
         rt,
-        b"resolve barred/50/0.07.....0.17.....102101...29512....3.2......",
+        "resolve barred/50/0.07.....0.17.....102101...29512....3.2......",
     )?;
     run(
         rt,
-        b"jump over e/50/0.07.....0.17.....102101...29512....5.2......",
+        "jump over e/50/0.07.....0.17.....102101...29512....5.2......",
     )?;
     run(
         rt,
-        b"clear b/61/0.07.....0.17.....15206....202101...4.1......",
+        "clear b/61/0.07.....0.17.....15206....202101...4.1......",
     )?;
     run(
         rt,
-        b"clear a/61/0.07.....0.17.....15206....202101...4.0......",
+        "clear a/61/0.07.....0.17.....15206....202101...4.0......",
     )?;
-    run(rt, b"unit/7120/175172...")?;
-    run(rt, b"e given 2/22/0.07.....")?;
-    run(rt, b"e given twice/2121/0.07.....")?;
-    run(rt, b"clash at level 0/2150/29512....")?;
-    run(rt, b"fail above level 0/50/0.21.....79512....")?;
+    run(rt, "unit/7120/175172...")?;
+    run(rt, "e given 2/22/0.07.....")?;
+    run(rt, "e given twice/2121/0.07.....")?;
+    run(rt, "clash at level 0/2150/29512....")?;
+    run(rt, "fail above level 0/50/0.21.....79512....")?;
     run(
         rt,
-        b"fail after a jump/5060/0.21.....29512....5.2......75216....29512....",
-    )?;
-    run(
-        rt,
-        b"learn what is there/71/0.20.....0.50.....287025...8.7025...",
+        "fail after a jump/5060/0.21.....29512....5.2......75216....29512....",
     )?;
     run(
         rt,
-        b"learn by one member/71/0.20.....0.50.....287025...8.702....",
+        "learn what is there/71/0.20.....0.50.....287025...8.7025...",
+    )?;
+    run(
+        rt,
+        "learn by one member/71/0.20.....0.50.....287025...8.702....",
     )
 }
 
 // Rows that went wrong, each at another place.
 fn places(rt: &impl Print) -> io::Result<()> {
-    run(rt, b"no such premise/21/19512a...")?;
-    run(rt, b"premise absent//19512....")?;
-    run(rt, b"cong of another term/21/19212....")?;
-    run(rt, b"cong false/21/19502....")?;
-    run(rt, b"a premise too many/21/195122...")
+    run(rt, "no such premise/21/19512a...")?;
+    run(rt, "premise absent//19512....")?;
+    run(rt, "cong of another term/21/19212....")?;
+    run(rt, "cong false/21/19502....")?;
+    run(rt, "a premise too many/21/195122...")
 }
 
 // ---- ceilings
 
 // A term sheet of free constants, all of them different.
+// Stays: rows by their index, since the wrong answer `constants` (one row too many) is told by an index past the end.
 fn constants() -> [u16; 1542] {
     let mut terms = [BLANK; 1542];
     for i in 0..257 {
@@ -240,23 +190,23 @@ fn constants() -> [u16; 1542] {
 }
 
 // So many free constants, and buffers that suffice for any number of them.
-fn run_constants(rt: &impl Print, name: &[u8], count: usize) -> io::Result<()>
+fn run_constants(rt: &impl Print, name: &str, count: usize) -> io::Result<()>
     requires { count ≤ 257 }
 {
     let terms = constants();
     let none = [0u16; 1];
-    let rows = &none[0..0];
+    let rows = &none[..0];
     let n = count * 6;
-    run_lent(rt, name, &terms[0..n], rows, rows, 2068, 1028)
+    run_lent(rt, name, &terms[..n], rows, rows, 2068, 1028)
 }
 
 // As many terms as there may be and one more; buffers that just suffice, and each of them one short.
 fn ceilings(rt: &impl Print) -> io::Result<()> {
-    run_constants(rt, b"256 terms", 256)?;
-    run_constants(rt, b"257 terms", 257)?;
-    run_lines(rt, b"8N+12 words, 4N numbers//", 76, 32)?;
-    run_lines(rt, b"8N+11 words//", 75, 32)?;
-    run_lines(rt, b"4N-1 numbers//", 76, 31)
+    run_constants(rt, "256 terms", 256)?;
+    run_constants(rt, "257 terms", 257)?;
+    run_lines(rt, "8N+12 words, 4N numbers//", 76, 32)?;
+    run_lines(rt, "8N+11 words//", 75, 32)?;
+    run_lines(rt, "4N-1 numbers//", 76, 31)
 }
 
 // Every row of the table in order, then the places and the ceilings.
