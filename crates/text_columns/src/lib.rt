@@ -141,6 +141,7 @@ fn check_value(fields: &[&[u8]], column: usize) -> Result<(), usize>
 
 // Whether a line of values is well formed, or the place at fault: the number of a field, or 0 where it is the line as a whole. Where it is well formed its
 // fields are in `fields`, as many as its columns. `column` is the number of the value column, 0 where there is none.
+#[tactic(auto, using(crate::proofs::Lines::pieces_short, crate::proofs::Lines::shape_fit, crate::proofs::Lines::shape_unfit))]
 pub fn check_line<'a>(line: &'a [u8], column: usize, fields: &mut [&'a [u8]]) -> Result<(), usize>
     ensures value { result ≡ shape_of (length fields.old) column (pieces 32 line.now) }
     ensures fields { result ≡ Ok tt → contents fields.new ≡ pieces 32 line.now }
