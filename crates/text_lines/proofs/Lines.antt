@@ -1,27 +1,16 @@
 -- Laws of what a line does.
 use Prim.Native.Nat.{ℕ, ◌<◌}
 use mathlib.Core.Path.{◌≡◌, refl, sym}
-use mathlib.Core.Bool.{Bool, true, false, ◌&&◌}
+use mathlib.Core.Bool.{Bool, true, false}
 use mathlib.Core.List.{List, [], ◌∷◌}
 use native.Mathlib.Omega.{arith}
 use borrow.Author.Tests.{ne_eqb, lt-leb, leb-true, leb-false}
 use lib.Dec.{eqb, leb}
 use lib.ListN.{length, take, length-take}
 use lib.Seq.{take_all}
-use lib.Pointwise.{pointwise}
 use Rattle.text_fields.specs.Split.{pick, same}
 use Rattle.text_lines.specs.Lines.{Control, quiet, bad, read_line, numbered, line_effect}
 use Rattle.text_faults.specs.declared.Why.TheVariants.{Long}
-
--- equal slices, as the code compares them
-pub same_pointwise : (a b : List ℕ) → pointwise eqb a b ≡ same a b
-same_pointwise [] [] = refl
-same_pointwise [] (y ∷ ys) = refl
-same_pointwise (x ∷ xs) [] = refl
-same_pointwise (x ∷ xs) (y ∷ ys) = go (eqb x y) (same_pointwise xs ys) where
-  go : (t : Bool) → pointwise eqb xs ys ≡ same xs ys → (t && pointwise eqb xs ys) ≡ pick t (same xs ys) false
-  go true e = e
-  go false e = refl
 
 -- an empty line
 pub same_empty : (l : List ℕ) → same l [] ≡ eqb (length l) 0

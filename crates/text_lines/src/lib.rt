@@ -89,7 +89,7 @@ struct Step {
 // A line that adds no row.
 fn quiet_line(core: Core) -> Step
     requires { Bounded core.counts }
-    ensures by_index { (t : List ℕ) → effect_of result t ≡ quiet (control_of core t) }
+    ensures effect_is { (t : List ℕ) → effect_of result t ≡ quiet (control_of core t) }
     ensures step_bounded { StepBounded result }
 {
     Step {
@@ -102,7 +102,7 @@ fn quiet_line(core: Core) -> Step
 // A line that is malformed as a whole.
 fn bad_line(core: Core, why: Why) -> Step
     requires { Bounded core.counts }
-    ensures by_index { (t : List ℕ) → effect_of result t ≡ bad (control_of core t) why }
+    ensures effect_is { (t : List ℕ) → effect_of result t ≡ bad (control_of core t) why }
     ensures step_bounded { StepBounded result }
 {
     quiet_line(Core {
@@ -114,7 +114,7 @@ fn bad_line(core: Core, why: Why) -> Step
 // The lines of a sheet begin, or have begun.
 fn enter_sheet(core: Core, sheet: Sheet, headed: bool) -> Step
     requires { Bounded core.counts }
-    ensures by_index { (t : List ℕ) → effect_of result t ≡ enter (control_of core t) sheet headed }
+    ensures effect_is { (t : List ℕ) → effect_of result t ≡ enter (control_of core t) sheet headed }
     ensures step_bounded { StepBounded result }
 {
     quiet_line(Core {
@@ -137,10 +137,10 @@ fn header_of(sheet: Sheet) -> &'static [u8]
 }
 
 // The first line of a sheet.
-#[tactic(auto, using(crate::proofs::Lines::same_pointwise))]
+#[tactic(auto, using(text_fields::proofs::Laws::same_pointwise))]
 fn header_line(core: Core, line: &[u8]) -> Step
     requires { Bounded core.counts }
-    ensures by_index { (t : List ℕ) → effect_of result t ≡ header (control_of core t) line.now }
+    ensures effect_is { (t : List ℕ) → effect_of result t ≡ header (control_of core t) line.now }
     ensures step_bounded { StepBounded result }
 {
     if line == header_of(core.sheet) {
@@ -152,7 +152,7 @@ fn header_line(core: Core, line: &[u8]) -> Step
 // An empty line.
 fn empty_line(core: Core) -> Step
     requires { Bounded core.counts }
-    ensures by_index { (t : List ℕ) → effect_of result t ≡ next_sheet (control_of core t) core.sheet }
+    ensures effect_is { (t : List ℕ) → effect_of result t ≡ next_sheet (control_of core t) core.sheet }
     ensures step_bounded { StepBounded result }
 {
     match core.sheet {
@@ -215,7 +215,7 @@ fn row_fault(sheet: Sheet, bad: BadRow, line: &[u8]) -> Fault
 fn row_line(core: Core, taken: Result<Row, BadRow>, line: &[u8]) -> Step
     requires bounded { Bounded core.counts }
     requires within { IfOk taken Within }
-    ensures by_index { (t t' : List ℕ) → effect_of result t' ≡ row (control_of core t) (taken_in core.counts taken t') line.now }
+    ensures effect_is { (t t' : List ℕ) → effect_of result t' ≡ row (control_of core t) (taken_in core.counts taken t') line.now }
     ensures step_bounded { StepBounded result }
 {
     match taken {

@@ -33,6 +33,7 @@ pub enum BadRow {
     // 30: more rows than the ceiling.
     Ceiling,
     // 31: malformed in that field, counted from 1, or 0 for the line as a whole.
+    // Stays: 0 for the whole line, as in the definition `shape_of`.
     Malformed(usize),
 }
 
