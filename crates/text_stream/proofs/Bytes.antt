@@ -1,5 +1,5 @@
 -- Laws of the stream: a byte, and the bytes of a piece.
-use Prim.Native.Nat.{ℕ, zero, suc, ◌+◌, ◌≤◌, ◌<◌}
+use Prim.Native.Nat.{ℕ, zero, suc, ◌+◌, ◌≤◌, ◌<◌, min}
 use mathlib.Core.Path.{◌≡◌, refl, ap, sym, ◌∙◌}
 use mathlib.Core.Bool.{Bool, true, false}
 use mathlib.Core.List.{List, [], ◌∷◌, ◌++◌}
@@ -8,7 +8,7 @@ use native.Mathlib.Numerals.{add-one}
 use borrow.Author.Tests.{ltb-true, ltb-false, le-ltb}
 use lib.Dec.{eqb, ltb}
 use lib.ListN.{length, take, drop, get_or, set, drop_of_length-le}
-use lib.Seq.{drop-cons, take-suc-set, set_out}
+use lib.Seq.{drop-cons, take-suc-set, set_out, take_all}
 use Rattle.text_fields.specs.Split.{pick, before}
 use Rattle.text_fields.specs.Class.{class_of, is_newline}
 use Rattle.text_fields.proofs.Laws.{newline_is}
@@ -87,6 +87,13 @@ pub feed_most : (s : Stream) (l : List ℕ) (n : ℕ) → before 10 l ≡ length
 feed_most s l zero k h = sym (feed_full s l (omega arith) k)
 feed_most s [] (suc n) k h = refl
 feed_most s (b ∷ bs) (suc n) k h = let c = clear_rest b bs k in feed_most (step_byte s b) bs n c.1 (step_at s b n c.0 h)
+
+-- so do the first 526 at most
+pub feed_first : (s : Stream) (l : List ℕ) (n : ℕ) → before 10 l ≡ length l → min (length l) 526 ≤ n → feed_all s (take n l) ≡ feed_all s l
+feed_first s l n clear h = go (ltb (length l) 526) refl where
+  go : (t : Bool) → ltb (length l) 526 ≡ t → feed_all s (take n l) ≡ feed_all s l
+  go true e = let k = ltb-true (length l) 526 e in ap (feed_all s) (take_all n l (omega arith))
+  go false e = let k = ltb-false (length l) 526 e in feed_most s l n clear (omega arith)
 
 pub hold_more : (pos : Position) (line l : List ℕ) (i : ℕ) {next : Position} {line' : List ℕ} (c : Control) (s : Sheets)
     → before 10 l ≡ length l → i < length l → length line ≡ 526

@@ -1,20 +1,23 @@
 -- Laws of the bytes up to a newline: fed one by one they do what their line does.
-use Prim.Native.Nat.{ℕ, suc, ◌+◌, ◌-◌, ◌≤◌, ◌<◌}
+use Prim.Native.Nat.{ℕ, suc, ◌+◌, ◌≤◌, ◌<◌}
 use mathlib.Core.Path.{◌≡◌, refl, ap, sym, ◌∙◌}
-use mathlib.Core.Bool.{Bool, true, false, ◌&&◌}
+use mathlib.Core.Bool.{Bool, true, false, ◌&&◌, false≢true}
 use mathlib.Core.List.{List, [], ◌∷◌, ◌++◌, append_assoc}
 use native.Mathlib.Omega.{arith}
 use native.Mathlib.Numerals.{add-one}
 use borrow.Author.Tests.{ltb-true, ltb-false, le-ltb, eqb-true}
 use lib.Dec.{eqb, ltb}
-use lib.ListN.{length, take, drop, get_or, length-append, length-drop, take-append-drop, drop_of_length-le}
-use lib.Seq.{take_all, take_at, take-suc, drop-drop}
+use lib.ListN.{length, take, drop, get_or, length-append, take-append-drop}
+use lib.Seq.{take_all, take_at, take-suc}
 use Rattle.text_fields.specs.Split.{pick, before}
 use Rattle.text_fields.proofs.Laws.{newline_is}
 use Rattle.text_position.specs.declared.Position.{Position}
 use Rattle.text_position.specs.Place.{next_start}
 use Rattle.text_lines.specs.Lines.{Control, Effect, quiet, line_effect}
-use Rattle.text_lines.specs.View.{Sheets, stored, LineEnded}
+use Rattle.text_lines.specs.View.{Sheets, stored, LineEnded, number_at}
+use Rattle.text_lines.specs.declared.Fault.{Fault}
+use Rattle.text_lines.specs.declared.Fault.TheVariants.{Name, Ceiling, Malformed}
+use Rattle.std.specs.Prelude.{Option, Some, None, is_some}
 use Rattle.text_lines.proofs.Lines.{effect_late, effect_cut}
 use Rattle.buffers.proofs.Room.{append_nil}
 use Rattle.text_lines.proofs.Sheets.{stored_none}
@@ -101,6 +104,13 @@ run_fed (b ∷ bs) s h e k = one (run_fed bs) (eqb b 10) refl h where
   one ih true p q = absurd (omega arith)
   one ih false p q = ap (λ (x : Stream). feed_all x bs) (plain s b p) ∙ two ih (omega arith) (ltb s.pos.at 526) refl
 
+-- a fault has a number
+pub faulty : (o : Option Fault) → is_some o ≡ true → number_at o ≡ 0 → ⊥
+faulty None e z = absurd (false≢true e)
+faulty (Some Name) e z = absurd (omega arith)
+faulty (Some Ceiling) e z = absurd (omega arith)
+faulty (Some (Malformed p w)) e z = absurd (omega arith)
+
 -- after a bad line nothing is done
 late_line : (c : Control) (n : ℕ) (l : List ℕ) (s : Sheets) → (c.number ≡ 0 → ⊥) → LineEnded c n l s c s
 late_line c n l s late =
@@ -186,43 +196,7 @@ module _ (pos : Position) (line rest : List ℕ) (n : ℕ) (is : n ≡ before 10
         part_ended next (pick whole (take n rest) (take held.at line')) c c s s le ne next-is refl (late_line c held.line _ s late)
 
 -- the bytes up to a newline, and those after it
-pub feed_next : (s : Stream) (l : List ℕ) (i n : ℕ) → i + n ≤ length l
-    → feed_all s (drop i l) ≡ feed_all (feed_all s (take (n + 1) (drop i l))) (drop (pick (ltb (i + n) (length l)) (i + n + 1) (length l)) l)
-feed_next s l i n h =
-    ap (feed_all s) (sym (take-append-drop (n + 1) (drop i l))) ∙ feed_append s (take (n + 1) (drop i l)) (drop (n + 1) (drop i l))
-    ∙ ap (feed_all (feed_all s (take (n + 1) (drop i l)))) (drop-drop (n + 1) i l ∙ go (ltb (i + n) (length l)) refl) where
-      go : (t : Bool) → ltb (i + n) (length l) ≡ t → drop (i + (n + 1)) l ≡ drop (pick t (i + n + 1) (length l)) l
-      go true e = let z : i + (n + 1) ≡ i + n + 1 = omega arith in rw z
-      go false e =
-          let k = ltb-false (i + n) (length l) e in
-          let a : length l ≤ i + (n + 1) = omega arith in
-          let b : length l ≤ length l = omega arith in
-          drop_of_length-le l a ∙ sym (drop_of_length-le l b)
-
--- the bytes from a place on, as the code cuts them
-rest_is : (l : List ℕ) (i : ℕ) → take (length l - i) (drop i l) ≡ drop i l
-rest_is l i = take_all (length l - i) (drop i l) (omega (arith, length-drop i l))
-
-pub rest_length : (l : List ℕ) (i : ℕ) → length (take (length l - i) (drop i l)) ≡ length l - i
-rest_length l i = ap length (rest_is l i) ∙ length-drop i l
-
-pub feed_on : (s s' : Stream) (l : List ℕ) (i n j : ℕ) → i ≤ length l → n ≤ length (take (length l - i) (drop i l))
-    → s' ≡ feed_all s (take (n + 1) (take (length l - i) (drop i l))) → j ≡ pick (ltb (i + n) (length l)) (i + n + 1) (length l)
-    → feed_all s' (drop j l) ≡ feed_all s (drop i l)
-feed_on s s' l i n j h k e f =
-    let m : n ≤ length (drop i l) = rw (rest_is l i) at k in
-    ap (λ (x : Stream). feed_all x (drop j l)) (e ∙ ap (λ (r : List ℕ). feed_all s (take (n + 1) r)) (rest_is l i))
-    ∙ ap (λ (x : ℕ). feed_all (feed_all s (take (n + 1) (drop i l))) (drop x l)) f ∙ sym (feed_next s l i n (omega (arith, length-drop i l)))
-
--- a place goes on, up to the end
-pub place_most : (a b : ℕ) → pick (ltb a b) (a + 1) b ≤ b
-place_most a b = go (ltb a b) refl where
-  go : (t : Bool) → ltb a b ≡ t → pick t (a + 1) b ≤ b
-  go true e = omega (arith, ltb-true a b e)
-  go false e = omega arith
-
-pub place_less : (i a b : ℕ) → i ≤ a → i < b → i < pick (ltb a b) (a + 1) b
-place_less i a b h k = go (ltb a b) where
-  go : (t : Bool) → i < pick t (a + 1) b
-  go true = omega arith
-  go false = k
+pub feed_on : (s s' : Stream) (l : List ℕ) (n : ℕ) → s' ≡ feed_all s (take (n + 1) l) → feed_all s' (drop (n + 1) l) ≡ feed_all s l
+feed_on s s' l n e =
+    ap (λ (x : Stream). feed_all x (drop (n + 1) l)) e ∙ sym (feed_append s (take (n + 1) l) (drop (n + 1) l))
+    ∙ ap (feed_all s) (take-append-drop (n + 1) l)

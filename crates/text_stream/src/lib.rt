@@ -1,15 +1,13 @@
 // A text in pieces: bytes are held until a newline ends their line, and a line that stands whole in a piece is read where it stands.
 #![tactic(auto)]
 
-ghost use Rattle.std.specs.Prelude.{◌≡◌, ◌&&◌, [], ◌+◌, ◌≤◌, eqb, ltb, length, take};
+ghost use Rattle.std.specs.Prelude.{◌≡◌, ◌&&◌, [], ◌+◌, ◌≤◌, eqb, ltb, length, take, drop};
 ghost use Rattle.text_fields.specs.Split.{pick, before};
-ghost use Rattle.text_fields.specs.Class.{class_table};
 ghost use Rattle.text_rows.specs.View.{Bounded};
 ghost use Rattle.text_lines.specs.Lines.{Control};
 ghost use Rattle.text_lines.specs.View.{Sheets};
 ghost use Rattle.text_stream.specs.Stream.{holding, stream_of, feed_all};
 
-use text_fields::Classes;
 use text_lines::Core;
 use text_position::Position;
 
@@ -28,12 +26,9 @@ fn hold_bytes(start: Position, l: &[u8], line: &mut [u8]) -> Position
         ≡ feed_all (holding start line.old c s) l.now }
 {
     let mut pos = start;
-    let mut i = 0;
-    while i < l.len() {
-        let b = l[i];
+    for &b in l {
         buffers::put_byte(line, pos.at, b);
         pos = text_position::advanced_by(pos.line, pos.at, b);
-        i += 1;
     }
     pos
 }
@@ -45,13 +40,7 @@ fn hold(start: Position, l: &[u8], line: &mut [u8]) -> Position
     ensures { (c : Control) (s : Sheets) → holding result line.new c s
         ≡ feed_all (holding start line.old c s) l.now }
 {
-    if l.len() == 0 {
-        return start;
-    }
-    if l.len() > 526 {
-        return hold_bytes(start, &l[..526], line);
-    }
-    hold_bytes(start, l, line)
+    hold_bytes(start, &l[..l.len().min(526)], line)
 }
 
 // Whether a line whose newline is at place n of a piece stands whole in it, `at` bytes having come before.
@@ -65,7 +54,7 @@ fn stands_whole(at: usize, n: usize, end: usize) -> bool
 fn to_hold(whole: bool, l: &[u8]) -> &[u8]
     ensures { result.now ≡ pick whole [] l.now }
 {
-    if whole { &l[..0] } else { l }
+    if whole { &[] } else { l }
 }
 
 // A finished line: where it stands, or what is held of it.
@@ -75,15 +64,11 @@ fn line_of<'a>(whole: bool, l: &'a [u8], line: &'a [u8], at: usize) -> &'a [u8]
     if whole {
         return l;
     }
-    if at < line.len() {
-        return &line[..at];
-    }
-    line
+    &line[..at.min(line.len())]
 }
 
 // The bytes up to the next newline, n bytes before it: a line that stands whole is read there, else they are held.
 fn feed_part(
-    classes: &Classes,
     f: Progress,
     rest: &[u8],
     n: usize,
@@ -97,16 +82,14 @@ fn feed_part(
     requires bounded { Bounded f.core.counts }
     requires n_value { n ≡ before 10 rest.now }
     requires n_in_bounds { n ≤ length rest.now }
-    requires classes_value { classes.now ≡ class_table }
     ensures steps_after { stream_of result
         line.new names.new sorts.new terms.new inputs.new steps.new
         ≡ feed_all (stream_of f
         line.old names.old sorts.old terms.old inputs.old steps.old)
         (take (n + 1) rest.now) }
-    ensures bounded_2 { Bounded result.core.counts }
+    ensures stays_bounded { Bounded result.core.counts }
 {
-    let pos = f.pos;
-    let core = f.core;
+    let Progress { pos, core } = f;
     let end = rest.len();
     let whole = stands_whole(pos.at, n, end);
     let held = hold(pos, to_hold(whole, &rest[..n]), line);
@@ -114,27 +97,22 @@ fn feed_part(
         return Progress { pos: held, core };
     }
     let next = text_position::next_line(held.line, held.at);
-    if core.number != 0 {
+    if core.fault.is_some() {
         return Progress { pos: next, core };
     }
     let l = line_of(whole, &rest[..n], line, held.at);
-    let after = text_lines::end_line(
-        classes, core, held.line, l, names, sorts, terms, inputs, steps,
-    );
+    let after = text_lines::end_line(core, held.line, l, names, sorts, terms, inputs, steps);
     Progress {
         pos: next,
         core: after,
     }
 }
 
-// The place after a newline at `at`, or the end of the piece.
-fn place_after(at: usize, end: usize) -> usize
-    ensures { result ≡ pick (ltb at end) (at + 1) end }
+// What stands behind the newline at n, nothing where there is none.
+fn behind(rest: &[u8], n: usize) -> &[u8]
+    ensures { result.now ≡ drop (n + 1) rest.now }
 {
-    if at < end {
-        return at + 1;
-    }
-    end
+    if n < rest.len() { &rest[n + 1..] } else { &[] }
 }
 
 // The bytes of a piece of the text, in order. Piece after piece is the whole.
@@ -156,24 +134,12 @@ pub fn feed(
         piece.now }
     ensures bounded { Bounded result.core.counts }
 {
-    let classes = text_fields::classes();
     let mut f = start;
-    let mut i = 0;
-    while i < piece.len() {
-        let n = text_fields::scan(&piece[i..], 10);
-        f = feed_part(
-            &classes,
-            f,
-            &piece[i..],
-            n,
-            line,
-            names,
-            sorts,
-            terms,
-            inputs,
-            steps,
-        );
-        i = place_after(i + n, piece.len());
+    let mut rest = piece;
+    while !rest.is_empty() {
+        let n = text_fields::scan(rest, 10);
+        f = feed_part(f, rest, n, line, names, sorts, terms, inputs, steps);
+        rest = behind(rest, n);
     }
     f
 }

@@ -1,21 +1,15 @@
--- The bytes of a piece, up to newline after newline: those from i on say the same as all of them.
-use Prim.Native.Nat.{◌≤◌, ◌-◌}
+-- The bytes of a piece, up to newline after newline: those that are left say the same as all of them.
 use mathlib.Core.Path.{◌≡◌}
-use lib.ListN.{length, drop}
+use lib.ListN.{length}
 use Rattle.text_rows.specs.View.{Bounded}
 use Rattle.text_stream.specs.Stream.{stream_of, feed_all}
 use Rattle.text_stream.proofs.feed.Given as goal
 
-abbrev pub invariant-loop-i : goal.invariant-loop-i
-invariant-loop-i l = (l.i ≤ length l.piece)
-    × (length l.sorts ≡ length l.initial.sorts)
-    × (length l.terms ≡ length l.initial.terms)
-    × (length l.inputs ≡ length l.initial.inputs)
-    × (length l.steps ≡ length l.initial.steps)
-    × Bounded l.f.core.counts
-    × (feed_all (stream_of l.f l.line l.names l.sorts l.terms l.inputs l.steps) (drop l.i l.piece)
+abbrev pub invariant-loop-rest : goal.invariant-loop-rest
+invariant-loop-rest l = Bounded l.f.core.counts
+    × (feed_all (stream_of l.f l.line l.names l.sorts l.terms l.inputs l.steps) l.rest
     ≡ feed_all (stream_of l.initial.f l.initial.line l.initial.names l.initial.sorts l.initial.terms l.initial.inputs l.initial.steps)
-    l.piece)
+    l.initial.rest)
 
-abbrev pub decreases-loop-i : goal.decreases-loop-i
-decreases-loop-i l = length l.piece - l.i
+abbrev pub decreases-loop-rest : goal.decreases-loop-rest
+decreases-loop-rest l = length l.rest
