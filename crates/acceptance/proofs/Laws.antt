@@ -37,9 +37,9 @@ module _ (tr : Trail) (t v : ℕ) where
   pub value_itself : (u : ℕ) → t ≡ u → v ≡ value_at with_it u
   value_itself u e = sym (added_value tr t v u ∙ rw (eq-eqb t u e) refl)
 
-  pub value_other : (u : ℕ) {r : ℕ} → (t ≡ u → ⊥) → (on tr u ≡ true → r ≡ value_at tr u) → on with_it u ≡ true → r ≡ value_at with_it u
-  value_other u d h o =
-      let other = ne_eqb t u d in
+  pub value_other : (u : ℕ) {r : ℕ} {b : Bool} → b ≡ eqb t u → b ≡ false → (on tr u ≡ true → r ≡ value_at tr u) → on with_it u ≡ true → r ≡ value_at with_it u
+  value_other u b_is d h o =
+      let other = sym b_is ∙ d in
       h (rw other at (sym (added_on tr t v u) ∙ o)) ∙ sym (added_value tr t v u ∙ rw other refl)
 
   pub misfits_told : (a b e : ℕ) {x y g : ℕ} {p q : Bool} → p ≡ (eqb t a || on tr a) → q ≡ (eqb t b || on tr b)

@@ -22,15 +22,15 @@ fn valued(work: &[u64], w: usize, n: usize, count: usize, t: Row, u: Row) -> boo
 }
 
 // The value of u, where it has one.
+#[tactic(auto, using(crate::proofs::Laws::value_itself))]
 fn value_of(work: &[u64], w: usize, n: usize, count: usize, t: Row, v: u16, u: Row) -> u16
     requires { Laid w n work.now count }
     ensures { on (added w n work.now count t.0 v) u.0 ≡ true → result ≡ value_at (added w n work.now count t.0 v) u.0 }
 {
     if t == u {
-        v
-    } else {
-        state::value_at(work, w, n, count, u)
+        return v;
     }
+    state::value_at(work, w, n, count, u)
 }
 
 // Whether a and b have values by which a = b should have another value than e.
