@@ -2,8 +2,12 @@
 use mathlib.Core.Path.{◌≡◌, refl, sym, ap, subst, ◌∙◌}
 use mathlib.Core.Bool.{Bool, false, not}
 use mathlib.Core.List.{List, ◌∷◌}
-use Prim.Native.Nat.{ℕ, ◌+◌, ◌<◌}
+use Prim.Native.Nat.{ℕ, zero, suc, ◌+◌, ◌*◌, ◌/◌, ◌<◌}
+use lib.ListN.{length, get_or, take, drop}
+use Rattle.std.specs.Simd.{first_chunks}
 use native.Mathlib.Omega.{arith}
+use Rattle.std.proofs.lemmas.List.{drop-drop, get_or-take}
+use Rattle.std.proofs.lemmas.Grind.{common_steps}
 use native.Mathlib.Numerals.{add-one}
 use Rattle.std.specs.Prelude.{Ok, Err}
 use Rattle.calculus.specs.declared.Refusal.{Refusal}
@@ -85,3 +89,16 @@ module _ (w n : ℕ) (ts is : List ℕ) where
   pub loading_all : (ws : List ℕ) (k : ℕ) → k ≡ input_rows is → Loading ws k → Loaded w n ts is ws (Ok tt)
   unfolding Loaded inputs_refusal
   loading_all ws k e l = subst (λ j. (first_refusal j (input_refusal ts is) ≡ 0) × Stands w n ws j 0 (input_trail is j)) e (l.fine, l.stands)
+
+-- ---- the sheet as rows of two
+
+chunk_at : (c : ℕ) (xs : List ℕ) (k : ℕ) (d : List ℕ) → k < c → get_or (first_chunks 2 c xs) k d ≡ take 2 (drop (k * 2) xs)
+chunk_at zero xs k d h = absurd (omega arith)
+chunk_at (suc c) xs zero d h = refl
+chunk_at (suc c) xs (suc k) d h = chunk_at c (drop 2 xs) k d (omega arith) ∙ ap (take 2) (drop-drop (k * 2) 2 xs) ∙ ap (λ n. take 2 (drop n xs)) (omega arith)
+
+pub row_term : (xs : List ℕ) (k : ℕ) (d : List ℕ) → k < input_rows xs → get_or (get_or (first_chunks 2 (length xs / 2) xs) k d) 0 0 ≡ input_term xs k
+row_term xs k d h = rw (chunk_at (length xs / 2) xs k d h) (grind (arith, common_steps, get_or-take))
+
+pub row_value : (xs : List ℕ) (k : ℕ) (d : List ℕ) → k < input_rows xs → get_or (get_or (first_chunks 2 (length xs / 2) xs) k d) 1 0 ≡ input_value xs k
+row_value xs k d h = rw (chunk_at (length xs / 2) xs k d h) (grind (arith, common_steps, get_or-take))

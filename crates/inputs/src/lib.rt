@@ -42,8 +42,9 @@ pub fn load(
     ensures { Loaded w n terms.now inputs.now work.new result }
 {
     trail_changes::start(work, w, n);
-    for k in 0..inputs.len() / 2 {
-        load_row(terms, work, w, n, k, Row(inputs[k * 2]), inputs[k * 2 + 1])?;
+    let (rows, _) = inputs.as_chunks::<2>();
+    for (k, row) in rows.iter().enumerate() {
+        load_row(terms, work, w, n, k, Row(row[0]), row[1])?;
     }
     Ok(())
 }
