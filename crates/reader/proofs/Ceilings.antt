@@ -8,9 +8,8 @@ use borrow.Author.Tests.{ltb-true}
 use lib.Dec.{eqb, leb, ltb}
 use lib.ListN.{length, length-append, get_or}
 use Rattle.text_fields.specs.Split.{pick, same, pieces}
-use Rattle.text_fields.specs.Shape.{shape_of}
-use Rattle.text_fields.specs.declared.Shape.{Shape}
-use Rattle.text_fields.specs.declared.Shape.TheVariants.{Good, Faulty}
+use Rattle.std.specs.Prelude.{Ok, Err}
+use Rattle.text_fields.specs.Shape.{Shape, shape_of}
 use Rattle.text_faults.specs.Why.{header_why}
 use Rattle.text_faults.specs.declared.Why.TheVariants.{Long}
 use Rattle.text_rows.specs.Rows.{Kept, Taken, shaped, below, refused, fresh, is_taken}
@@ -27,8 +26,8 @@ use Rattle.reader.proofs.Sizes.{step_control}
 
 module _ (k : Kept) (h : Within k) where
   within_shaped : (s : Shape) (t : Taken) → Within t.kept → Within (shaped k s t).kept
-  within_shaped Good t w = w
-  within_shaped (Faulty p) t w = h
+  within_shaped (Ok u) t w = w
+  within_shaped (Err p) t w = h
 
   within_below : (n ceiling : ℕ) (t : Taken) → (n < ceiling → Within t.kept) → Within (below k n ceiling t).kept
   within_below n ceiling t w = go (ltb n ceiling) refl where

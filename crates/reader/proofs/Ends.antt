@@ -1,57 +1,28 @@
 -- Laws of the end of a text.
 use Prim.Native.Nat.{ℕ}
-use mathlib.Core.Path.{◌≡◌, ap, sym, ◌∙◌}
-use mathlib.Core.Bool.{Bool, true, false, not}
+use mathlib.Core.Path.{◌≡◌, ap, ◌∙◌}
+use mathlib.Core.Bool.{Bool}
 use mathlib.Core.List.{List}
-use borrow.Author.Tests.{eq-eqb, ne_eqb, not-true, not-false}
 use lib.Dec.{eqb}
 use lib.ListN.{length, replicate}
 use Rattle.text_names.proofs.Table.{length_names}
 use Rattle.text_rows.specs.View.{kept_of}
 use Rattle.text_rows.specs.declared.Counts.{Counts}
-use Rattle.text_lines.specs.declared.Core.{Core}
 use Rattle.text_stream.specs.declared.Progress.{Progress}
-use Rattle.reader.specs.declared.Fault.{Fault}
 use Rattle.reader.specs.declared.ReadOutcome.{ReadOutcome}
-use Rattle.reader.specs.Text.{is_steps, end_fault, no_fault, fault_of, counted, outcome_of}
+use Rattle.reader.specs.Text.{Fault, fault_of, counted, outcome_of}
 use Rattle.text_faults.specs.Why.{why_number}
 use Rattle.text_lines.specs.View.{control_of}
 use Rattle.text_stream.specs.Stream.{stream_of}
 use Rattle.reader.specs.Stream.{stream_fault, stream_number, hold_rows, number_of, left_sheet, Finished}
 
--- the fault, test after test
-module _ (core : Core) (t : List ℕ) (whole : Bool) (n : ℕ) where
-  pub fault_line : (core.number ≡ 0 → ⊥)
-      → record { number = core.number; line = core.line; place = core.place; why = core.why } ≡ fault_of (control_of core t) whole n
-  fault_line h = rw (ne_eqb core.number 0 h)
-
-  module _ (good : core.number ≡ 0) {steps : Bool} (steps_is : steps ≡ is_steps core.sheet) where
-    pub fault_sheet : {r : Fault} → steps ≡ false → r ≡ end_fault whole n → r ≡ fault_of (control_of core t) whole n
-    fault_sheet h is = is ∙ rw (eq-eqb core.number 0 good, sym steps_is ∙ h)
-
-    module _ (in_steps : steps ≡ true) where
-      pub fault_header : {r : Fault} → not core.headed ≡ true → r ≡ end_fault whole n → r ≡ fault_of (control_of core t) whole n
-      fault_header h is = is ∙ rw (eq-eqb core.number 0 good, sym steps_is ∙ in_steps, not-true core.headed h)
-
-      module _ (has_header : not core.headed ≡ false) where
-        pub fault_rest : {r : Fault} → whole ≡ false → r ≡ end_fault whole n → r ≡ fault_of (control_of core t) whole n
-        fault_rest h is =
-            let e = h in
-            is ∙ rw (eq-eqb core.number 0 good, sym steps_is ∙ in_steps, not-false core.headed has_header, e)
-
-        pub fault_none : whole ≡ true → no_fault ≡ fault_of (control_of core t) whole n
-        fault_none h =
-            let e = h in
-            rw (eq-eqb core.number 0 good, sym steps_is ∙ in_steps, not-false core.headed has_header, e)
-
 -- what is returned
-pub outcome_counts : (number : ℕ) (f : Fault) (n : Counts) (t : List ℕ) (a b c d w : ℕ)
+pub outcome_counts : (number : ℕ) (f : Fault) (n : Counts) (t : List ℕ) (a b c d w l p : ℕ)
     → a ≡ counted number n.sorts → b ≡ counted number n.terms → c ≡ counted number n.inputs → d ≡ counted number n.steps
-    → w ≡ why_number f.why
-    → ◌≡◌ {A = ReadOutcome}
-    (record { number = number; sorts = a; terms = b; inputs = c; steps = d; why = w; line = f.line; place = f.place })
+    → l ≡ f.line → p ≡ f.place → w ≡ why_number f.why
+    → ◌≡◌ {A = ReadOutcome} (record { number = number; sorts = a; terms = b; inputs = c; steps = d; why = w; line = l; place = p })
     (outcome_of number f (kept_of n t))
-outcome_counts number f n t a b c d w p q r s v = rw (p, q, r, s, v, length_names t 0 n.sorts, length_names t 32 n.terms)
+outcome_counts number f n t a b c d w l p q r s u v x y = rw (q, r, s, u, v, x, y, length_names t 0 n.sorts, length_names t 32 n.terms)
 
 -- the end
 module _ (f : Progress) (line t a b c d : List ℕ)

@@ -9,9 +9,8 @@ use borrow.Author.Tests.{eq-eqb, eqb-true, eqb-false}
 use lib.Dec.{eqb, leb, ltb}
 use lib.ListN.{length, length-append, get_or}
 use Rattle.text_fields.specs.Split.{pick, same, pieces}
-use Rattle.text_fields.specs.Shape.{shape_of}
-use Rattle.text_fields.specs.declared.Shape.{Shape}
-use Rattle.text_fields.specs.declared.Shape.TheVariants.{Good, Faulty}
+use Rattle.std.specs.Prelude.{Ok, Err}
+use Rattle.text_fields.specs.Shape.{Shape, shape_of}
 use Rattle.text_faults.specs.Why.{header_why}
 use Rattle.text_faults.specs.declared.Why.TheVariants.{Long}
 use Rattle.text_rows.specs.Rows.{Kept, Taken, shaped, below, refused, fresh, is_taken}
@@ -35,8 +34,8 @@ OneMore sheet k t = t.number ≡ 0 → rows_of t.kept ≡ grown sheet (rows_of k
 
 one_shaped : (sheet : Sheet) (k : Kept) (s : Shape) (t : Taken) → OneMore sheet k t → OneMore sheet k (shaped k s t)
 unfolding OneMore
-one_shaped sheet k Good t h = h
-one_shaped sheet k (Faulty p) t h = λ z. absurd (omega (arith, z))
+one_shaped sheet k (Ok u) t h = h
+one_shaped sheet k (Err p) t h = λ z. absurd (omega (arith, z))
 
 one_below : (sheet : Sheet) (k : Kept) (n ceiling : ℕ) (t : Taken) → OneMore sheet k t → OneMore sheet k (below k n ceiling t)
 unfolding OneMore

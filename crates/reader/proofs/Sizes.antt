@@ -7,9 +7,8 @@ use native.Mathlib.Omega.{arith}
 use lib.Dec.{eqb, leb, ltb}
 use lib.ListN.{length, length-append, get_or}
 use Rattle.text_fields.specs.Split.{pick, same, pieces}
-use Rattle.text_fields.specs.Shape.{shape_of}
-use Rattle.text_fields.specs.declared.Shape.{Shape}
-use Rattle.text_fields.specs.declared.Shape.TheVariants.{Good, Faulty}
+use Rattle.std.specs.Prelude.{Ok, Err}
+use Rattle.text_fields.specs.Shape.{Shape, shape_of}
 use Rattle.text_rows.specs.Rows.{Kept, Taken, refused, shaped, below, fresh, is_taken, sort_added, sort_row, term_added, term_row, input_added, input_row, step_added, step_row}
 use Rattle.text_faults.specs.Why.{header_why}
 use Rattle.text_faults.specs.declared.Why.TheVariants.{Long}
@@ -53,8 +52,8 @@ unfolding Adds
 adds_refused sheet k number place = grown_none sheet (sizes_of k)
 
 adds_shaped : (sheet : Sheet) (k : Kept) (s : Shape) (t : Taken) → Adds sheet k t → Adds sheet k (shaped k s t)
-adds_shaped sheet k Good t h = h
-adds_shaped sheet k (Faulty p) t h = adds_refused sheet k 31 p
+adds_shaped sheet k (Ok u) t h = h
+adds_shaped sheet k (Err p) t h = adds_refused sheet k 31 p
 
 adds_below : (sheet : Sheet) (k : Kept) (n ceiling : ℕ) (t : Taken) → Adds sheet k t → Adds sheet k (below k n ceiling t)
 adds_below sheet k n ceiling t h = go (ltb n ceiling) where

@@ -1,11 +1,11 @@
 -- Worked examples: texts, the sheets lent for them, and what reading them gives. One table, and one theorem by computation.
-use Rattle.std.specs.Prelude.{ℕ, ◌≡◌, refl, List, [], ◌∷◌, ◌++◌, map, replicate}
+use Rattle.std.specs.Prelude.{ℕ, ◌≡◌, refl, List, [], ◌∷◌, ◌++◌, Option, Some, None, map, replicate}
 use Rattle.text_fields.specs.Split.{bytes}
 use Rattle.text_fields.specs.Words.{ref_of}
 use Rattle.text_fields.specs.Shape.{shape_of}
 use Rattle.text_faults.specs.Why.{byte_order_mark, header_why, row_why, why_number}
 use Rattle.text_faults.specs.declared.Why.{Why}
-use Rattle.text_faults.specs.declared.Why.TheVariants.{Fine, Mark, Return, Long, Header, Empty, Byte, Fields, Name, Value, Early, Cut}
+use Rattle.text_faults.specs.declared.Why.TheVariants.{Mark, Return, Long, Header, Empty, Byte, Fields, Name, Value, Early, Cut}
 use Rattle.text_rows.specs.Rows.{is_taken, head_of, sort_row, term_row, input_row, step_row}
 use Rattle.text_lines.specs.Lines.{read_line, line_effect}
 use Rattle.reader.specs.Text.{Lent, line_step, text_state, text_fault, text_number, text_outcome, text_sheet}
@@ -39,7 +39,7 @@ lend : ℕ → ℕ → ℕ → ℕ → Lent
 lend a b c d = record { sorts = a; terms = b; inputs = c; steps = d }
 
 -- a text that leaves no rows in sheets of 4, 12, 4 and 9 numbers: the number, the line, the place and the cause
-no_rows : List ℕ → ℕ → ℕ → ℕ → Why → Example
+no_rows : List ℕ → ℕ → ℕ → ℕ → Option Why → Example
 no_rows text number line place why =
     record {
       text = text;
@@ -85,49 +85,49 @@ table =
           };
     }
     -- the shortest file: four headers, no rows (a good one, so its sheets are zeros too)
-    ∷ no_rows (bytes "sort index value\n\nterm head sort a b c d\n\nterm value\n\nstep rule term value p q r s t\n") 0 0 0 Fine
+    ∷ no_rows (bytes "sort index value\n\nterm head sort a b c d\n\nterm value\n\nstep rule term value p q r s t\n") 0 0 0 None
     -- nothing at all: the file ends early, in line 1
-    ∷ no_rows (bytes "") 31 1 0 Early
+    ∷ no_rows (bytes "") 31 1 0 (Some Early)
     -- the file ends inside its first line
-    ∷ no_rows (bytes "sort index") 31 1 0 Cut
+    ∷ no_rows (bytes "sort index") 31 1 0 (Some Cut)
     -- it ends before the step header, in line 6
-    ∷ no_rows (bytes "sort index value\n\nterm head sort a b c d\n\nterm value\n") 31 6 0 Early
+    ∷ no_rows (bytes "sort index value\n\nterm head sort a b c d\n\nterm value\n") 31 6 0 (Some Early)
     -- a wrong header
-    ∷ no_rows (bytes "sort index value\n\nterm head sort a b c\n\nterm value\n\nstep rule term value p q r s t\n") 31 3 0 Header
+    ∷ no_rows (bytes "sort index value\n\nterm head sort a b c\n\nterm value\n\nstep rule term value p q r s t\n") 31 3 0 (Some Header)
     -- two empty lines
-    ∷ no_rows (bytes "sort index value\n\n\nterm head sort a b c d\n\nterm value\n\nstep rule term value p q r s t\n") 31 3 0 Header
+    ∷ no_rows (bytes "sort index value\n\n\nterm head sort a b c d\n\nterm value\n\nstep rule term value p q r s t\n") 31 3 0 (Some Header)
     -- an empty line after the step sheet
-    ∷ no_rows (bytes "sort index value\n\nterm head sort a b c d\n\nterm value\n\nstep rule term value p q r s t\n\n") 31 8 0 Empty
+    ∷ no_rows (bytes "sort index value\n\nterm head sort a b c d\n\nterm value\n\nstep rule term value p q r s t\n\n") 31 8 0 (Some Empty)
     -- two spaces
-    ∷ no_rows (bytes "sort index value\nS  - -\n") 31 2 0 Fields
+    ∷ no_rows (bytes "sort index value\nS  - -\n") 31 2 0 (Some Fields)
     -- a field too few
-    ∷ no_rows (bytes "sort index value\nS -\n") 31 2 0 Fields
+    ∷ no_rows (bytes "sort index value\nS -\n") 31 2 0 (Some Fields)
     -- a byte order mark; a carriage return, in a header and in a row; a tab; a line that is too long
-    ∷ no_rows (byte_order_mark ++ bytes "sort index value\n") 31 1 0 Mark
-    ∷ no_rows (bytes "sort index value" ++ (13 ∷ 10 ∷ [])) 31 1 0 Return
-    ∷ no_rows (bytes "sort index value\nS - -" ++ (13 ∷ 10 ∷ [])) 31 2 0 Return
-    ∷ no_rows (bytes "sort index value\nS - " ++ (9 ∷ []) ++ bytes "-\n") 31 2 0 Byte
-    ∷ no_rows (bytes "sort index value\n" ++ replicate 526 120 ++ bytes "\n") 31 2 0 Long
+    ∷ no_rows (byte_order_mark ++ bytes "sort index value\n") 31 1 0 (Some Mark)
+    ∷ no_rows (bytes "sort index value" ++ (13 ∷ 10 ∷ [])) 31 1 0 (Some Return)
+    ∷ no_rows (bytes "sort index value\nS - -" ++ (13 ∷ 10 ∷ [])) 31 2 0 (Some Return)
+    ∷ no_rows (bytes "sort index value\nS - " ++ (9 ∷ []) ++ bytes "-\n") 31 2 0 (Some Byte)
+    ∷ no_rows (bytes "sort index value\n" ++ replicate 526 120 ++ bytes "\n") 31 2 0 (Some Long)
     -- a leading zero, in field 2 of line 7
-    ∷ no_rows (bytes "sort index value\n\nterm head sort a b c d\na A - - - - -\n\nterm value\na 07\n") 31 7 2 Value
+    ∷ no_rows (bytes "sort index value\n\nterm head sort a b c d\na A - - - - -\n\nterm value\na 07\n") 31 7 2 (Some Value)
     -- 65,535 is no value
-    ∷ no_rows (bytes "sort index value\n\nterm head sort a b c d\na A - - - - -\n\nterm value\na 65535\n") 31 7 2 Value
+    ∷ no_rows (bytes "sort index value\n\nterm head sort a b c d\na A - - - - -\n\nterm value\na 65535\n") 31 7 2 (Some Value)
     -- a name of 65 bytes
-    ∷ no_rows (bytes "sort index value\nS - xxxxxxxxxxxxxxxxxxxxxxxxxxxxxxxxxxxxxxxxxxxxxxxxxxxxxxxxxxxxxxxxx\n") 31 2 3 Name
+    ∷ no_rows (bytes "sort index value\nS - xxxxxxxxxxxxxxxxxxxxxxxxxxxxxxxxxxxxxxxxxxxxxxxxxxxxxxxxxxxxxxxxx\n") 31 2 3 (Some Name)
     -- a repeated name
-    ∷ no_rows (bytes "sort index value\nS - -\nS - -\n") 2 3 1 Fine
+    ∷ no_rows (bytes "sort index value\nS - -\nS - -\n") 2 3 1 None
     -- a reserved name
-    ∷ no_rows (bytes "sort index value\n\nterm head sort a b c d\nprop A - - - - -\n") 2 4 1 Fine
+    ∷ no_rows (bytes "sort index value\n\nterm head sort a b c d\nprop A - - - - -\n") 2 4 1 None
     -- the first bad line decides: 2 in line 3, and not 31 in line 4
-    ∷ no_rows (bytes "sort index value\nS - -\n- - -\nT -\n") 2 3 1 Fine
+    ∷ no_rows (bytes "sort index value\nS - -\n- - -\nT -\n") 2 3 1 None
     -- no line is bad, and the input sheet is short by one row
-    ∷ no_rows (bytes "sort index value\n\nterm head sort a b c d\na A - - - - -\n\nterm value\na 1\na 2\na 3\n\nstep rule term value p q r s t\n") 32 0 0 Fine
+    ∷ no_rows (bytes "sort index value\n\nterm head sort a b c d\na A - - - - -\n\nterm value\na 1\na 2\na 3\n\nstep rule term value p q r s t\n") 32 0 0 None
     -- the 33rd sort
-    ∷ no_rows (sorts32 ++ bytes "s32 - -\n") 30 34 0 Fine
+    ∷ no_rows (sorts32 ++ bytes "s32 - -\n") 30 34 0 None
     -- within one line 31 comes before 30
-    ∷ no_rows (sorts32 ++ bytes "s0 -\n") 31 34 0 Fields
+    ∷ no_rows (sorts32 ++ bytes "s0 -\n") 31 34 0 (Some Fields)
     -- within one line 30 comes before 2
-    ∷ no_rows (sorts32 ++ bytes "s0 - -\n") 30 34 0 Fine
+    ∷ no_rows (sorts32 ++ bytes "s0 - -\n") 30 34 0 None
     -- names are told apart by all their bytes; a forward name and an unknown word are 65,534; a head may be called prop; values up to 65,534
     ∷ record {
       text =

@@ -1,13 +1,11 @@
 -- The beginning and the end of a text that comes in pieces, and that the pieces make the whole.
-use Rattle.std.specs.Prelude.{ℕ, ◌*◌, Bool, false, ◌≡◌, List, [], ◌∷◌, ◌++◌, eqb, leb, length, replicate}
+use Rattle.std.specs.Prelude.{ℕ, ◌*◌, Bool, false, ◌≡◌, List, [], ◌∷◌, ◌++◌, None, eqb, leb, length, replicate}
 use Rattle.text_fields.specs.Split.{pick}
-use Rattle.text_faults.specs.declared.Why.TheVariants.{Fine}
 use Rattle.text_lines.specs.View.{Sheets}
 use Rattle.text_lines.specs.declared.Sheet.TheVariants.{Sorts}
 use Rattle.text_stream.specs.Stream.{Stream, feed_all, fresh_stream}
 use Rattle.text_stream.specs.declared.Progress.{Progress}
-use Rattle.reader.specs.Text.{Lent, fault_of, outcome_of, TextRead}
-use Rattle.reader.specs.declared.Fault.{Fault}
+use Rattle.reader.specs.Text.{Lent, Fault, fault_of, outcome_of, TextRead}
 use Rattle.reader.specs.declared.ReadOutcome.{ReadOutcome}
 
 -- what the reader carries before the first byte
@@ -17,12 +15,10 @@ start_progress =
       pos = record { line = 1; at = 0 };
       core =
           record {
-            number = 0;
-            place = 0;
-            line = 0;
-            why = Fine;
+            fault = None;
             sheet = Sorts;
             headed = false;
+            line = 0;
             counts = record { sorts = 0; terms = 0; heads = 0; inputs = 0; steps = 0 };
           };
     }

@@ -1,15 +1,17 @@
 -- The text form of the four sheets: lines one after the other, the end of the file, and what a text that is read leaves.
-use Rattle.std.specs.Prelude.{ℕ, Bool, true, false, ◌≡◌, List, [], ◌∷◌, ◌++◌, eqb, leb, length, replicate}
+use Rattle.std.specs.Prelude.{ℕ, Bool, true, false, ◌≡◌, List, [], ◌∷◌, ◌++◌, Option, Some, None, eqb, leb, length, replicate}
 use Rattle.text_fields.specs.Split.{pick, pieces, same}
 use Rattle.buffers.specs.Room.{pad_to}
 use Rattle.text_rows.specs.Rows.{Kept}
 use Rattle.text_position.specs.Place.{next_line}
 use Rattle.text_faults.specs.Why.{why_number}
-use Rattle.text_faults.specs.declared.Why.TheVariants.{Fine, Early, Cut}
+use Rattle.text_faults.specs.declared.Why.{Why}
+use Rattle.text_faults.specs.declared.Why.TheVariants.{Early, Cut}
 use Rattle.text_lines.specs.Lines.{Control, Effect, line_effect, started}
 use Rattle.text_lines.specs.declared.Sheet.{Sheet}
 use Rattle.text_lines.specs.declared.Sheet.TheVariants.{Sorts, Terms, Inputs, Steps}
-use Rattle.reader.specs.declared.Fault.{Fault}
+use Rattle.text_lines.specs.View.{fault_number, fault_place, fault_why}
+use Rattle.reader.specs.declared.BadLine.{BadLine}
 use Rattle.reader.specs.declared.ReadOutcome.{ReadOutcome}
 
 -- what has been read: where the reading stands, and the numbers of the four sheets' rows
@@ -63,12 +65,24 @@ is_steps Terms = false
 is_steps Inputs = false
 is_steps Steps = true
 
+-- a fault: its number, its line, its place, and why the line is malformed; 0 and none where there is no fault
+pub record Fault : Type 0 where
+  pub number : ℕ
+  pub line : ℕ
+  pub place : ℕ
+  pub why : Option Why
+
 -- an early end in line n: inside a line, or (where `whole` is true) after one
 abbrev pub end_fault : Bool → ℕ → Fault
-end_fault whole n = record { number = 31; line = n; place = 0; why = pick whole Early Cut }
+end_fault whole n = record { number = 31; line = n; place = 0; why = Some (pick whole Early Cut) }
 
 abbrev pub no_fault : Fault
-no_fault = record { number = 0; line = 0; place = 0; why = Fine }
+no_fault = record { number = 0; line = 0; place = 0; why = None }
+
+-- the fault that the code's line at fault stands for
+abbrev pub fault_in : Option BadLine → Fault
+fault_in None = no_fault
+fault_in (Some b) = record { number = fault_number b.fault; line = b.line; place = fault_place b.fault; why = fault_why b.fault }
 
 -- the first bad line's; a file that ends before the step sheet's header, or inside a line, is 31 at the line where it ends
 abbrev pub fault_of : Control → Bool → ℕ → Fault

@@ -3,25 +3,24 @@
 
 ghost use Rattle.std.specs.Prelude.{◌≡◌, List, ℕ, ◌≤◌};
 ghost use Rattle.text_fields.specs.Split.{pick};
+ghost use Rattle.text_faults.specs.Why.{why_number};
 ghost use Rattle.text_rows.specs.View.{kept_of, Bounded};
 ghost use Rattle.text_lines.specs.View.{control_of};
 ghost use Rattle.text_stream.specs.Stream.{stream_of};
-ghost use Rattle.reader.specs.Text.{is_steps, end_fault, fault_of, counted, lent_of, outcome_of, TextRead};
+ghost use Rattle.reader.specs.Text.{is_steps, fault_in, end_fault, fault_of, counted, lent_of, outcome_of, TextRead};
 ghost use Rattle.reader.specs.Stream.{hold_rows, number_of, left_sheet, Begun, Finished};
 
 use text_faults::Why;
-use text_lines::{Core, Sheet};
+use text_lines::{Core, Fault, Sheet};
 use text_position::Position;
 use text_rows::Counts;
 use text_stream::Progress;
 
-// A fault: its number, its line, its place, and why the line is malformed; all 0 where there is none.
+// A line at fault, or the line where a text ends too early.
 #[derive(Clone, Copy)]
-struct Fault {
-    number: u16,
+struct BadLine {
     line: u64,
-    place: u64,
-    why: Why,
+    fault: Fault,
 }
 
 // What the reading of a text returns: its number, the rows of the four sheets, the number of the cause where a line is malformed, and line
@@ -57,12 +56,10 @@ pub fn begin(
     Progress {
         pos: Position { line: 1, at: 0 },
         core: Core {
-            number: 0,
-            place: 0,
-            line: 0,
-            why: Why::Fine,
+            fault: None,
             sheet: Sheet::Sorts,
             headed: false,
+            line: 0,
             counts: Counts {
                 sorts: 0,
                 terms: 0,
@@ -78,66 +75,34 @@ pub fn begin(
 fn is_last(sheet: Sheet) -> bool
     ensures { result ≡ is_steps sheet }
 {
-    match sheet {
-        Sheet::Sorts => false,
-        Sheet::Terms => false,
-        Sheet::Inputs => false,
-        Sheet::Steps => true,
-    }
+    matches!(sheet, Sheet::Steps)
 }
 
-// Why a text ends too early: inside a line, or after one.
-fn end_why(whole: bool) -> Why
-    ensures { result ≡ pick whole Why.Early Why.Cut }
+// A text that ends too early, in line n: inside it, or after a whole line.
+fn early_end(whole: bool, n: usize) -> BadLine
+    ensures { fault_in (Some result) ≡ end_fault whole n }
 {
-    if whole {
-        return Why::Early;
-    }
-    Why::Cut
-}
-
-// A text that ends too early, in line n.
-fn early_end(whole: bool, n: usize) -> Fault
-    ensures { result ≡ end_fault whole n }
-{
-    Fault {
-        number: 31,
+    let why = if whole { Why::Early } else { Why::Cut };
+    BadLine {
         line: n as u64,
-        place: 0,
-        why: end_why(whole),
+        fault: Fault::Malformed(0, why),
     }
 }
 
 // The fault of a text that ends in line n, inside it or after a whole line.
-fn fault_of(core: Core, whole: bool, n: usize) -> Fault
-    ensures { (t : List ℕ) → result ≡ fault_of (control_of core t) whole n }
+fn fault_of(core: Core, whole: bool, n: usize) -> Option<BadLine>
+    ensures { (t : List ℕ) → fault_in result ≡ fault_of (control_of core t) whole n }
 {
-    let number = core.number;
-    if number != 0 {
-        let why = core.why;
-        return Fault {
-            number,
+    if let Some(fault) = core.fault {
+        return Some(BadLine {
             line: core.line as u64,
-            place: core.place as u64,
-            why,
-        };
+            fault,
+        });
     }
-    let sheet = core.sheet;
-    if !is_last(sheet) {
-        return early_end(whole, n);
+    if is_last(core.sheet) && core.headed && whole {
+        return None;
     }
-    if !core.headed {
-        return early_end(whole, n);
-    }
-    if !whole {
-        return early_end(whole, n);
-    }
-    Fault {
-        number: 0,
-        line: 0,
-        place: 0,
-        why: Why::Fine,
-    }
+    Some(early_end(whole, n))
 }
 
 // Whether sheets of these lengths hold the rows.
@@ -145,29 +110,21 @@ fn holds_rows(counts: Counts, a: usize, b: usize, c: usize, d: usize) -> bool
     requires { Bounded counts }
     ensures { result ≡ hold_rows counts.sorts counts.terms counts.inputs counts.steps a b c d }
 {
-    if counts.sorts * 2 > a {
-        return false;
-    }
-    if counts.terms * 6 > b {
-        return false;
-    }
-    if counts.inputs * 2 > c {
-        return false;
-    }
-    counts.steps * 9 <= d
+    counts.sorts * 2 <= a
+        && counts.terms * 6 <= b
+        && counts.inputs * 2 <= c
+        && counts.steps * 9 <= d
 }
 
 // The number that the text gives.
-fn final_number(number: u16, room: bool) -> u16
-    ensures { result ≡ number_of number room }
+fn final_number(fault: Option<BadLine>, room: bool) -> u16
+    ensures { result ≡ number_of (fault_in fault).number room }
 {
-    if number != 0 {
-        return number;
+    match fault {
+        Some(bad) => u16::from(bad.fault),
+        None if room => 0,
+        None => 32,
     }
-    if room {
-        return 0;
-    }
-    32
 }
 
 // A count that is returned: 0 after a refusal.
@@ -181,21 +138,37 @@ fn count_rows(number: u16, n: usize) -> u16
     n as u16
 }
 
-// What is returned.
-fn outcome_of(number: u16, fault: Fault, counts: Counts) -> ReadOutcome
-    requires { Bounded counts }
-    ensures { (t : List ℕ) → result ≡ outcome_of number fault (kept_of counts t) }
+// The line of a fault, its place and the number of its cause: 0 each where there is none, as the C struct has them.
+fn told_of(fault: Option<BadLine>) -> (u64, u64, u16)
+    ensures line { result.0 ≡ (fault_in fault).line }
+    ensures place { result.1 ≡ (fault_in fault).place }
+    ensures why { result.2 ≡ why_number (fault_in fault).why }
 {
-    let why = fault.why;
+    match fault {
+        Some(BadLine { line, fault }) => (
+            line,
+            fault.place() as u64,
+            fault.why().map_or(0, u16::from),
+        ),
+        None => (0, 0, 0),
+    }
+}
+
+// What is returned.
+fn outcome_of(number: u16, fault: Option<BadLine>, counts: Counts) -> ReadOutcome
+    requires { Bounded counts }
+    ensures { (t : List ℕ) → result ≡ outcome_of number (fault_in fault) (kept_of counts t) }
+{
+    let (line, place, why) = told_of(fault);
     ReadOutcome {
         number,
         sorts: count_rows(number, counts.sorts),
         terms: count_rows(number, counts.terms),
         inputs: count_rows(number, counts.inputs),
         steps: count_rows(number, counts.steps),
-        why: text_faults::why_number(why),
-        line: fault.line,
-        place: fault.place,
+        why,
+        line,
+        place,
     }
 }
 
@@ -224,12 +197,11 @@ pub fn finish(
         line.old names.old sorts.old terms.old inputs.old steps.old)
         result line.new names.new sorts.new terms.new inputs.new steps.new }
 {
-    let pos = f.pos;
-    let core = f.core;
+    let Progress { pos, core } = f;
     let counts = core.counts;
     let fault = fault_of(core, pos.at == 0, pos.line);
     let room = holds_rows(counts, sorts.len(), terms.len(), inputs.len(), steps.len());
-    let number = final_number(fault.number, room);
+    let number = final_number(fault, room);
     buffers::clear_bytes(line);
     buffers::clear_bytes(names);
     leave_sheet(number, sorts);

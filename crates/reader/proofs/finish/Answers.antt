@@ -6,14 +6,11 @@ use lib.ListN.{length, replicate}
 use Rattle.reader.proofs.Ends.{finished}
 use Rattle.reader.proofs.finish.Goals as goal
 
-pub outcome_of-requires : goal.outcome_of-requires
-outcome_of-requires c = c.requires
-
 pub returns : goal.returns
 returns c =
     let a = c.args in
-    let l : length a.line.now ≡ 526 = omega (arith, c.clear_bytes-arg-1) in
-    let m : length a.names.now ≡ 55392 = omega (arith, c.clear_bytes-arg-2-1) in
+    let l : length a.line.now ≡ 526 = omega arith in
+    let m : length a.names.now ≡ 55392 = omega arith in
     finished a.f a.line.now a.names.now _ _ _ _ _ (c.fault_of-fault.ensures a.names.now) _ c.holds_rows-room.ensures _
     c.final_number-number.ensures _ _ _ _ _ _ _ (c.outcome_of.ensures a.names.now)
     (c.clear_bytes.ensures ∙ ap (λ (k : ℕ). replicate k 0) l) (c.clear_bytes-2.ensures ∙ ap (λ (k : ℕ). replicate k 0) m)
