@@ -5,58 +5,37 @@ use mathlib.Core.List.{List, [], ◌∷◌}
 use mathlib.Core.Logic.{inl, inr}
 use Prim.Native.Nat.{ℕ, ◌<◌}
 use native.Mathlib.Omega.{arith}
-use types.Run.{OneOf, miss}
-use denote.Enum.Declared.{tag_of}
 use lib.Dec.{T, eqb, leb, ltb, leb→le, ltb→lt}
 use Rattle.calculus.specs.declared.Step.{Step}
 use Rattle.calculus.specs.declared.Kind.{Kind}
-use Rattle.calculus.specs.declared.Kind.TheVariants.{Decide, Deduce, Clash, Resolve, Clear, Jump, Flip, Fail, Learn, Unlisted}
+use Rattle.calculus.specs.declared.Kind.TheVariants.{Decide, Resolve, Clear, Jump, Flip, Learn, Unlisted}
 use Rattle.calculus.specs.declared.Refusal.{Refusal}
+use Rattle.calculus.specs.declared.Refusal.TheVariants.{Columns}
 use Rattle.calculus.specs.Lists.{all}
-use Rattle.calculus.specs.Numbers.{unless}
+use Rattle.calculus.specs.Numbers.{unless, number, place, number_in, place_in}
 use Rattle.calculus.specs.Sheets.{blank, term_rows}
 use Rattle.calculus.specs.Trail.{Set, Trail}
 use Rattle.calculus.specs.Terms.{filled}
 use Rattle.calculus.specs.Steps as calculus
 use Rattle.calculus.specs.Steps.{is_filled, premises, inference_shaped, pair_shaped, learn_shaped, shaped}
 use Rattle.calculus.specs.Steps.{needs_conflict, ready, known, step_by, row_refusal, kind_of, step}
-use Rattle.calculus.specs.Place.{strange_place, place_of}
-use Rattle.calculus.specs.contracts.Kind.{the_type}
+use Rattle.calculus.specs.Place.{place_of}
 use Rattle.calculus.proofs.Unplaced.{Unplaced, decide_nowhere, resolve_nowhere, clear_nowhere, jump_nowhere, flip_nowhere, learn_nowhere}
 use Rattle.calculus.proofs.Facts.{facts, true_T, T_true, both_true, unless_ok}
 use Rattle.trail.specs.Words.{trail_in}
 use Rattle.moves.specs.Post.{conflict_in}
 use Rattle.state.specs.declared.Status.{Status}
-use Rattle.state.specs.declared.Answer.{Answer}
-use Rattle.state.specs.declared.Answer.TheVariants.{Allowed, Refuted, Refused}
-use Rattle.state.specs.States.{state_in, Standing, nowhere, unplaced, Answers}
-use Rattle.state.proofs.States.{in_conflict_lem, in_search, trail_there, conflict_there, refused_by, passed_by}
-use Rattle.state.proofs.Tests.{told_not, told_yes, past, stops}
+use Rattle.std.specs.Prelude.{Result, Ok, Err}
+use Rattle.std.specs.Result.{IsErrAnd}
+use Rattle.state.specs.declared.Next.TheVariants.{On, Refuted}
+use Rattle.state.specs.States.{state_in, Standing, nowhere, Answer, Answers}
+use Rattle.state.proofs.States.{in_conflict_lem, in_search, trail_there, conflict_there, refused_with, passed_by}
 use Rattle.search_steps.specs.Searches.{Searching, Inferring, Inference}
 use Rattle.conflicts.specs.Conflicts.{Conflicted}
 use Rattle.learning.specs.Learns.{ToLearn}
-use Rattle.steps.specs.Rows.{OfKind, RowRefused}
+use Rattle.steps.specs.Rows.{RowRefused}
 
 -- ---- the kinds that infer
-
--- they are told by their tags
-abbrev tags : List ℕ
-tags = 1 ∷ 2 ∷ 7 ∷ []
-
-pub infers_told : {k : Kind} → OneOf tags (tag_of the_type k) → Inference k
-infers_told {k} t = go k t
-  where
-    go : (j : Kind) → OneOf tags (tag_of the_type j) → Inference j
-    go Deduce t = inl refl
-    go Clash t = inr (inl refl)
-    go Fail t = inr (inr refl)
-    go Decide t = absurd (miss tags 0 tt t)
-    go Resolve t = absurd (miss tags 3 tt t)
-    go Clear t = absurd (miss tags 4 tt t)
-    go Jump t = absurd (miss tags 5 tt t)
-    go Flip t = absurd (miss tags 6 tt t)
-    go Learn t = absurd (miss tags 8 tt t)
-    go Unlisted t = absurd (miss tags 9 tt t)
 
 -- they have one shape of row
 infers_shape : (x : Step) {k : Kind} → Inference k → shaped x k ≡ inference_shaped x
@@ -105,32 +84,7 @@ module _ (w n : ℕ) (ts ws : List ℕ) (st : Status) (k : Kind) where
   unfolding ready
   ready_there = ap (λ b. cond (needs_conflict k) b (not b)) (conflict_there w n ws st)
 
--- ---- the number of each test of a row
-
-module _ (ts : List ℕ) (x : Step) {a b : Bool} where
-  pub row_9 : a ≡ false → RowRefused ts x a b (unplaced 9)
-  unfolding place_of
-  row_9 h = record { number = stops _ _ h; place = λ tr. refl }
-
-  module _ (a_in : a ≡ true) where
-    pub row_10 : b ≡ false → RowRefused ts x a b (unplaced 10)
-    unfolding place_of
-    row_10 h = record { number = past _ _ a_in (stops _ _ h); place = λ tr. refl }
-
-    module _ (b_in : b ≡ true) {c : Bool} (c_is : c ≡ known ts x) where
-      pub row_11 : {p : ℕ} → c ≡ false → p ≡ strange_place ts x → RowRefused ts x a b (record { number = 11; place = p })
-      unfolding place_of
-      row_11 h q = record { number = past _ _ a_in (past _ _ b_in (stops _ _ (told_not c_is h))); place = λ tr. q }
-
-      pub row_0 : c ≡ true → RowRefused ts x a b (unplaced 0)
-      unfolding place_of
-      row_0 h = record { number = past _ _ a_in (past _ _ b_in (past _ _ (told_yes c_is h) refl)); place = λ tr. refl }
-
 -- ---- a row of kind k
-
-pub of_kind : (w n : ℕ) (ts ws : List ℕ) (st : Status) (x : Step) (j : Kind) {k : Kind}
-    → Standing w n ts ws st → k ≡ kind_of x.step → k ≡ j → OfKind w n ts ws st x j
-of_kind w n ts ws st x j s e q = record { standing = s; kind = sym q ∙ e }
 
 module _ (w n : ℕ) (ts ws : List ℕ) (st : Status) (x : Step) (k : Kind) (s : Standing w n ts ws st) (e : k ≡ kind_of x.step) where
   abbrev here : Trail
@@ -146,22 +100,29 @@ module _ (w n : ℕ) (ts ws : List ℕ) (st : Status) (x : Step) (k : Kind) (s :
   the_step = step ts (state_in w n ws st) x
 
   -- its refusal is c
-  module _ {a b : Bool} {c : Refusal} (c_is : RowRefused ts x a b c) (a_is : a ≡ shaped x k)
+  module _ {a b : Bool} {c : Result (Unit {0}) Refusal} (c_is : RowRefused ts x a b c) (a_is : a ≡ shaped x k)
       (b_is : b ≡ cond (needs_conflict k) st.conflict (not st.conflict)) where
-    row_number : c.number ≡ row_refusal ts (state_in w n ws st) x
+    row_number : number_in c ≡ row_refusal ts (state_in w n ws st) x
     unfolding row_refusal
     row_number = c_is.number ∙ rw (sym e, a_is, b_is, ready_there w n ts ws st k)
 
-    pub row_refused : (c.number ≡ 0 → ⊥) → Answers w n ts ws ws at the_step (Refused c)
+    pub row_refused : {r : Refusal} (q : Answer) → c ≡ Err r → IsErrAnd q (λ p. p ≡ r) → Answers w n ts ws ws at the_step q
     unfolding Answers step
-    row_refused h = (refused_by _ row_number h, c_is.place _, refl)
+    row_refused (Ok y) z h = absurd h
+    row_refused (Err p) z h =
+        let n_is : number p ≡ number_in c = ap number h ∙ ap number_in (sym z) in
+        let p_is : place p ≡ place_in c = ap place h ∙ ap place_in (sym z) in
+        (refused_with p _ _ (n_is ∙ row_number), p_is ∙ c_is.place _ ∙ ap at (sym n_is), refl)
 
     -- or there is none
-    module _ (c_no : c.number ≡ 0) where
+    module _ (c_no : c ≡ Ok tt) where
+      none : 0 ≡ row_refusal ts (state_in w n ws st) x
+      none = ap number_in (sym c_no) ∙ row_number
+
       passed : (shaped x k ≡ true) × (ready (state_in w n ws st) k ≡ true) × (known ts x ≡ true)
       unfolding row_refusal
       passed =
-          let t = unless_ok _ 9 _ (omega arith) (sym row_number ∙ c_no) in
+          let t = unless_ok _ 9 _ (omega arith) (sym none) in
           let u = unless_ok _ 10 _ (omega arith) t.1 in
           let v = unless_ok _ 11 _ (omega arith) u.1 in
           (ap (shaped x) e ∙ T_true _ t.0, ap (ready (state_in w n ws st)) e ∙ T_true _ u.0, T_true _ v.0)
@@ -216,15 +177,15 @@ module _ (w n : ℕ) (ts ws : List ℕ) (st : Status) (x : Step) (k : Kind) (s :
         told a u h = go r h
           where
             go : (b : Answer) → Answers w n ts ws vs nowhere a b → Answers w n ts ws vs at a b
-            go (Allowed next) h = h
-            go Refuted h = h
-            go (Refused c) h = (h.0, h.1 ∙ sym (subst (Unplaced ts here x) h.0 u).none, h.2)
+            go (Ok (On next)) h = h
+            go (Ok Refuted) h = h
+            go (Err c) h = (h.0, h.1 ∙ sym (subst (Unplaced ts here x) h.0 u).none, h.2)
 
         -- the row's answer is that of its step
         by : {a : calculus.Answer} → step_by ts k (state_in w n ws st) x ≡ a → Answered a → Answered the_step
         unfolding step
         by q h =
-            let on = passed_by _ row_number c_no ∙ ap (λ j. step_by ts j (state_in w n ws st) x) (sym e) in
+            let on = passed_by _ none refl ∙ ap (λ j. step_by ts j (state_in w n ws st) x) (sym e) in
             subst Answered (sym (on ∙ q)) h
 
         pub decide_by : k ≡ Decide → Said (calculus.decide ts here x.term x.value) → Answered the_step
@@ -260,6 +221,6 @@ module _ (w n : ℕ) (ts ws : List ℕ) (st : Status) (x : Step) (k : Kind) (s :
 
 -- a row that is not listed
 pub unlisted_row : (w n : ℕ) (ts ws : List ℕ) (st : Status) (x : Step) {k : Kind} → k ≡ kind_of x.step → k ≡ Unlisted
-    → Answers w n ts ws ws (place_of ts (trail_in w n ws st.count) x) (step ts (state_in w n ws st) x) (Refused (unplaced 9))
+    → Answers w n ts ws ws (place_of ts (trail_in w n ws st.count) x) (step ts (state_in w n ws st) x) (Err Columns)
 unfolding Answers step row_refusal calculus.answer shaped unless place_of
 unlisted_row w n ts ws st x e q = (rw (sym e ∙ q), refl, refl)

@@ -1,20 +1,14 @@
 -- A row before its step: its kind, and the numbers 9, 10, 11.
 use Rattle.std.specs.Prelude.{◌≡◌, Bool, List, ℕ, Result}
 use Rattle.calculus.specs.declared.Step.{Step}
-use Rattle.calculus.specs.declared.Kind.{Kind}
 use Rattle.calculus.specs.declared.Refusal.{Refusal}
 use Rattle.calculus.specs.Numbers.{unless, number_in, place_in}
 use Rattle.calculus.specs.Trail.{Trail}
-use Rattle.calculus.specs.Steps.{kind_of, known, step}
+use Rattle.calculus.specs.Steps.{known, step}
 use Rattle.calculus.specs.Place.{place_of}
 use Rattle.trail.specs.Words.{trail_in}
 use Rattle.state.specs.declared.Status.{Status}
-use Rattle.state.specs.States.{state_in, Standing, Answer, Answers}
-
--- the words hold a state, and the row x is of kind k
-pub record OfKind (w n : ℕ) (ts ws : List ℕ) (st : Status) (x : Step) (k : Kind) : Type 0 where
-  pub standing : Standing w n ts ws st
-  pub kind : k ≡ kind_of x.step
+use Rattle.state.specs.States.{state_in, Answer, Answers}
 
 -- r is the number of the row x, or 0, where a tells whether its columns are right and b whether the state suits its kind;
 -- its place is the same at every trail
