@@ -1,5 +1,5 @@
 -- The words for a person: what every number of a refusal means, what makes a text malformed, and which line was meant.
-use Rattle.std.specs.Prelude.{ℕ, List, [], ◌∷◌, eqb, Some}
+use Rattle.std.specs.Prelude.{ℕ, List, [], ◌∷◌, eqb, Some, Option, None}
 use Prim.Native.String.{String}
 use Rattle.text_fields.specs.Split.{pick, bytes}
 use Rattle.text_faults.specs.Why.{why_number}
@@ -73,6 +73,11 @@ clash_meant = 13
 abbrev pub meant_number : Meant → ℕ
 meant_number Fail = fail_meant
 meant_number Clash = clash_meant
+
+-- 0 where none was meant
+abbrev pub meant_at : Option Meant → ℕ
+meant_at None = 0
+meant_at (Some m) = meant_number m
 
 -- the causes of 31 in a text, and those of 26
 abbrev pub causes : List Meaning
