@@ -4,8 +4,7 @@ use mathlib.Core.Path.{◌≡◌, refl, ap, sym, ◌∙◌}
 use mathlib.Core.Bool.{Bool, true, false, ◌&&◌}
 use mathlib.Core.List.{List}
 use native.Mathlib.Omega.{arith}
-use native.Mathlib.Numerals.{add-one}
-use borrow.Author.Tests.{eqb-true, eqb-false, ltb-true, ltb-false, lt-ltb, le-ltb}
+use borrow.Author.Tests.{eqb-true, eqb-false, ltb-true, ltb-false, le-ltb}
 use mir.Syntax.{w8}
 use mir.Val.{Fits}
 use lib.Dec.{eqb, ltb}
@@ -13,7 +12,7 @@ use lib.ListN.{length, get_or}
 use lib.Seq.{ext_get_or}
 use Rattle.text_fields.specs.Split.{same}
 use Rattle.text_fields.proofs.Laws.{same_unequal, same_self}
-use Rattle.text_tags.specs.Tags.{word_at, wide_at, mixed, mix_bytes, mix_words, mix_name, tag_of}
+use Rattle.text_tags.specs.Tags.{word_at, wide_at, mixed, mix_words, mix_name, tag_of}
 
 -- every element is a byte
 abbrev pub Bytes : List ℕ → Type 0
@@ -103,16 +102,8 @@ pub compare_begins : {a b : List ℕ} {x y : ℕ} → Bytes a → Bytes b → le
     → x ≡ wide_at a (length a - 8) → y ≡ wide_at b (length a - 8) → x ≡ y → Comparing a b 0
 compare_begins p q h l u v e = record { inside = omega arith; long = h; bytes = (p, q); so_far = λ k z. absurd (omega arith); last = sym u ∙ e ∙ v }
 
--- one more byte or word is mixed in, and the last
+-- one more word is mixed in, and the last
 module _ (name : List ℕ) (i : ℕ) {h : ℕ} where
-  pub bytes_on : {x r : ℕ} → h ≡ mix_bytes name i → x ≡ get_or name i 0 → r ≡ mixed h x → r ≡ mix_bytes name (i + 1)
-  unfolding mix_bytes
-  bytes_on p q e = e ∙ rw (p, q, add-one)
-
-  pub bytes_end : h ≡ mix_bytes name i → i ≤ length name → length name ≤ i → length name < 4 → h ≡ mix_name name
-  unfolding mix_name
-  bytes_end p k l m = let z : i ≡ length name = omega arith in p ∙ rw (z, lt-ltb (length name) 4 m)
-
   module _ {x r : ℕ} (p : h ≡ mix_words name (i / 4)) (whole : i % 4 ≡ 0) where
     pub words_on : x ≡ word_at name i → r ≡ mixed h x → r ≡ mix_words name ((i + 4) / 4)
     unfolding mix_words

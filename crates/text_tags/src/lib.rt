@@ -5,21 +5,13 @@ ghost use Rattle.std.specs.Prelude.{◌≡◌, ◌+◌, ◌*◌, ◌≤◌, ◌<
 ghost use Rattle.text_fields.specs.Split.{same};
 ghost use Rattle.text_tags.specs.Tags.{word_at, wide_at, mixed as mixed_in, mix_name, tag_of};
 
-// A byte as a number.
-fn wide(b: u8) -> u64
-    ensures value { result ≡ b }
-    ensures upper_bound { result < 256 }
-{
-    b as u64
-}
-
 // Four bytes from place i on, as a number, the first the least.
 fn word(s: &[u8], i: usize) -> u64
     requires { i + 4 ≤ length s.now }
     ensures value { result ≡ word_at s.now i }
     ensures upper_bound { result < 4294967296 }
 {
-    wide(s[i]) + wide(s[i + 1]) * 256 + wide(s[i + 2]) * 65536 + wide(s[i + 3]) * 16777216
+    u64::from(u32::from_le_bytes([s[i], s[i + 1], s[i + 2], s[i + 3]]))
 }
 
 // Eight bytes from place i on, as a number, the first the least.
@@ -28,21 +20,6 @@ fn wide_word(s: &[u8], i: usize) -> u64
     ensures { result ≡ wide_at s.now i }
 {
     word(s, i) + word(s, i + 4) * 4294967296
-}
-
-// Whether two names of one length are the same, byte by byte: for names below four bytes.
-fn same_bytes(a: &[u8], b: &[u8]) -> bool
-    requires { length a.now ≡ length b.now }
-    ensures { result ≡ same a.now b.now }
-{
-    let mut i = 0;
-    while i < a.len() {
-        if a[i] != b[i] {
-            return false;
-        }
-        i += 1;
-    }
-    true
 }
 
 // Whether two names of one length, eight bytes or more, are the same: the last eight bytes, then eight at a time while more than eight are left.
@@ -72,7 +49,7 @@ pub fn same_name(a: &[u8], b: &[u8]) -> bool
 {
     let n = a.len();
     if n < 4 {
-        return same_bytes(a, b);
+        return text_fields::same(a, b);
     }
     if n < 8 {
         return (word(a, 0) == word(b, 0)) & (word(a, n - 4) == word(b, n - 4));
@@ -91,15 +68,14 @@ fn mixed(h: u64, w: u64) -> u64
 }
 
 // The bytes of a name below four bytes, mixed one at a time.
+#[tactic(auto, unfolding(crate::specs::Tags::mix_bytes, crate::specs::Tags::mix_name))]
 fn mix_bytes(name: &[u8]) -> u64
     requires { length name.now < 4 }
     ensures { result ≡ mix_name name.now }
 {
     let mut h: u64 = 0;
-    let mut i = 0;
-    while i < name.len() {
-        h = mixed(h, wide(name[i]));
-        i += 1;
+    for &b in name {
+        h = mixed(h, u64::from(b));
     }
     h
 }
@@ -130,6 +106,7 @@ fn mix(name: &[u8]) -> u64
 }
 
 // The tag of a name.
+#[tactic(auto, unfolding(crate::specs::Tags::tag_of))]
 pub fn tag_of(name: &[u8]) -> usize
     ensures value { result ≡ tag_of name.now }
     ensures upper_bound { result < 1024 }
