@@ -1,6 +1,6 @@
 -- Rows that cannot be the first premise of trans and pred.
-use mathlib.Core.Path.{◌≡◌, refl, sym}
-use mathlib.Core.Bool.{Bool, true, false, ◌&&◌}
+use mathlib.Core.Path.{◌≡◌}
+use mathlib.Core.Bool.{Bool, false, ◌&&◌}
 use mathlib.Core.List.{List, []}
 use Prim.Native.Nat.{ℕ}
 use lib.Dec.{T, eqb, T_not, not_T}
@@ -10,7 +10,7 @@ use Rattle.calculus.specs.declared.Term.{Term}
 use Rattle.calculus.specs.Terms.{head, eq_head, cells, arg, term_at}
 use Rattle.calculus.specs.Rules.{double, leading, fits}
 use Rattle.calculus.specs.Place.{with}
-use Rattle.calculus.proofs.Facts.{and_l, and_r, and_both, T_false, false_T, true_or_false}
+use Rattle.calculus.proofs.Facts.{and_l, and_r, and_both, T_false, false_T}
 use Rattle.completions.specs.Needs.{needs}
 use Rattle.completions.specs.Search.{serves, followed}
 use Rattle.completions.proofs.First.{somewhere_at}
@@ -47,13 +47,7 @@ module _ (ts : List ℕ) (l r : ℕ) where
     pub begins_pred : k ≡ Predicate → Begins ts k l r (eqb f.head e.head)
     begins_pred q = rw (q, e_row, f_row) (record { passed = λ v. asked (pred_start v) })
 
-  pub begins_any : (k : Rule) → Begins ts k l r true
-  begins_any k = record { passed = λ v e. absurd (true_or_false {b = true} refl e) }
-
   module _ (k : Rule) (v : ℕ) where
-    pub begun_not : {b : Bool} → Begins ts k l r b → b ≡ false → false ≡ followed ts k l v [] (with 0 r)
-    begun_not {b} h e = sym (h.passed v e)
-
     pub begun_follows : (none : Columns) {b : Bool} → none.count ≡ 0 → b ≡ followed ts k l v (listed none) (with 0 r) → b ≡ followed ts k l v [] (with 0 r)
     unfolding listed
     begun_follows none z e = rw z at e

@@ -144,21 +144,12 @@ claim_listed : (n : ℕ) → n ≤ blank → (l : Row) (v : ℕ) (x : Columns) �
 unfolding listed
 claim_listed n b l v x h = ap stated (mixed x without x.count) ∙ stated_mix n b x.count (columns_of x) (columns_of without) h refl refl
 
-pub claimed : (l : Row) (v : ℕ) (x : Columns) {p q r s t : Premise}
-    → p ≡ cond (ltb 0 x.count) x.p no_premise → q ≡ cond (ltb 1 x.count) x.q no_premise
-    → r ≡ cond (ltb 2 x.count) x.r no_premise → s ≡ cond (ltb 3 x.count) x.s no_premise → t ≡ cond (ltb 4 x.count) x.t no_premise
-    → record { term = l; value = v; p = p; q = q; r = r; s = s; t = t } ≡ claim_of l v x
-claimed l v x p q r s t = rw (p, q, r, s, t)
-
 -- ---- premises that serve
 
 module _ (ts : List ℕ) (k : Rule) (l : Row) (v : ℕ) (x : Columns) {n : ℕ} (rows : n ≡ term_rows ts)
     {b : Bool} (all_rows : b ≡ all (λ p. ltb p.row n) (listed x)) where
   rows_of : all (is_row ts) (listed x) ≡ b
   rows_of = ap (λ m. all (λ p. ltb p.row m) (listed x)) (sym rows) ∙ sym all_rows
-
-  pub serves_not : b ≡ false → false ≡ serves ts k l.0 v (listed x)
-  serves_not e = rw (rows_of ∙ e)
 
   pub serves_fits : {c : Claim} {r : Bool} → b ≡ true → Fits w16 n → c ≡ claim_of l v x → r ≡ allows ts k c → r ≡ serves ts k l.0 v (listed x)
   serves_fits e f c r =

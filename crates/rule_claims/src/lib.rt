@@ -2,7 +2,6 @@
 #![tactic(auto)]
 
 ghost use Rattle.std.specs.Prelude.{◌≡◌, ◌&&◌, not, eqb};
-ghost use Rattle.calculus.specs.Lists.{num};
 ghost use Rattle.calculus.specs.Terms.{eq_head};
 ghost use Rattle.rule_claims.specs.Claims.{gap, after_first};
 
@@ -91,11 +90,4 @@ pub fn connected(e: Term, h: u16, p: Premise, w: u16, v: u16, z: u16) -> bool
     ensures { result ≡ (eqb e.head h && (eqb p.value w && eqb v z)) }
 {
     (e.head == h) & ((p.value == w) & (v == z))
-}
-
-// A truth value as a number.
-pub fn number(b: bool) -> u16
-    ensures { result ≡ num b }
-{
-    u16::from(b)
 }
