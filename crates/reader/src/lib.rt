@@ -117,6 +117,7 @@ fn holds_rows(counts: Counts, a: usize, b: usize, c: usize, d: usize) -> bool
 }
 
 // The number that the text gives.
+// Stays: 0 for none here and below, as the C struct `ReadOutcome` has it.
 fn final_number(fault: Option<BadLine>, room: bool) -> u16
     ensures { result ≡ number_of (fault_in fault).number room }
 {
