@@ -16,12 +16,22 @@ use Rattle.calculus.proofs.WellFormed.{step_well_formed}
 use Rattle.calculus.proofs.Running.{run_allowed, run_refuted, run_refused, run_over}
 use Rattle.trail.specs.Words.{trail_in}
 use Rattle.state.specs.declared.Status.{Status}
-use Rattle.state.specs.declared.Answer.{Answer}
-use Rattle.state.specs.declared.Answer.TheVariants as answer
-use Rattle.state.specs.States.{state_in, Standing, Answers}
+use Rattle.std.proofs.Common.{rules}
+use Rattle.std.specs.Prelude.{Option, Some, None, Ok, Err}
+use Rattle.calculus.specs.Numbers.{number, number_at, place_at}
+use Rattle.state.specs.declared.Next.TheVariants as next
+use Rattle.state.specs.declared.Next.TheVariants.{On}
+use Rattle.state.specs.States.{state_in, Standing, Answer, Answers}
 use Rattle.state.proofs.States.{trail_there}
 use Rattle.run.specs.declared.Ended.{Ended}
-use Rattle.run.specs.Ends.{stopped_by, run_in, Ends}
+use Rattle.run.specs.Ends.{onward, stopped_by, run_in, Ends}
+
+-- a status is none, and is the status that it is
+none_some : {x : Status} → ◌≡◌ {A = Option Status} None (Some x) → ⊥
+none_some e = search rules
+
+some_same : {x y : Status} → ◌≡◌ {A = Option Status} (Some x) (Some y) → x ≡ y
+some_same e = search rules
 
 module _ (w n : ℕ) (ts log : List ℕ) (e : Ending) where
   -- k rows are behind: what is ahead ends as the whole run does
@@ -32,7 +42,7 @@ module _ (w n : ℕ) (ts log : List ℕ) (e : Ending) where
   module _ (ws : List ℕ) (st : Status) (k : ℕ) (r : Running ws st k) where
     -- an ending in this state
     ended : (x : Ended) → x.status ≡ st
-        → e ≡ record { verdict = x.verdict; steps = x.steps; number = x.number; place = x.place; state = state_in w n ws st } → Ends w n ts ws e x
+        → e ≡ record { verdict = x.verdict; steps = x.steps; number = number_at x.refusal; place = place_at x.refusal; state = state_in w n ws st } → Ends w n ts ws e x
     ended x q h =
         record {
           verdict = sym (ap (λ (y : Ending). y.verdict) h);
@@ -44,8 +54,8 @@ module _ (w n : ℕ) (ts log : List ℕ) (e : Ending) where
         }
 
     -- the rows run out
-    pub runs_out : step_rows log ≤ k → Ends w n ts ws e (record { verdict = Open; steps = k; number = 0; place = 0; status = st })
-    runs_out h = ended _ refl (sym r.same ∙ run_over ts log (state_in w n ws st) k (step_rows log) h)
+    pub runs_out : (m : ℕ) → m ≡ k → step_rows log ≤ k → Ends w n ts ws e (record { verdict = Open; steps = m; refusal = None; status = st })
+    runs_out m i h = rw i (ended _ refl (sym r.same ∙ run_over ts log (state_in w n ws st) k (step_rows log) h))
 
     module _ (vs : List ℕ) (h : k < step_rows log) {x : Step} (x_is : x ≡ step_at log k) where
       abbrev before : calculus.State
@@ -63,19 +73,21 @@ module _ (w n : ℕ) (ts log : List ℕ) (e : Ending) where
       the_place c = rw (trail_there w n ws st, x_is)
 
       -- an allowed row
-      pub goes_on : {a : Answer} (next : Status) → Said a → a ≡ answer.Allowed next → Running vs next (k + 1)
+      pub goes_on : {o : Option Status} (next : Status) (a : Answer) → Said a → o ≡ onward a → o ≡ Some next → Running vs next (k + 1)
       unfolding Answers
-      goes_on next s q =
-          let a : Said (answer.Allowed next) = subst Said q s in
+      goes_on to (Err c) s p q = absurd (none_some (sym p ∙ q))
+      goes_on to (Ok next.Refuted) s p q = absurd (none_some (sym p ∙ q))
+      goes_on to (Ok (On b)) s p q =
+          let a : Said (Ok (On to)) = subst (λ x. Said (Ok (On x))) (some_same (sym p ∙ q)) s in
           let n_is = r.standing.held.rows in
           let good = subst (λ m. WellFormedState m before) n_is r.standing.well_formed in
-          let after = step_well_formed ts before (state_in w n vs next) (step_at log k) good (the_step a.0) in
+          let after = step_well_formed ts before (state_in w n vs to) (step_at log k) good (the_step a.0) in
           record {
-            same = sym (run_allowed ts log before k (step_rows log) (state_in w n vs next) h (the_step a.0)) ∙ r.same;
+            same = sym (run_allowed ts log before k (step_rows log) (state_in w n vs to) h (the_step a.0)) ∙ r.same;
             standing =
                 record {
                   held = a.1;
-                  well_formed = subst (λ m. WellFormedState m (state_in w n vs next)) (sym n_is) after;
+                  well_formed = subst (λ m. WellFormedState m (state_in w n vs to)) (sym n_is) after;
                   equations = r.standing.equations;
                 };
           }
@@ -85,26 +97,23 @@ module _ (w n : ℕ) (ts log : List ℕ) (e : Ending) where
       unmoved q y z = subst (λ us. Ends w n ts us e y) (sym q) z
 
       -- a refutation
-      refutes : Said answer.Refuted → Ends w n ts vs e (stopped_by answer.Refuted k st)
+      refutes : Said (Ok next.Refuted) → Ends w n ts vs e (stopped_by (Ok next.Refuted) k st)
       unfolding Answers
-      refutes a = unmoved a.1 _ (ended (stopped_by answer.Refuted k st) refl (sym r.same ∙ run_refuted ts log before k (step_rows log) h (the_step a.0)))
+      refutes a = unmoved a.1 _ (ended (stopped_by (Ok next.Refuted) k st) refl (sym r.same ∙ run_refuted ts log before k (step_rows log) h (the_step a.0)))
 
       -- a refusal
-      refuses : (c : Refusal) → Said (answer.Refused c) → Ends w n ts vs e (stopped_by (answer.Refused c) k st)
+      refuses : (c : Refusal) → Said (Err c) → Ends w n ts vs e (stopped_by (Err c) k st)
       unfolding Answers
       refuses c a =
-          let number_is = run_refused ts log before k (step_rows log) c.number h (the_step a.0) in
-          let placed : ℕ → Ending = λ p. record { verdict = Refused; steps = k; number = c.number; place = p; state = before } in
-          unmoved a.2 _ (ended (stopped_by (answer.Refused c) k st) refl (sym r.same ∙ number_is ∙ ap placed (the_place c.number ∙ sym a.1)))
+          let number_is = run_refused ts log before k (step_rows log) (number c) h (the_step a.0) in
+          let placed : ℕ → Ending = λ p. record { verdict = Refused; steps = k; number = number c; place = p; state = before } in
+          unmoved a.2 _ (ended (stopped_by (Err c) k st) refl (sym r.same ∙ number_is ∙ ap placed (the_place (number c) ∙ sym a.1)))
 
       -- any answer that lets the run not go on
-      pub stops : {y : Ended} (a : Answer) → ((next : Status) → a ≡ answer.Allowed next → ⊥) → Said a → y ≡ stopped_by a k st → Ends w n ts vs e y
-      stops a t s q = rw q (go a t s)
-        where
-          go : (b : Answer) → ((next : Status) → b ≡ answer.Allowed next → ⊥) → Said b → Ends w n ts vs e (stopped_by b k st)
-          go (answer.Refused c) t a = refuses c a
-          go answer.Refuted t a = refutes a
-          go (answer.Allowed next) t a = absurd (t next refl)
+      pub stops : {y : Ended} {o : Option Status} (a : Answer) → o ≡ onward a → o ≡ None → Said a → y ≡ stopped_by a k st → Ends w n ts vs e y
+      stops (Err c) p z s q = rw q (refuses c s)
+      stops (Ok next.Refuted) p z s q = rw q (refutes s)
+      stops (Ok (On to)) p z s q = absurd (none_some (sym z ∙ p))
 
 -- no row is behind
 pub starts : (w n : ℕ) (ts log ws : List ℕ) (st : Status) → Standing w n ts ws st → Running w n ts log (run_in w n ts log ws st) ws st 0

@@ -9,6 +9,12 @@ use Rattle.state.specs.declared.Next.TheVariants as next
 use Rattle.state.specs.States.{state_in, Standing, Answer}
 use Rattle.run.specs.declared.Ended.{Ended}
 
+-- the status after an allowed step
+abbrev pub onward : Answer → Option Status
+onward (Err r) = None
+onward (Ok next.Refuted) = None
+onward (Ok (next.On to)) = Some to
+
 -- how the answer a ends a run after k allowed steps: a refutation is one more; an allowed step stops no run
 abbrev pub stopped_by : Answer → ℕ → Status → Ended
 stopped_by (Err r) k st = record { verdict = Refused; steps = k; refusal = Some r; status = st }

@@ -4,19 +4,28 @@
 ghost use Rattle.std.specs.Prelude.{◌≡◌, ◌<◌, ◌≤◌};
 ghost use Rattle.calculus.specs.Sheets.{step_rows};
 ghost use Rattle.state.specs.States.{Standing};
-ghost use Rattle.run.specs.Ends.{stopped_by, run_in, Ends};
+ghost use Rattle.run.specs.Ends.{onward, stopped_by, run_in, Ends};
 
-use calculus::Verdict;
-use state::{Answer, Status};
+use calculus::{Refusal, Verdict};
+use state::{Answer, Next, Status};
 
-// How a run ended: the verdict, the steps allowed, the number of the refusal or 0, its place or 0, and where it stands.
+// How a run ended: the verdict, the steps allowed, why it was refused, if it was, and where it stands.
 #[derive(Clone, Copy)]
 pub struct Ended {
     pub verdict: Verdict,
     pub steps: u16,
-    pub number: u16,
-    pub place: u16,
+    pub refusal: Option<Refusal>,
     pub status: Status,
+}
+
+// Where the run goes on after the answer a, if it does.
+fn onward(a: Answer) -> Option<Status>
+    ensures { result ≡ onward a }
+{
+    match a {
+        Ok(Next::On(next)) => Some(next),
+        _ => None,
+    }
 }
 
 // How a run ends on the answer a, after k allowed steps.
@@ -25,26 +34,23 @@ fn stopped(a: Answer, k: u16, here: Status) -> Ended
     ensures { result ≡ stopped_by a k here }
 {
     match a {
-        Answer::Refused(c) => Ended {
+        Err(refusal) => Ended {
             verdict: Verdict::Refused,
             steps: k,
-            number: c.number,
-            place: c.place,
+            refusal: Some(refusal),
             status: here,
         },
-        Answer::Refuted => Ended {
+        Ok(Next::Refuted) => Ended {
             verdict: Verdict::Refuted,
             steps: k + 1,
-            number: 0,
-            place: 0,
+            refusal: None,
             status: here,
         },
         // An allowed step stops no run.
-        Answer::Allowed(next) => Ended {
+        Ok(Next::On(next)) => Ended {
             verdict: Verdict::Open,
             steps: k,
-            number: 0,
-            place: 0,
+            refusal: None,
             status: next,
         },
     }
@@ -65,21 +71,18 @@ pub fn run_steps(
 {
     let count = steps.len() / 9;
     let mut here = st;
-    let mut k: usize = 0;
-    while k < count {
+    for k in 0..count {
         let x = rows::step_at(steps, k);
         let a = steps::step(terms, work, w, n, here, x);
-        let Answer::Allowed(next) = a else {
+        let Some(next) = onward(a) else {
             return stopped(a, k as u16, here);
         };
         here = next;
-        k += 1;
     }
     Ended {
         verdict: Verdict::Open,
-        steps: k as u16,
-        number: 0,
-        place: 0,
+        steps: count as u16,
+        refusal: None,
         status: here,
     }
 }
