@@ -1,21 +1,19 @@
 -- Laws of the row at fault and of its line, case after case as the code has them.
 use Prim.Native.Nat.{ℕ, suc, ◌+◌, ◌-◌, ◌*◌, ◌≤◌, ◌<◌}
 use mathlib.Core.Path.{◌≡◌, sym, ◌∙◌}
-use mathlib.Core.Bool.{Bool, true, false, not}
+use mathlib.Core.Bool.{Bool, true, false}
 use mathlib.Core.List.{List}
 use native.Mathlib.Omega.{arith}
 use native.Mathlib.Numerals.{add-one}
-use lib.Dec.{eqb}
 use borrow.Author.Tests.{eq-eqb, ne_eqb, lt-ltb, le-ltb}
-use lib.ListN.{take, get_or}
+use lib.ListN.{take}
 use Rattle.calculus.specs.declared.Outcome.{Outcome}
 use Rattle.calculus.specs.Run.{outcome}
 use Rattle.text_lines.specs.declared.Sheet.{Sheet}
 use Rattle.text_lines.specs.declared.Sheet.TheVariants.{Sorts, Terms, Inputs, Steps}
 use Rattle.reader.specs.Places.{row_line}
-use Rattle.report.specs.Words.{fail_meant, clash_meant}
 use Rattle.verdict.specs.Verdict.{call_with}
-use Rattle.verdict.specs.Fault.{sheet_of, cut_call, cut_refused, first_refused, refused_row, row_in, line_of, line_meant}
+use Rattle.verdict.specs.Fault.{sheet_of, cut_call, cut_refused, first_refused, refused_row, row_in, line_of}
 
 -- sheets cut behind the first k rows of one of them
 module _ {sheet : Sheet} (k : ℕ) (a b c : List ℕ) {r : Outcome} (none : List ℕ) (none_is : none ≡ take 0 a) where
@@ -30,12 +28,6 @@ module _ {sheet : Sheet} (k : ℕ) (a b c : List ℕ) {r : Outcome} (none : List
 
   pub cut_steps : sheet ≡ Steps → r ≡ outcome (call_with a b c none) → r ≡ outcome (cut_call sheet k a b c)
   cut_steps e r_is = r_is ∙ rw (e, none_is)
-
--- whether they are refused
-module _ (sheet : Sheet) (k : ℕ) (a b c : List ℕ) where
-  pub refused_is : (r : Outcome) → r ≡ outcome (cut_call sheet k a b c) → not (eqb r.number 0) ≡ cut_refused sheet a b c k
-  unfolding cut_refused
-  refused_is r is = rw is
 
 -- the first row behind which a cut is refused is sought from row k on
 module _ (sheet : Sheet) (rows : ℕ) (a b c : List ℕ) where
@@ -100,18 +92,3 @@ module _ (o : Outcome) (a b c : ℕ) (sorts terms inputs : List ℕ) where
       → (sheet : Sheet) → sheet ≡ sheet_of o.number → {l : ℕ} → l ≡ row_line sheet a b c row → l ≡ line_of o a b c sorts terms inputs
   unfolding line_of
   line_some e row is sheet sheet_is l-is = l-is ∙ rw (ne_eqb o.number 0 e, sheet_is, is)
-
--- the line that was meant, by the refused row's step column
-module _ (o : Outcome) (steps : List ℕ) where
-  pub meant_none : (o.number ≡ 26 → ⊥) → 0 ≡ line_meant o steps
-  unfolding line_meant
-  meant_none h = rw (ne_eqb o.number 26 h)
-
-  module _ (n : o.number ≡ 26) {k : ℕ} (k_is : k ≡ get_or steps (o.steps * 9) 0) where
-    pub meant_fail : k ≡ 2 → fail_meant ≡ line_meant o steps
-    unfolding line_meant
-    meant_fail e = rw (n, sym k_is ∙ e)
-
-    pub meant_clash : (k ≡ 2 → ⊥) → clash_meant ≡ line_meant o steps
-    unfolding line_meant
-    meant_clash h = rw (n, ne_eqb _ 2 (λ z. h (k_is ∙ z)))

@@ -8,13 +8,14 @@ ghost use Rattle.text_stream.specs.Stream.{stream_of, fresh_stream};
 ghost use Rattle.reader.specs.Text.{TextRead};
 ghost use Rattle.reader.specs.Stream.{fed_pieces, joined, zero_sheets};
 ghost use Rattle.reader.specs.Places.{row_line};
+ghost use Rattle.report.specs.Words.{meant_at};
 ghost use Rattle.verdict.specs.Verdict.{most, call_with};
 ghost use Rattle.verdict.specs.Fault.{sheet_of, cut_call, cut_refused, refused_row, row_in, line_of, line_meant};
 ghost use Rattle.verdict.specs.Contract.{unread_answer, run_answer, answer_of, Concluded, Checked};
 
 use calculus::Outcome;
 use reader::ReadOutcome;
-use report::{CLASH_MEANT, Complaint, FAIL_MEANT};
+use report::{Complaint, Meant};
 use text_lines::Sheet;
 use text_stream::Progress;
 
@@ -25,11 +26,11 @@ pub struct Answer {
     pub complaint: Complaint,
 }
 
-// The first n numbers of a sheet, or all of it where it has no more.
-fn first(sheet: &[u16], n: usize) -> &[u16]
-    ensures { result.now ≡ take n sheet.now }
+// The first n items, or all of them where there are no more.
+pub fn first<T>(items: &[T], n: usize) -> &[T]
+    ensures { result.now ≡ take n items.now }
 {
-    if n < sheet.len() { &sheet[..n] } else { sheet }
+    &items[..n.min(items.len())]
 }
 
 // Sheets run with a workspace and a trail buffer for as many terms as a text can have.
@@ -46,16 +47,16 @@ fn run_cut(sheet: Sheet, k: usize, sorts: &[u16], terms: &[u16], inputs: &[u16])
     requires { k ≤ 65536 }
     ensures { result ≡ outcome (cut_call sheet k sorts.now terms.now inputs.now) }
 {
-    let none = first(sorts, 0);
     match sheet {
-        Sheet::Sorts => run_rows(first(sorts, k * 2), none, none, none),
-        Sheet::Terms => run_rows(sorts, first(terms, k * 6), none, none),
-        Sheet::Inputs => run_rows(sorts, terms, first(inputs, k * 2), none),
-        Sheet::Steps => run_rows(sorts, terms, inputs, none),
+        Sheet::Sorts => run_rows(first(sorts, k * 2), &[], &[], &[]),
+        Sheet::Terms => run_rows(sorts, first(terms, k * 6), &[], &[]),
+        Sheet::Inputs => run_rows(sorts, terms, first(inputs, k * 2), &[]),
+        Sheet::Steps => run_rows(sorts, terms, inputs, &[]),
     }
 }
 
 // Whether it is refused.
+#[tactic(auto, unfolding(crate::specs::Fault::cut_refused))]
 fn is_refused(sheet: Sheet, k: usize, sorts: &[u16], terms: &[u16], inputs: &[u16]) -> bool
     requires { k ≤ 65536 }
     ensures { result ≡ cut_refused sheet sorts.now terms.now inputs.now k }
@@ -69,30 +70,24 @@ fn refused_row(sheet: Sheet, rows: usize, sorts: &[u16], terms: &[u16], inputs: 
     ensures value { result ≡ refused_row sheet rows sorts.now terms.now inputs.now }
     ensures upper_bound { result ≤ rows }
 {
-    let mut k = 0;
-    while k < rows {
+    for k in 0..rows {
         if is_refused(sheet, k + 1, sorts, terms, inputs) {
             return k;
         }
-        k += 1;
     }
-    k
+    rows
 }
 
 // The sheet that a number of the run is about.
 fn sheet_of(number: u16) -> Sheet
     ensures { result ≡ sheet_of number }
 {
-    if number < 3 {
-        return Sheet::Sorts;
+    match number {
+        0..3 => Sheet::Sorts,
+        3..6 => Sheet::Terms,
+        6..9 => Sheet::Inputs,
+        _ => Sheet::Steps,
     }
-    if number < 6 {
-        return Sheet::Terms;
-    }
-    if number < 9 {
-        return Sheet::Inputs;
-    }
-    Sheet::Steps
 }
 
 // The row at fault, by the rows of the sheets.
@@ -113,9 +108,9 @@ fn row_line(sheet: Sheet, sorts: u16, terms: u16, inputs: u16, row: usize) -> u6
     requires { row ≤ 65535 }
     ensures { result ≡ row_line sheet sorts terms inputs row }
 {
-    let a = sorts as u64;
-    let b = a + terms as u64;
-    let c = b + inputs as u64;
+    let a = u64::from(sorts);
+    let b = a + u64::from(terms);
+    let c = b + u64::from(inputs);
     let k = row as u64;
     match sheet {
         Sheet::Sorts => k + 2,
@@ -129,6 +124,7 @@ fn row_line(sheet: Sheet, sorts: u16, terms: u16, inputs: u16, row: usize) -> u6
 fn fault_line(o: Outcome, r: ReadOutcome, sorts: &[u16], terms: &[u16], inputs: &[u16]) -> u64
     ensures { result ≡ line_of o r.sorts r.terms r.inputs sorts.now terms.now inputs.now }
 {
+    // Stays: 0 for no line, as `line_of` has it.
     if o.number == 0 {
         return 0;
     }
@@ -136,17 +132,18 @@ fn fault_line(o: Outcome, r: ReadOutcome, sorts: &[u16], terms: &[u16], inputs: 
     row_line(sheet_of(o.number), r.sorts, r.terms, r.inputs, row)
 }
 
-// The line that was meant where the level is the other line's, 0 with any other number.
-fn line_meant(o: Outcome, steps: &[u16]) -> u16
-    ensures { result ≡ line_meant o steps.now }
+// The line that was meant where the level is the other line's, none with any other number.
+#[tactic(auto, unfolding(crate::specs::Fault::line_meant))]
+fn line_meant(o: Outcome, steps: &[u16]) -> Option<Meant>
+    ensures { meant_at result ≡ line_meant o steps.now }
 {
     if o.number != 26 {
-        return 0;
+        return None;
     }
     if rows::cell(steps, o.steps as usize * 9) == 2 {
-        return FAIL_MEANT;
+        return Some(Meant::Fail);
     }
-    CLASH_MEANT
+    Some(Meant::Clash)
 }
 
 // A text that was not read.
@@ -171,7 +168,7 @@ fn run_answer(r: ReadOutcome, sorts: &[u16], terms: &[u16], inputs: &[u16], step
 {
     let o = run_rows(sorts, terms, inputs, steps);
     let line = fault_line(o, r, sorts, terms, inputs);
-    let why = line_meant(o, steps);
+    let why = line_meant(o, steps).map_or(0, u16::from);
     Answer {
         outcome: o,
         complaint: Complaint {

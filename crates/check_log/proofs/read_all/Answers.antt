@@ -5,8 +5,8 @@ use Rattle.check_log.proofs.read_all.Goals as goal
 pub loop-bytes-init : goal.loop-bytes-init
 loop-bytes-init c = (c.requires, none_fed _)
 
-pub returns-then-p-eq0-clause-fed : goal.returns-then-p-eq0-clause-fed
-returns-then-p-eq0-clause-fed c = end_fed c.loop-bytes.invariant.1 c.read_piece-p.ensures.fed c.if-p-eq0.true
+pub returns-then-size-eq0-clause-fed : goal.returns-then-size-eq0-clause-fed
+returns-then-size-eq0-clause-fed c = end_fed c.loop-bytes.invariant.1 c.in_ok-size.ensures.fed c.if-size-eq0.true
 
 pub loop-bytes-preserved : goal.loop-bytes-preserved
-loop-bytes-preserved c = (c.read_piece-p.ensures.bounded, more_fed c.loop-bytes.invariant.1 c.read_piece-p.ensures.fed)
+loop-bytes-preserved c = (c.read_piece.ensures.bounded, more_fed c.loop-bytes.invariant.1 c.in_ok-size.ensures.fed)
