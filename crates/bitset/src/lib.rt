@@ -50,6 +50,7 @@ pub fn union_into(work: &mut [u64], to: usize, from: usize, w: usize)
     requires { (from + w ≤ to) × (to + w ≤ length work.old) }
     ensures { Holds work.old work.new to w (union (set_at work.old to w) (set_at work.old from w)) }
 {
+    // Stays: after a zip over the two parts of the slice, a proof knows nothing of its elements.
     for i in 0..w {
         work[to + i] |= work[from + i];
     }
@@ -95,6 +96,7 @@ pub fn copy_without(work: &mut [u64], to: usize, from: usize, w: usize, ps: &[u1
     ensures { Holds work.old work.new to w
         (without (set_at work.old from w) (filled ps.now)) }
 {
+    // Stays: the two windows may overlap, so that no iterator over the one can be held while the other is written.
     for j in 0..w {
         work[to + j] = word_without_all(j, work[from + j], ps);
     }

@@ -1,7 +1,7 @@
 -- How the changes of a step in a conflict compose. Assumes nothing.
-use Prim.Native.Nat.{ℕ, ◌+◌, ◌-◌, ◌*◌, ◌≤◌, ◌<◌, max}
+use Prim.Native.Nat.{ℕ, ◌+◌, ◌*◌, ◌≤◌, ◌<◌, max}
 use native.Mathlib.Omega.{arith}
-use mathlib.Core.Path.{◌≡◌, sym, ap, subst, ◌∙◌}
+use mathlib.Core.Path.{◌≡◌, sym, ap, ◌∙◌}
 use mathlib.Core.Logic.{inr}
 use mathlib.Core.Bool.{false}
 use mathlib.Core.List.{List, [], ◌∷◌}
@@ -9,9 +9,7 @@ use lib.Dec.{leb}
 use borrow.Author.Tests.{ne_eqb}
 use Rattle.calculus.specs.Sheets.{blank}
 use Rattle.calculus.specs.Terms.{filled}
-use Rattle.calculus.specs.Lists.{opposite}
-use Rattle.calculus.specs.Trail.{Set, Trail, remove, without, union, on, value_at, level_at, why_at, level_of, top_level, kept_to, decision}
-use Rattle.calculus.specs.Steps.{backjumped}
+use Rattle.calculus.specs.Trail.{Set, Trail, remove, without, union, on, level_at, why_at, level_of, top_level, kept_to}
 use Rattle.calculus.proofs.Facts.{cond_case}
 use Rattle.calculus.proofs.Entries.{level_kept}
 use Rattle.bitset.specs.Windows.{set_at, Holds}
@@ -20,14 +18,9 @@ use Rattle.trail.specs.Words.{conflict, entry_of, trail_in, Laid, Still, Pushed,
 use Rattle.calculus.proofs.Trails.{without_one, remove_union, kept_gone}
 use Rattle.calculus.proofs.WellFormed.{why_not_own}
 use Rattle.trail.proofs.Frames.{built, why_words}
-use Rattle.moves.specs.Post.{conflict_in, jumped_in, Stands, Conflicts}
+use Rattle.moves.specs.Post.{conflict_in, Stands, Conflicts}
 use Rattle.conflict_moves.specs.Back.{resolved_in, rest_in, backjumped_in, ToResolve, ToBackjump, ToJump}
 use Rattle.moves.proofs.Laws.{conflict_made, justified_stands}
-
-pub cut_stands : (w N : ℕ) (ws vs : List ℕ) (n m k r top : ℕ) → m ≡ k → Cut w N ws vs n m r top → Stands w N vs r top (kept_to k (trail_in w N ws n))
-cut_stands w N ws vs n m k r top e c =
-    let q = c.trail ∙ ap (λ (x : ℕ). kept_to x (trail_in w N ws n)) e in
-    record { laid = c.laid; trail = q; greatest = c.greatest ∙ ap top_level q }
 
 -- ---- the conflict
 
@@ -108,16 +101,6 @@ module _ (w N : ℕ) (ws : List ℕ) (n l m : ℕ) (p : ToJump w N ws n l m) whe
         low = omega arith;
       }
 
-  pub jump_stands : (vs : List ℕ) (r top v : ℕ) → v ≡ opposite (value_at (trail_in w N ws n) l)
-      → Stands w N vs r top (backjumped_in w N ws n l v m (l ∷ [])) → Stands w N vs r top (jumped_in w N ws n l)
-  jump_stands vs r top v q h =
-      subst (Stands w N vs r top) (λ i. backjumped (trail_in w N ws n) (rest_is i) l (q i) (p.1 i)) h
-
-pub flip_stands : (w N : ℕ) (vs : List ℕ) (r top t : ℕ) (old tr : Trail) (v u : ℕ) → old ≡ tr → v ≡ u
-    → Stands w N vs r top (decision old t v ∷ old) → Stands w N vs r top (decision tr t u ∷ tr)
-flip_stands w N vs r top t old tr v u e q h =
-    subst (λ (x : Trail). Stands w N vs r top (decision x t u ∷ x)) e (subst (λ (x : ℕ). Stands w N vs r top (decision old t x ∷ old)) q h)
-
 -- after a cut
 pub gone_after : (w N : ℕ) (ws us : List ℕ) (n m r top t : ℕ) → Laid w N ws n → Cut w N ws us n m r top → m < level_at (trail_in w N ws n) t
     → on (trail_in w N us r) t ≡ false
@@ -125,7 +108,3 @@ gone_after w N ws us n m r top t laid c h = rw c.trail (kept_gone t m (trail_in 
 
 pub top_after : (w N : ℕ) (ws us : List ℕ) (n m r top : ℕ) → Cut w N ws us n m r top → top_level (trail_in w N ws n) < 65536 → top < 65536
 top_after w N ws us n m r top c h = omega (arith, h, c.greatest, ap top_level c.trail, top_kept m (trail_in w N ws n))
-
-pub kept_after : (w N : ℕ) (ws us : List ℕ) (n m r top l e : ℕ) → Cut w N ws us n m r top → m ≡ l - 1 → l ≡ e
-    → trail_in w N us r ≡ kept_to (e - 1) (trail_in w N ws n)
-kept_after w N ws us n m r top l e c p q = c.trail ∙ ap (λ (x : ℕ). kept_to x (trail_in w N ws n)) (p ∙ ap (λ (x : ℕ). x - 1) q)

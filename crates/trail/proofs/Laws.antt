@@ -134,7 +134,3 @@ pub row_fits : (w N : ℕ) (ws : List ℕ) (n i : ℕ) → Laid w N ws n × (i <
 row_fits w N ws n i g =
     let d = g.0 in
     (omega (arith, room_all w N ws n d, d.enough, g.1), omega (arith, below_at N w N ws n i d.below g.1, d.wide, d.narrow))
-
--- a row of the trail is in a word of every set
-pub row_word : (w N t : ℕ) → N ≤ 64 * w → t < N → t / 64 < w
-row_word w N t wide h = omega arith
