@@ -6,10 +6,8 @@ use Prim.Native.Nat.{ℕ, zero, suc, ◌≤◌}
 use native.Mathlib.Omega.{arith}
 use lib.ListN.{length, replicate}
 use lib.Dec.{eqb-suc-zero}
-use Rattle.calculus.specs.declared.Check.{Check}
-use Rattle.calculus.specs.declared.Check.TheVariants.{Passed, Refused}
 use Rattle.calculus.specs.declared.Outcome.{Outcome}
-use Rattle.calculus.specs.Numbers.{or_else, check_of}
+use Rattle.calculus.specs.Numbers.{or_else, number_at, place_at}
 use Rattle.calculus.specs.Sheets.{Call, term_rows, input_rows, step_rows, length_refusal}
 use Rattle.calculus.specs.Sorts.{sorts_refusal}
 use Rattle.calculus.specs.Terms.{terms_refusal}
@@ -20,7 +18,6 @@ use Rattle.calculus.specs.Run.{Ending, run, sheets_refusal, call_refusal, start,
 use Rattle.calculus.specs.WellFormed.{WellFormed, WellFormedState}
 use Rattle.calculus.proofs.Facts.{first_ok}
 use Rattle.calculus.proofs.WellFormed.{input_well_formed, top_length}
-use Rattle.sheets.proofs.Laws.{passed_zero}
 use Rattle.trail.specs.Words.{trail_in}
 use Rattle.calculus.proofs.Trails.{room}
 use Rattle.trail.proofs.Laws.{trail_length}
@@ -32,11 +29,6 @@ use Rattle.run.specs.declared.Ended.{Ended}
 use Rattle.run.specs.Ends.{Ends}
 
 -- ---- numbers
-
--- a check that refuses has the number that it refuses with
-pub refused_is : (m c : ℕ) → check_of m ≡ Refused c → (m ≡ c) × (c ≡ 0 → ⊥)
-refused_is zero c e = absurd (let z : ◌≡◌ {A = ℕ} 0 1 = cc in omega arith)
-refused_is (suc m) c e = let q : suc m ≡ c = cc in (q, λ z. omega arith)
 
 first_two : (a b c : ℕ) → or_else (or_else a b) c ≡ or_else a (or_else b c)
 unfolding or_else
@@ -51,13 +43,6 @@ or_first (suc a) b c e h = e
 or_second : (a b : ℕ) → a ≡ 0 → or_else a b ≡ b
 unfolding or_else
 or_second a b e = rw e
-
--- the first of two checks, and the second where the first passes
-pub check_first : {r : Check} (a b c : ℕ) → r ≡ check_of a → r ≡ Refused c → r ≡ check_of (or_else a b)
-check_first a b c e q = let h = refused_is a c (sym e ∙ q) in e ∙ ap check_of h.0 ∙ ap check_of (sym (or_first a b c h.0 h.1))
-
-pub check_second : {r s : Check} (a b : ℕ) → s ≡ check_of a → s ≡ Passed → r ≡ check_of b → r ≡ check_of (or_else a b)
-check_second a b e q h = h ∙ ap check_of (sym (or_second a b (passed_zero a (sym e ∙ q))))
 
 module _ (x : Call) where
   abbrev sheets : ℕ
@@ -160,13 +145,13 @@ module _ (w n : ℕ) (ts ws : List ℕ) (e : Ending) (r : Ended) (h : Ends w n t
       → buffer ≡ written (trail_numbers_of (trail_of e.state)) trail
   left_written trail q = rw (← left) q
 
-  pub seen : (v : ℕ) → v ≡ verdict_number r.verdict
-      → ◌≡◌ {A = Outcome} (record { verdict = v; steps = r.steps; number = r.number; entries = r.status.count; place = r.place }) (outcome_of e)
-  seen v q i =
+  pub seen : (v m p : ℕ) → v ≡ verdict_number r.verdict → m ≡ number_at r.refusal → p ≡ place_at r.refusal
+      → ◌≡◌ {A = Outcome} (record { verdict = v; steps = r.steps; number = m; entries = r.status.count; place = p }) (outcome_of e)
+  seen v m p a b d i =
       record {
-        verdict = (q ∙ ap verdict_number h.verdict) i;
+        verdict = (a ∙ ap verdict_number h.verdict) i;
         steps = h.steps i;
-        number = h.number i;
+        number = (b ∙ h.number) i;
         entries = (sym (trail_length w n ws r.status.count) ∙ ap length left) i;
-        place = h.place i;
+        place = (d ∙ h.place) i;
       }

@@ -2,19 +2,19 @@
 #![tactic(auto)]
 
 ghost use Rattle.std.specs.Prelude.{◌≡◌, ◌*◌, ◌≤◌, length};
-ghost use Rattle.calculus.specs.Numbers.{or_else, check_of};
+ghost use Rattle.calculus.specs.Numbers.{or_else, number_in};
 ghost use Rattle.calculus.specs.Sheets.{set_words, step_rows, length_refusal};
 ghost use Rattle.calculus.specs.Sorts.{sorts_refusal};
 ghost use Rattle.calculus.specs.Terms.{terms_refusal};
 ghost use Rattle.calculus.specs.Trail.{trail_numbers_of};
 ghost use Rattle.calculus.specs.Steps.{trail_of};
-ghost use Rattle.calculus.specs.Run.{turned_away, verdict_number, outcome_of, written};
+ghost use Rattle.calculus.specs.Run.{turned_away, outcome_of, written};
 ghost use Rattle.term_sheet.specs.Found.{most_numbers};
 ghost use Rattle.state.specs.States.{Standing};
 ghost use Rattle.run.specs.Ends.{run_in};
-ghost use Rattle.checker.specs.Contract.{call_of, Ran, Answered};
+ghost use Rattle.checker.specs.Contract.{call_of, outcome_in, Ran, Answered};
 
-use calculus::{Check, Level, Outcome, Verdict};
+use calculus::{Level, Outcome, Refusal};
 use state::Status;
 
 // The words of a set of term rows, of which there are n.
@@ -22,17 +22,6 @@ fn set_words(n: usize) -> usize
     ensures { result ≡ set_words n }
 {
     4
-}
-
-// The verdict as a number.
-fn verdict_number(v: Verdict) -> u16
-    ensures { result ≡ verdict_number v }
-{
-    match v {
-        Verdict::Open => 0,
-        Verdict::Refuted => 1,
-        Verdict::Refused => 2,
-    }
 }
 
 // Refused before any step: no steps and no entries.
@@ -49,14 +38,12 @@ pub fn turned_away(number: u16) -> Outcome
 }
 
 // The sort rows, then the term rows.
-fn check_sheets(sorts: &[u16], terms: &[u16]) -> Check
+#[tactic(auto, using(state::proofs::States::some_number), unfolding(calculus::specs::Numbers::or_else))]
+fn check_sheets(sorts: &[u16], terms: &[u16]) -> Result<(), Refusal>
     requires { (length sorts.now ≤ 64) × (length terms.now ≤ most_numbers) }
-    ensures { result ≡ check_of (or_else (sorts_refusal sorts.now) (terms_refusal sorts.now terms.now)) }
+    ensures { number_in result ≡ or_else (sorts_refusal sorts.now) (terms_refusal sorts.now terms.now) }
 {
-    let c = sort_sheet::check_sorts(sorts);
-    let Check::Passed = c else {
-        return c;
-    };
+    sort_sheet::check_sorts(sorts)?;
     term_sheet::check_terms(sorts, terms)
 }
 
@@ -78,17 +65,16 @@ fn run_log(
     let e = run::run_steps(terms, steps, work, w, n, st);
     let count = e.status.count;
     trail_sheet::write(work, w, n, count, trail);
-    let v = e.verdict;
     Outcome {
-        verdict: verdict_number(v),
+        verdict: u16::from(e.verdict),
         steps: e.steps,
-        number: e.number,
+        number: e.refusal.map_or(0, u16::from),
         entries: count as u16,
-        place: e.place,
+        place: e.refusal.map_or(0, Refusal::place),
     }
 }
 
-// The call where the lengths are no trouble; the workspace is left as the run used it.
+// The call where the lengths are no trouble; the workspace is left as the run used it. It is refused where the sheets or the input are, before any step.
 fn run_sheets(
     sorts: &[u16],
     terms: &[u16],
@@ -96,31 +82,21 @@ fn run_sheets(
     steps: &[u16],
     work: &mut [u64],
     trail: &mut [u16],
-) -> Outcome
+) -> Result<Outcome, Refusal>
     requires { length_refusal (call_of sorts.now terms.now inputs.now steps.now work.old trail.old) ≡ 0 }
     ensures { Ran (call_of sorts.now terms.now inputs.now steps.now
-        work.old trail.old) result trail.new }
+        work.old trail.old) (outcome_in result) trail.new }
 {
-    let c = check_sheets(sorts, terms);
-    match c {
-        Check::Refused(number) => turned_away(number),
-        Check::Passed => {
-            let n = terms.len() / 6;
-            let w = set_words(n);
-            let l = inputs::load(terms, inputs, work, w, n);
-            match l {
-                Check::Refused(number) => turned_away(number),
-                Check::Passed => {
-                    let st = Status {
-                        count: inputs.len() / 2,
-                        top: Level(0),
-                        conflict: false,
-                    };
-                    run_log(terms, steps, work, trail, w, n, st)
-                }
-            }
-        }
-    }
+    check_sheets(sorts, terms)?;
+    let n = terms.len() / 6;
+    let w = set_words(n);
+    inputs::load(terms, inputs, work, w, n)?;
+    let st = Status {
+        count: inputs.len() / 2,
+        top: Level(0),
+        conflict: false,
+    };
+    Ok(run_log(terms, steps, work, trail, w, n, st))
 }
 
 // Runs a log. With 30, 31, 32 nothing is written; otherwise the entries of the trail stand in `trail`, in order, with what follows
@@ -136,13 +112,13 @@ pub fn answer(
     ensures { Answered (call_of sorts.now terms.now inputs.now steps.now
         work.old trail.old) result work.new trail.new }
 {
-    let c = sheets::check_lengths(sorts, terms, inputs, steps, work, trail);
-    match c {
-        Check::Refused(number) => turned_away(number),
-        Check::Passed => {
-            let r = run_sheets(sorts, terms, inputs, steps, work, trail);
-            trail::wipe(work);
-            r
-        }
+    if let Err(refusal) = sheets::check_lengths(sorts, terms, inputs, steps, work, trail) {
+        return turned_away(u16::from(refusal));
+    }
+    let r = run_sheets(sorts, terms, inputs, steps, work, trail);
+    trail::wipe(work);
+    match r {
+        Ok(outcome) => outcome,
+        Err(refusal) => turned_away(u16::from(refusal)),
     }
 }
