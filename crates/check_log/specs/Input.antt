@@ -13,6 +13,11 @@ pub record Fed (s : Stream) (n : ℕ) (s' : Stream) : Type 0 where
   pub size : length bytes ≡ n
   pub all : s' ≡ feed_all s bytes
 
+-- some bytes were fed, in order: what came before a read that failed
+pub record FedSome (s s' : Stream) : Type 0 where
+  pub count : ℕ
+  pub fed : Fed s count s'
+
 -- n bytes were read and answered: the first k bytes of one buffer are what is printed, and the first j of the other what a person is told
 pub record Spoken (n k j : ℕ) (out said : List ℕ) : Type 0 where
   pub bytes : List ℕ

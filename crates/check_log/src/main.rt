@@ -5,7 +5,7 @@
 ghost use Rattle.std.specs.Prelude.{◌≡◌, ◌≤◌, IfOk, OnErr};
 ghost use Rattle.text_rows.specs.View.{Bounded};
 ghost use Rattle.text_stream.specs.Stream.{stream_of};
-ghost use Rattle.check_log.specs.Input.{Fed, Spoken};
+ghost use Rattle.check_log.specs.Input.{Fed, FedSome, Spoken};
 
 use std::io;
 use std::io::{Read, Stdin};
@@ -20,7 +20,7 @@ struct Spell {
     told: usize,
 }
 
-// One read: the bytes that it gives are fed. Answers how many they are, 0 at the end of the input.
+// One read: the bytes that it gives are fed. Answers how many they are, 0 at the end of the input. Where it fails, nothing is fed.
 fn read_piece(
     input: &mut Stdin,
     f: &mut Progress,
@@ -40,6 +40,10 @@ fn read_piece(
         n
         (stream_of f.new
         line.new names.new sorts.new terms.new inputs.new steps.new)) }
+    ensures unfed { OnErr result (stream_of f.new
+        line.new names.new sorts.new terms.new inputs.new steps.new
+        ≡ stream_of f.old
+        line.old names.old sorts.old terms.old inputs.old steps.old) }
 {
     let mut buf = [0u8; 65536];
     let size = input.read(&mut buf)?;
@@ -47,7 +51,8 @@ fn read_piece(
     Ok(size)
 }
 
-// Reads to the end, and answers how many bytes came. Nothing says that the input ends, so they are counted, up to a number that no run comes to.
+// Reads to the end, and answers how many bytes came. Where a read fails, what came before it was fed all the same. Nothing says that the input ends, so
+// the bytes are counted, up to a number that no run comes to.
 // Stays: a `for` would count reads, and not the bytes that are promised and at which it stops.
 fn read_all(
     input: &mut Stdin,
@@ -65,6 +70,11 @@ fn read_all(
         (stream_of f.old
         line.old names.old sorts.old terms.old inputs.old steps.old)
         n
+        (stream_of f.new
+        line.new names.new sorts.new terms.new inputs.new steps.new)) }
+    ensures fed_before { OnErr result (FedSome
+        (stream_of f.old
+        line.old names.old sorts.old terms.old inputs.old steps.old)
         (stream_of f.new
         line.new names.new sorts.new terms.new inputs.new steps.new)) }
 {

@@ -47,6 +47,13 @@ sets_part s cells ys at from n p q r =
     ∙ rw same (sets_room cells s from (length s - from) (omega arith))
     ∙ sets_from s cells at from p)
 
+-- the same where they are stored one after the other
+pub sets_fit : (s cells row ys : List ℕ) (at from n : ℕ) → from ≡ min at (length s) → n ≡ min (length s - from) (length cells) → row ≡ take n cells
+    → ys ≡ sets s from row → ys ≡ sets s at cells
+sets_fit s cells row ys at from n p q r e =
+    let same : row ≡ take (length s - from) cells = rw (r, q) (take_min (length s - from) cells) in
+    e ∙ rw same (sets_room cells s from (length s - from) (omega arith)) ∙ sets_from s cells at from p
+
 -- no row
 pub stored_none : (sheet : Sheet) (k : Kept) (s : Sheets) → stored sheet k s [] ≡ s
 unfolding stored

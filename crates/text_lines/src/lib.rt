@@ -271,12 +271,16 @@ fn line_step(core: Core, n: usize, l: &[u8], names: &mut [u8; 55392]) -> Step
 }
 
 // Stores a row's numbers from `at` on, as far as there is room.
+// Stays: `copy_from_slice` wants `memmove` of whoever links the library.
 fn store_all(sheet: &mut [u16], at: usize, cells: &[u16])
     ensures { sheet.new ≡ sets sheet.old at cells.now }
 {
     let from = at.min(sheet.len());
     let n = (sheet.len() - from).min(cells.len());
-    sheet[from..from + n].copy_from_slice(&cells[..n]);
+    let row = &cells[..n];
+    for j in 0..n {
+        sheet[from + j] = row[j];
+    }
 }
 
 // Stores a row in the sheet that its line goes to, behind the rows that the sheet has.

@@ -6,7 +6,7 @@ use native.Mathlib.Omega.{arith}
 use native.Mathlib.Nat.{add-zero}
 use native.Mathlib.Numerals.{add-one}
 use lib.ListN.{length, take, drop, get_or, set, length-set}
-use lib.Seq.{drop-drop, paste, paste-zero, paste-suc, take-paste, drop-paste}
+use lib.Seq.{drop-drop, paste, paste-zero, paste-suc, length-paste, take-paste, drop-paste}
 use Rattle.text_tags.specs.Tags.{tag_of}
 use Rattle.text_names.specs.Table.{slot_of, slot_put}
 
@@ -32,6 +32,9 @@ module _ (name : List ℕ) where
 module _ (d : List ℕ) (at : ℕ) (s : List ℕ) (i : ℕ) (t : List ℕ) (is : t ≡ paste d at s i) where
   pub put_more : (v : ℕ) → v ≡ get_or s i 0 → i < length s → at + i < length d → set t (at + i) v ≡ paste d at s (i + 1)
   put_more v e h k = rw (is, e, add-one) (paste-suc d at s i 0 k h)
+
+  pub put_length : i ≤ length s → at + i ≤ length d → length t ≡ length d
+  put_length h k = ap length is ∙ length-paste d at s i k h
 
 -- the stores that write a name's slot: three bytes, and then the name
 module _ (t : List ℕ) (s : ℕ) (name : List ℕ) (fits : s * 67 + 67 ≤ length t) (short : length name ≤ 64) where

@@ -116,6 +116,17 @@ pub fn find_name(table: &[u8], base: usize, count: usize, name: &[u8]) -> Option
     seek(table, base, count, name, tag).ok()
 }
 
+// Copies a name to a place.
+// Stays: `copy_from_slice` wants `memmove` of whoever links the library.
+fn copy(table: &mut [u8], at: usize, name: &[u8])
+    requires { at + length name.now ≤ length table.old }
+    ensures { table.new ≡ paste table.old at name.now (length name.now) }
+{
+    for i in 0..name.len() {
+        table[at + i] = name[i];
+    }
+}
+
 // Writes a name's slot.
 fn put_slot(table: &mut [u8], s: usize, name: &[u8], tag: usize)
     requires s_in_bounds { s * 67 + 67 ≤ length table.old }
@@ -128,7 +139,7 @@ fn put_slot(table: &mut [u8], s: usize, name: &[u8], tag: usize)
     table[place] = name.len() as u8;
     table[place + 1] = (tag % 256) as u8;
     table[place + 2] = (tag / 256) as u8;
-    table[place + 3..place + 3 + name.len()].copy_from_slice(name);
+    copy(table, place + 3, name);
 }
 
 // Puts name n into the table that begins at slot `base`, unless the table has it.
