@@ -5,23 +5,17 @@ ghost use Rattle.std.specs.Prelude.{◌≡◌, ◌+◌, ◌<◌, ◌^◌, length
 ghost use Rattle.std.proofs.lemmas.List.Edits.{sets};
 
 // Clears a buffer of bytes.
-// Stays: with `fill`, which stores the last item by itself, the compiler keeps the clearing of buffers that end there, and a check of a small text takes 1.4 times
-// as long (docs/LOOK-BACK.md).
 pub fn clear_bytes(d: &mut [u8])
     ensures { d.new ≡ replicate (length d.old) 0 }
 {
-    for i in 0..d.len() {
-        d[i] = 0;
-    }
+    d.fill(0);
 }
 
 // Clears a buffer of numbers.
 pub fn clear_numbers(numbers: &mut [u16])
     ensures { numbers.new ≡ replicate (length numbers.old) 0 }
 {
-    for i in 0..numbers.len() {
-        numbers[i] = 0;
-    }
+    numbers.fill(0);
 }
 
 // Stores a byte where there is room for it.
