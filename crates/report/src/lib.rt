@@ -170,6 +170,7 @@ fn told(is_told: bool, part: &[u8]) -> &[u8]
 }
 
 // The line for a person: answers how many bytes it is, and `out` holds it, cut where it is short, and then zeros. Nothing where there is no fault.
+// Out of line: inlined into the call from bytes, it hides from the compiler that nobody reads the buffers which that call clears at its end.
 #[inline(never)]
 pub fn tell(c: Complaint, out: &mut [u8]) -> usize
     ensures { Laid (length out.old) (complained c) result out.new }
