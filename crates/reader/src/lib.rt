@@ -93,7 +93,9 @@ fn early_end(whole: bool, n: usize) -> BadLine
 fn fault_of(core: Core, whole: bool, n: usize) -> Option<BadLine>
     ensures { (t : List ℕ) → fault_in result ≡ fault_of (control_of core t) whole n }
 {
-    if let Some(fault) = core.fault {
+    if let Some(fault) = core.fault
+        && u16::from(fault) != 0
+    {
         return Some(BadLine {
             line: core.line as u64,
             fault,
@@ -122,9 +124,9 @@ fn final_number(fault: Option<BadLine>, room: bool) -> u16
     ensures { result ≡ number_of (fault_in fault).number room }
 {
     match fault {
-        Some(bad) => u16::from(bad.fault),
-        None if room => 0,
-        None => 32,
+        Some(bad) if u16::from(bad.fault) != 0 => u16::from(bad.fault),
+        _ if room => 0,
+        _ => 32,
     }
 }
 

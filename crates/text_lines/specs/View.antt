@@ -9,7 +9,7 @@ use Rattle.text_rows.specs.declared.BadRow.{BadRow}
 use Rattle.text_rows.specs.declared.BadRow.TheVariants as bad
 use Rattle.text_lines.specs.Lines.{Control, Effect, line_effect, value_column}
 use Rattle.text_lines.specs.declared.Fault.{Fault}
-use Rattle.text_lines.specs.declared.Fault.TheVariants.{Name, Ceiling, Malformed}
+use Rattle.text_lines.specs.declared.Fault.TheVariants.{Name, Ceiling, Malformed, Given}
 use Rattle.text_lines.specs.declared.Sheet.{Sheet}
 use Rattle.text_lines.specs.declared.Sheet.TheVariants.{Sorts, Terms, Inputs, Steps}
 use Rattle.text_lines.specs.declared.Core.{Core}
@@ -20,16 +20,19 @@ abbrev pub fault_number : Fault → ℕ
 fault_number Name = 2
 fault_number Ceiling = 30
 fault_number (Malformed place why) = 31
+fault_number (Given number place why) = number
 
 abbrev pub fault_place : Fault → ℕ
 fault_place Name = 1
 fault_place Ceiling = 0
 fault_place (Malformed place why) = place
+fault_place (Given number place why) = place
 
 abbrev pub fault_why : Fault → Option Why
 fault_why Name = None
 fault_why Ceiling = None
 fault_why (Malformed place why) = Some why
+fault_why (Given number place why) = why
 
 -- the same where there may be none: the numbers are 0 then
 abbrev pub number_at : Option Fault → ℕ

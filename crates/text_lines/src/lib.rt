@@ -6,7 +6,7 @@ ghost use Rattle.std.proofs.lemmas.List.Edits.{sets};
 ghost use Rattle.text_fields.specs.Split.{pieces};
 ghost use Rattle.text_rows.specs.View.{kept_of, taken_in, Bounded, Within};
 ghost use Rattle.text_lines.specs.Lines.{quiet, bad, enter, header_of, header, next_sheet, row_of, value_column, row, read_line, line_effect};
-ghost use Rattle.text_lines.specs.View.{fault_number, fault_place, fault_why, row_fault, control_of, effect_of, StepBounded, sheets_of, stored, LineEnded};
+ghost use Rattle.text_lines.specs.View.{fault_number, fault_place, fault_why, number_at, row_fault, control_of, effect_of, StepBounded, sheets_of, stored, LineEnded};
 
 use text_faults::Why;
 use text_rows::{BadRow, Counts, Row};
@@ -20,6 +20,9 @@ pub enum Fault {
     Ceiling,
     // 31: malformed in that field, counted from 1, or 0 for the line as a whole; and why.
     Malformed(usize, Why),
+    // A number, a field and a cause, as a caller that makes a `Core` of its own gives them: no line of a text has this. Number 0 is that of no
+    // fault, whatever stands beside it.
+    Given(u16, usize, Option<Why>),
 }
 
 impl Fault {
@@ -31,6 +34,7 @@ impl Fault {
             Fault::Name => 1,
             Fault::Ceiling => 0,
             Fault::Malformed(place, _) => place,
+            Fault::Given(_, place, _) => place,
         }
     }
 
@@ -40,6 +44,7 @@ impl Fault {
     {
         match self {
             Fault::Malformed(_, why) => Some(why),
+            Fault::Given(_, _, why) => why,
             _ => None,
         }
     }
@@ -54,6 +59,7 @@ impl From<Fault> for u16 {
             Fault::Name => 2,
             Fault::Ceiling => 30,
             Fault::Malformed(..) => 31,
+            Fault::Given(number, ..) => number,
         }
     }
 }
@@ -75,6 +81,15 @@ pub struct Core {
     pub headed: bool,
     pub line: usize,
     pub counts: Counts,
+}
+
+impl Core {
+    // The number of the first bad line's fault, 0 where no line is bad.
+    pub fn number(&self) -> u16
+        ensures { result ≡ number_at self.now.fault }
+    {
+        self.fault.map_or(0, u16::from)
+    }
 }
 
 // What a line does: where the reading stands after it, and the first `width` numbers of its row.
@@ -256,10 +271,10 @@ fn read_line(core: Core, line: &[u8], names: &mut [u8; 55392]) -> Step
 }
 
 // What line n does, after good lines.
-#[tactic(auto, unfolding(crate::specs::Lines::line_effect))]
+#[tactic(auto, using(std::proofs::lemmas::Bool::Decides::nat_tests), unfolding(crate::specs::Lines::line_effect))]
 fn line_step(core: Core, n: usize, l: &[u8], names: &mut [u8; 55392]) -> Step
     requires bounded { Bounded core.counts }
-    requires no_fault { core.fault ≡ None }
+    requires no_fault { number_at core.fault ≡ 0 }
     ensures names_after { effect_of result names.new ≡ line_effect (control_of core names.old) n l.now }
     ensures step_bounded { StepBounded result }
 {
@@ -319,7 +334,7 @@ pub fn end_line(
     steps: &mut [u16],
 ) -> Core
     requires bounded { Bounded core.counts }
-    requires no_fault { core.fault ≡ None }
+    requires no_fault { number_at core.fault ≡ 0 }
     ensures line_ended { LineEnded (control_of core names.old) n l.now
         (sheets_of sorts.old terms.old inputs.old steps.old)
         (control_of result names.new)

@@ -97,7 +97,8 @@ fn feed_part(
         return Progress { pos: held, core };
     }
     let next = text_position::next_line(held.line, held.at);
-    if core.fault.is_some() {
+    let number = core.number();
+    if number != 0 {
         return Progress { pos: next, core };
     }
     let l = line_of(whole, &rest[..n], line, held.at);

@@ -1,5 +1,6 @@
 -- The bytes up to the next newline.
-use Rattle.text_stream.proofs.Runs.{hold_clear, part_held, part_late, part_ended, faulty}
+use Rattle.text_stream.proofs.Runs.{hold_clear, part_held, part_late, part_ended}
+use native.Mathlib.Omega.{arith}
 use borrow.Author.Rules.{rules}
 use Rattle.text_stream.proofs.feed_part.Goals as goal
 
@@ -13,11 +14,11 @@ hold-held-requires c =
 pub returns-then-n-end : goal.returns-then-n-end
 returns-then-n-end c = search part_held
 
-pub returns-then-is_some : goal.returns-then-is_some
-returns-then-is_some c =
+pub returns-then-number-ne0 : goal.returns-then-number-ne0
+returns-then-number-ne0 c =
     record {
       steps_after = part_late _ _ _ _ c.requires.n_value _ c.stands_whole-whole.ensures _ c.to_hold.ensures _ _ c.hold-held.ensures _ _ _
-          c.requires.n_in_bounds c.if-n-end.false c.next_line-next.ensures (faulty c.args.f.core.fault (cc));
+          c.requires.n_in_bounds c.if-n-end.false c.next_line-next.ensures (λ z. omega arith);
       stays_bounded = c.requires.bounded;
     }
 
