@@ -1,16 +1,17 @@
 -- Rows of a conflict in the words: where they stand, and their justifications there.
-use mathlib.Core.Path.{◌≡◌, refl, ap, subst, ◌∙◌}
+use mathlib.Core.Path.{◌≡◌, refl, sym, ap, subst, ◌∙◌}
 use mathlib.Core.Bool.{Bool, true, false, ◌||◌, cond}
 use mathlib.Core.List.{List, [], ◌∷◌}
 use Prim.Native.Nat.{ℕ, suc, ◌+◌, ◌*◌, ◌≤◌, ◌<◌, max}
 use native.Mathlib.Omega.{arith}
 use lib.ListN.{length}
-use lib.Dec.{T, eqb}
+use lib.Dec.{T, eqb, ltb}
+use borrow.Author.Tests.{ltb-true, ltb-false}
 use Rattle.std.proofs.lemmas.Bool.Decides.{nat_tests}
 use Rattle.calculus.specs.Numbers.{unless}
 use Rattle.calculus.specs.Steps.{resolve_refusal, clear_refusal, jump_refusal, flip_refusal}
 use Rattle.calculus.specs.Sheets.{term_rows}
-use Rattle.calculus.specs.Trail.{Set, Trail, intersection, on, entry, level_at, decided_at, why_at, level_of, top_level}
+use Rattle.calculus.specs.Trail.{Set, Trail, intersection, on, entry, level_at, decided_at, why_at, level_of, top_level, holds, first_order}
 use Rattle.calculus.specs.WellFormed.{Within, WellFormed}
 use Rattle.calculus.proofs.Facts.{true_T, true_or_false}
 use Rattle.calculus.proofs.Entries.{level_top, level_at_lem}
@@ -22,6 +23,7 @@ use Rattle.calculus.proofs.Trails.{holds_wider}
 use Rattle.trail.proofs.Frames.{why_words}
 use Rattle.moves.specs.Post.{conflict_in, Above, rest_level, lower_level}
 use Rattle.state.specs.declared.Status.{Status}
+use Rattle.state.proofs.Tests.{told, told_yes}
 use Rattle.conflict_moves.specs.Back.{ToResolve, ToClear}
 use Rattle.conflicts.proofs.Laws.{found}
 use Rattle.conflicts.specs.Conflicts.{Conflicted, Found, Member, Justified, why_in, conflict_level, holds_first_order}
@@ -60,6 +62,14 @@ module _ (w n : ℕ) (ws : List ℕ) (count : ℕ) where
 
   abbrev level : ℕ
   level = conflict_level w n ws count
+
+  -- a row that was found in the conflict
+  pub member : (t : ℕ) {b : Bool} → Found w n ws count → t < n → b ≡ conflict_in w n ws t → b ≡ true → Member w n ws count t
+  member t f l e h = record { found = f; row = l; inside = told_yes e h }
+
+  -- and is no decision
+  pub justified : (t : ℕ) {d : Bool} → Member w n ws count t → d ≡ decided_at here t → d ≡ false → Justified w n ws count t
+  justified t p e h = record { member = p; justified = told e h }
 
   -- a member of the conflict stands on the trail
   pub stands : (t : ℕ) → Member w n ws count t → on here t ≡ true
@@ -107,6 +117,32 @@ module _ (w n : ℕ) (ws : List ℕ) (count : ℕ) where
         let both = holds_wider here (why_at here t) (intersection (why_at here t) (why_at here t)) _ (λ u i. rw i) h in
         let q = held_high ts t t rows j.member.found (true_T _ both) in
         f q.0 q.1)
+
+    module _ (ts : List ℕ) (rows : n ≡ term_rows ts) {m : ℕ} (m_is : on here t ≡ true → m ≡ level_at here t) where
+      -- m is the row's own level
+      own : m ≡ level_at here t
+      own = m_is (stands t j.member)
+
+      -- so there is none where the row's own level is 0
+      pub barred_at_base : m ≡ 0 → false ≡ holds_first_order w n ts ws count (why_in w n ws count t)
+      barred_at_base z = sym (none_held ts rows (λ l p. omega (arith, own)))
+
+      -- nor where the conflict's is above it
+      pub barred_below : {b : Bool} → b ≡ ltb m level → b ≡ true → false ≡ holds_first_order w n ts ws count (why_in w n ws count t)
+      barred_below e h = sym (none_held ts rows (λ l p. omega (arith, own, ltb-true m level (told e h))))
+
+      -- otherwise the row, a member of the conflict, is of the conflict's level, and its words tell
+      pub barred_by : {b c : Bool} → c ≡ ltb m level → c ≡ false → b ≡ holds here (set_at ws (t * w) w) (first_order ts m)
+          → b ≡ holds_first_order w n ts ws count (why_in w n ws count t)
+      barred_by e h q =
+          let same : m ≡ level = omega (arith, not_higher, own, ltb-false m level (told e h)) in
+          rw (q, same, why_there)
+
+  -- of two justified rows their words tell
+  pub shared_by : (ts : List ℕ) (l k : ℕ) {b : Bool} {m : ℕ} → Justified w n ws count l → Justified w n ws count k → m ≡ level
+      → b ≡ holds here (intersection (set_at ws (l * w) w) (set_at ws (k * w) w)) (first_order ts m)
+      → b ≡ holds_first_order w n ts ws count (intersection (why_in w n ws count l) (why_in w n ws count k))
+  shared_by ts l k i j q e = rw (e, q, why_there l i, why_there k j)
 
 -- ---- what the moves ask, where the number is 0
 

@@ -1,2 +1,3 @@
 -- The laws.
 pub mod Laws
+pub mod Tests

@@ -80,7 +80,7 @@ fn level_suits(work: &[u64], w: usize, n: usize, count: usize, x: Step, rest: Le
 // ---- the number
 
 // Numbers 17, 22, 25, 14, 21; `rest` is the level of the rest of the conflict.
-#[tactic(auto, using(crate::proofs::Laws::columns, crate::proofs::Laws::premised), unfolding(calculus::specs::Steps::learn_refusal, calculus::specs::Numbers::unless))]
+#[tactic(auto, using(crate::proofs::Laws::columns, crate::proofs::Laws::members_stand), unfolding(calculus::specs::Steps::learn_refusal, calculus::specs::Numbers::unless))]
 fn learn_refusal(
     terms: &[u16],
     work: &[u64],

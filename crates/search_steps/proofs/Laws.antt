@@ -1,27 +1,32 @@
--- What a rule is asked of, the level of a clash, and what the tests that are passed say.
-use mathlib.Core.Path.{◌≡◌}
+-- What a rule answers, what it is asked of, the level of a clash, and what the tests that are passed say.
+use mathlib.Core.Path.{◌≡◌, refl, ◌∙◌}
 use mathlib.Core.Bool.{Bool, true, false}
 use mathlib.Core.List.{List, [], ◌∷◌}
 use mathlib.Core.Logic.{◌⊎◌, inl, inr}
 use Prim.Native.Nat.{ℕ, max, ◌<◌}
 use native.Mathlib.Omega.{arith}
 use lib.Dec.{T, ltb, lt→ltb}
+use Rattle.std.specs.Prelude.{Result, Ok, Err}
 use Rattle.calculus.specs.declared.Kind.{Kind}
+use Rattle.calculus.specs.declared.Rule.{Rule}
 use Rattle.calculus.specs.declared.Step.{Step}
 use Rattle.calculus.specs.Steps as calculus
 use Rattle.calculus.specs.Lists.{all, has}
 use Rattle.calculus.specs.declared.Refusal.{Refusal}
-use Rattle.calculus.specs.Numbers.{unless, number}
+use Rattle.calculus.specs.declared.Refusal.TheVariants.{Unfit}
+use Rattle.calculus.specs.Numbers.{unless, number, fit_of}
 use Rattle.calculus.specs.Sheets.{term_rows}
 use Rattle.calculus.specs.Trail.{Trail, on, level_at, level_of, premises_at}
+use Rattle.calculus.specs.Rules.{fits, rule_of}
 use Rattle.calculus.specs.Steps.{premises, clash_set, decide_refusal, inference_refusal, deduce_refusal, contradiction_refusal}
-use Rattle.calculus.specs.Place.{place_of}
+use Rattle.calculus.specs.Place.{unfit_place, place_of}
 use Rattle.calculus.specs.WellFormed.{Below, Within}
 use Rattle.calculus.proofs.Facts.{both_true, and_both, unless_ok, T_false}
 use Rattle.calculus.proofs.Trails.{on_below, room_more}
 use Rattle.calculus.proofs.WellFormed.{level_more, top_length, inference_ok, contradiction_ok}
 use Rattle.completions.specs.Search.{is_row}
 use Rattle.rule_claims.specs.declared.Claim.{Claim}
+use Rattle.rule_claims.specs.Claims.{premises_of}
 use Rattle.trail.specs.Words.{trail_in}
 use Rattle.trail.proofs.Laws.{trail_length}
 use Rattle.state.specs.declared.Status.{Status}
@@ -32,8 +37,27 @@ use Rattle.search_steps.specs.Searches.{Searching, Inferred, Inference, Passed}
 
 -- ---- the rule
 
+pub fits_true : {b : Bool} (c : ℕ) → fit_of b c ≡ Ok tt → b ≡ true
+fits_true {b = true} c e = refl
+fits_true {b = false} c e = let z : ◌≡◌ {A = ℕ} 0 1 = cc in absurd (omega arith)
+
+pub fits_false : {b : Bool} (c d : ℕ) → fit_of b c ≡ Err (Unfit d) → (b ≡ false) × (d ≡ c)
+fits_false {b = true} c d e = let z : ◌≡◌ {A = ℕ} 0 1 = cc in absurd (omega arith)
+fits_false {b = false} c d e = (refl, cc)
+
+module _ (ts : List ℕ) (tr : Trail) (x : Step) where
+  -- the column at which a row goes wrong that its rule does not allow
+  abbrev pub unfit_at : ℕ
+  unfit_at = unfit_place ts (rule_of x.rule) x.term x.value (premises_at tr (premises x))
+
+  -- what the test of a row's claim answers is what the rule says of the row
+  pub tested : {y : Claim} {k : Rule} {f : Result (Unit {0}) Refusal}
+      → f ≡ fit_of (fits ts k y.term.0 y.value (premises_of y)) (unfit_place ts k y.term.0 y.value (premises_of y))
+      → k ≡ rule_of x.rule → Claims tr x y → f ≡ fit_of (fits ts (rule_of x.rule) x.term x.value (premises_at tr (premises x))) unfit_at
+  tested e q c = e ∙ rw (q, c.term, c.value, c.premises)
+
 -- premises that stand on the trail are rows of the sheet
-rows_on : (ts : List ℕ) (tr : Trail) (n : ℕ) → n ≡ term_rows ts → Below n tr → (ps : List ℕ) → all (on tr) ps ≡ true
+pub rows_on : (ts : List ℕ) (tr : Trail) (n : ℕ) → n ≡ term_rows ts → Below n tr → (ps : List ℕ) → all (on tr) ps ≡ true
     → T (all (is_row ts) (premises_at tr ps))
 rows_on ts tr n e b [] h = tt
 rows_on ts tr n e b (p ∷ ps) h =

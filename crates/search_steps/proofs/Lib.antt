@@ -1,2 +1,4 @@
 -- The laws.
 pub mod Laws
+pub mod Tests
+pub mod Answers

@@ -10,7 +10,7 @@ use Rattle.calculus.specs.declared.Step.{Step}
 use Rattle.calculus.specs.declared.Kind.{Kind}
 use Rattle.calculus.specs.declared.Kind.TheVariants.{Decide, Resolve, Clear, Jump, Flip, Learn, Unlisted}
 use Rattle.calculus.specs.declared.Refusal.{Refusal}
-use Rattle.calculus.specs.declared.Refusal.TheVariants.{Columns}
+use Rattle.calculus.specs.declared.Refusal.TheVariants.{Columns, State, NoRow}
 use Rattle.calculus.specs.Lists.{all}
 use Rattle.calculus.specs.Numbers.{unless, number, place, number_in, place_in}
 use Rattle.calculus.specs.Sheets.{blank, term_rows}
@@ -19,7 +19,7 @@ use Rattle.calculus.specs.Terms.{filled}
 use Rattle.calculus.specs.Steps as calculus
 use Rattle.calculus.specs.Steps.{is_filled, premises, inference_shaped, pair_shaped, learn_shaped, shaped}
 use Rattle.calculus.specs.Steps.{needs_conflict, ready, known, step_by, row_refusal, kind_of, step}
-use Rattle.calculus.specs.Place.{place_of}
+use Rattle.calculus.specs.Place.{strange_place, place_of}
 use Rattle.calculus.proofs.Unplaced.{Unplaced, decide_nowhere, resolve_nowhere, clear_nowhere, jump_nowhere, flip_nowhere, learn_nowhere}
 use Rattle.calculus.proofs.Facts.{facts, true_T, T_true, both_true, unless_ok}
 use Rattle.trail.specs.Words.{trail_in}
@@ -30,6 +30,7 @@ use Rattle.std.specs.Result.{IsErrAnd}
 use Rattle.state.specs.declared.Next.TheVariants.{On, Refuted}
 use Rattle.state.specs.States.{state_in, Standing, nowhere, Answer, Answers}
 use Rattle.state.proofs.States.{in_conflict_lem, in_search, trail_there, conflict_there, refused_with, passed_by}
+use Rattle.state.proofs.Tests.{told_not, told_yes, past, stops}
 use Rattle.search_steps.specs.Searches.{Searching, Inferring, Inference}
 use Rattle.conflicts.specs.Conflicts.{Conflicted}
 use Rattle.learning.specs.Learns.{ToLearn}
@@ -83,6 +84,27 @@ module _ (w n : ℕ) (ts ws : List ℕ) (st : Status) (k : Kind) where
   ready_there : ready (state_in w n ws st) k ≡ cond (needs_conflict k) st.conflict (not st.conflict)
   unfolding ready
   ready_there = ap (λ b. cond (needs_conflict k) b (not b)) (conflict_there w n ws st)
+
+-- ---- the number of each test of a row
+
+module _ (ts : List ℕ) (x : Step) {a b : Bool} where
+  pub row_9 : a ≡ false → RowRefused ts x a b (Err Columns)
+  unfolding place_of
+  row_9 h = record { number = stops _ _ h; place = λ tr. refl }
+
+  module _ (a_in : a ≡ true) where
+    pub row_10 : b ≡ false → RowRefused ts x a b (Err State)
+    unfolding place_of
+    row_10 h = record { number = past _ _ a_in (stops _ _ h); place = λ tr. refl }
+
+    module _ (b_in : b ≡ true) {c : Bool} (c_is : c ≡ known ts x) where
+      pub row_11 : {p : ℕ} → c ≡ false → p ≡ strange_place ts x → RowRefused ts x a b (Err (NoRow p))
+      unfolding place_of
+      row_11 h q = record { number = past _ _ a_in (past _ _ b_in (stops _ _ (told_not c_is h))); place = λ tr. q }
+
+      pub row_0 : c ≡ true → RowRefused ts x a b (Ok tt)
+      unfolding place_of
+      row_0 h = record { number = past _ _ a_in (past _ _ b_in (past _ _ (told_yes c_is h) refl)); place = λ tr. refl }
 
 -- ---- a row of kind k
 
