@@ -42,7 +42,8 @@ module _ (w n : ℕ) (ts log : List ℕ) (e : Ending) where
   module _ (ws : List ℕ) (st : Status) (k : ℕ) (r : Running ws st k) where
     -- an ending in this state
     ended : (x : Ended) → x.status ≡ st
-        → e ≡ record { verdict = x.verdict; steps = x.steps; number = number_at x.refusal; place = place_at x.refusal; state = state_in w n ws st } → Ends w n ts ws e x
+        → e ≡ record { verdict = x.verdict; steps = x.steps; number = number_at x.refusal; place = place_at x.refusal; state = state_in w n ws st }
+        → Ends w n ts ws e x
     ended x q h =
         record {
           verdict = sym (ap (λ (y : Ending). y.verdict) h);

@@ -22,7 +22,9 @@ returns-in_default c =
 pub loop-k-preserved : goal.loop-k-preserved
 loop-k-preserved c =
     let loop = c.loop-k in
-    let gone = goes_on _ _ _ _ _ _ _ loop.k loop.invariant.1 _ (omega arith) c.step_at-x.ensures c.in-Some.next c.step-a.result c.step-a.ensures c.onward.ensures c.in-Some.is in
+    let gone =
+    goes_on _ _ _ _ _ _ _ loop.k loop.invariant.1 _ (omega arith) c.step_at-x.ensures
+    c.in-Some.next c.step-a.result c.step-a.ensures c.onward.ensures c.in-Some.is in
     (omega arith, gone)
 
 pub returns : goal.returns
