@@ -27,7 +27,7 @@ none_left k x h i u =
 
 module _ (k x : ℕ) (p : 0 < x) (small : x < 2 ^ 64) where
   first_in : count_trailing_zeros 64 x < 64
-  first_in = zeros_less x p small
+  first_in = zeros_less 64 x p small
 
   first_word : first_of k x / 64 ≡ k
   first_word = omega (arith, first_in)

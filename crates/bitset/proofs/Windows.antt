@@ -9,6 +9,7 @@ use lib.Dec.{eqb, ltb}
 use lib.ListN.{length, get_or, set, replicate, length-set}
 use borrow.Rule.Slice.PartMut.{put_mid}
 use Rattle.std.proofs.lemmas.List.{places}
+use Rattle.std.proofs.lemmas.Nat.{one_shl}
 use lib.Seq.{get_or-set_same, get_or-set_other}
 use lib.Bits.{bit_or, bit_and}
 use borrow.Author.Tests.{ltb-true, ltb-false, eqb-true, eqb-false, lt-ltb, le-ltb, eq-eqb, ne_eqb}
@@ -55,6 +56,10 @@ pub holds_twice : (ws us vs : List ℕ) (b w : ℕ) (s r : Set) → Holds ws us 
 holds_twice ws us vs b w s r one two = record { only = only_twice ws us vs b w one.only two.only; set = two.set }
 
 -- ---- a word with one bit changed
+
+-- the code's 1 << (t % 64)
+pub mask : (t : ℕ) → 1 * 2 ^ (t % 64) % 2 ^ 64 ≡ 2 ^ (t % 64)
+mask t = one_shl (t % 64) 64 (omega arith)
 
 -- u is t where its word and its bit are
 pub same_row : (u t : ℕ) → u / 64 ≡ t / 64 → eqb (u % 64) (t % 64) ≡ eqb u t

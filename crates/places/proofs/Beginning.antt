@@ -1,5 +1,5 @@
 -- Rows that cannot be the first premise of trans and pred.
-use mathlib.Core.Path.{◌≡◌}
+use mathlib.Core.Path.{◌≡◌, sym}
 use mathlib.Core.Bool.{Bool, false, ◌&&◌}
 use mathlib.Core.List.{List, []}
 use Prim.Native.Nat.{ℕ}
@@ -48,6 +48,9 @@ module _ (ts : List ℕ) (l r : ℕ) where
     begins_pred q = rw (q, e_row, f_row) (record { passed = λ v. asked (pred_start v) })
 
   module _ (k : Rule) (v : ℕ) where
+    pub begun_not : {b : Bool} → Begins ts k l r b → b ≡ false → false ≡ followed ts k l v [] (with 0 r)
+    begun_not {b} h e = sym (h.passed v e)
+
     pub begun_follows : (none : Columns) {b : Bool} → none.count ≡ 0 → b ≡ followed ts k l v (listed none) (with 0 r) → b ≡ followed ts k l v [] (with 0 r)
     unfolding listed
     begun_follows none z e = rw z at e

@@ -151,6 +151,9 @@ module _ (ts : List ℕ) (k : Rule) (l : Row) (v : ℕ) (x : Columns) {n : ℕ} 
   rows_of : all (is_row ts) (listed x) ≡ b
   rows_of = ap (λ m. all (λ p. ltb p.row m) (listed x)) (sym rows) ∙ sym all_rows
 
+  pub serves_not : b ≡ false → false ≡ serves ts k l.0 v (listed x)
+  serves_not e = rw (rows_of ∙ e)
+
   pub serves_fits : {c : Claim} {r : Bool} → b ≡ true → Fits w16 n → c ≡ claim_of l v x → r ≡ allows ts k c → r ≡ serves ts k l.0 v (listed x)
   serves_fits e f c r =
       let h = e in

@@ -49,6 +49,9 @@ module _ (ts : List ℕ) (k : Rule) (l v : ℕ) where
       served : way i ≡ b
       served = ap (λ ps. serves ts k l v (over (listed known) ps)) (sym o) ∙ ap (serves ts k l v) (sym d) ∙ sym s
 
+      pub no_way_more : NoWay i → b ≡ false → NoWay (i + 1)
+      no_way_more h e = some_more way i h (served ∙ e)
+
       pub followed_yes : {w : ℕ} → w ≡ ways k → i < w → b ≡ true → true ≡ followed ts k l v (listed known) f
       unfolding followed
       followed_yes w m e = some_found way (ways k) i (omega arith) (served ∙ e)
@@ -66,6 +69,9 @@ module _ (ts : List ℕ) (k : Rule) (l v : ℕ) where
   -- no row below r does
   abbrev pub NoRow : ℕ → Type 0
   NoRow r = somewhere r begins ≡ false
+
+  pub no_row_more : (r : ℕ) {b : Bool} → NoRow r → b ≡ followed ts k l v [] (with 0 r) → b ≡ false → NoRow (r + 1)
+  no_row_more r h s e = some_more begins r h (sym s ∙ e)
 
   module _ (known : Columns) where
     pub extensible_known : {b : Bool} → (known.count ≡ 0 → ⊥) → b ≡ followed ts k l v (listed known) known.p → b ≡ extensible ts k l v (listed known)

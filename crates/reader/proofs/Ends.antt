@@ -1,20 +1,42 @@
 -- Laws of the end of a text.
 use Prim.Native.Nat.{ℕ}
-use mathlib.Core.Path.{◌≡◌, ap, ◌∙◌}
-use mathlib.Core.Bool.{Bool}
+use mathlib.Core.Path.{◌≡◌, ap, sym, ◌∙◌}
+use mathlib.Core.Bool.{Bool, true, false, not}
 use mathlib.Core.List.{List}
+use borrow.Author.Tests.{eq-eqb, not-true, not-false}
 use lib.Dec.{eqb}
 use lib.ListN.{length, replicate}
 use Rattle.text_names.proofs.Table.{length_names}
 use Rattle.text_rows.specs.View.{kept_of}
 use Rattle.text_rows.specs.declared.Counts.{Counts}
+use Rattle.text_lines.specs.declared.Core.{Core}
 use Rattle.text_stream.specs.declared.Progress.{Progress}
 use Rattle.reader.specs.declared.ReadOutcome.{ReadOutcome}
-use Rattle.reader.specs.Text.{Fault, fault_of, counted, outcome_of}
+use Rattle.reader.specs.Text.{Fault, is_steps, end_fault, no_fault, fault_of, counted, outcome_of}
 use Rattle.text_faults.specs.Why.{why_number}
-use Rattle.text_lines.specs.View.{control_of}
+use Rattle.text_lines.specs.View.{control_of, number_at}
 use Rattle.text_stream.specs.Stream.{stream_of}
 use Rattle.reader.specs.Stream.{stream_fault, stream_number, hold_rows, number_of, left_sheet, Finished}
+
+-- the fault, test after test
+module _ (core : Core) (t : List ℕ) (whole : Bool) (n : ℕ) (good : number_at core.fault ≡ 0) {steps : Bool} (steps_is : steps ≡ is_steps core.sheet) where
+  pub fault_sheet : {r : Fault} → steps ≡ false → r ≡ end_fault whole n → r ≡ fault_of (control_of core t) whole n
+  fault_sheet h is = is ∙ rw (eq-eqb (number_at core.fault) 0 good, sym steps_is ∙ h)
+
+  module _ (in_steps : steps ≡ true) where
+    pub fault_header : {r : Fault} → not core.headed ≡ true → r ≡ end_fault whole n → r ≡ fault_of (control_of core t) whole n
+    fault_header h is = is ∙ rw (eq-eqb (number_at core.fault) 0 good, sym steps_is ∙ in_steps, not-true core.headed h)
+
+    module _ (has_header : not core.headed ≡ false) where
+      pub fault_rest : {r : Fault} → whole ≡ false → r ≡ end_fault whole n → r ≡ fault_of (control_of core t) whole n
+      fault_rest h is =
+          let e = h in
+          is ∙ rw (eq-eqb (number_at core.fault) 0 good, sym steps_is ∙ in_steps, not-false core.headed has_header, e)
+
+      pub fault_none : whole ≡ true → no_fault ≡ fault_of (control_of core t) whole n
+      fault_none h =
+          let e = h in
+          rw (eq-eqb (number_at core.fault) 0 good, sym steps_is ∙ in_steps, not-false core.headed has_header, e)
 
 -- what is returned
 pub outcome_counts : (number : ℕ) (f : Fault) (n : Counts) (t : List ℕ) (a b c d w l p : ℕ)

@@ -42,7 +42,8 @@ module _ (w n : ℕ) (ts log : List ℕ) (e : Ending) where
   module _ (ws : List ℕ) (st : Status) (k : ℕ) (r : Running ws st k) where
     -- an ending in this state
     ended : (x : Ended) → x.status ≡ st
-        → e ≡ record { verdict = x.verdict; steps = x.steps; number = number_at x.refusal; place = place_at x.refusal; state = state_in w n ws st } → Ends w n ts ws e x
+        → e ≡ record { verdict = x.verdict; steps = x.steps; number = number_at x.refusal; place = place_at x.refusal; state = state_in w n ws st }
+        → Ends w n ts ws e x
     ended x q h =
         record {
           verdict = sym (ap (λ (y : Ending). y.verdict) h);
@@ -110,10 +111,14 @@ module _ (w n : ℕ) (ts log : List ℕ) (e : Ending) where
           unmoved a.2 _ (ended (stopped_by (Err c) k st) refl (sym r.same ∙ number_is ∙ ap placed (the_place (number c) ∙ sym a.1)))
 
       -- any answer that lets the run not go on
-      pub stops : {y : Ended} {o : Option Status} (a : Answer) → o ≡ onward a → o ≡ None → Said a → y ≡ stopped_by a k st → Ends w n ts vs e y
-      stops (Err c) p z s q = rw q (refuses c s)
-      stops (Ok next.Refuted) p z s q = rw q (refutes s)
-      stops (Ok (On to)) p z s q = absurd (none_some (sym z ∙ p))
+      pub stops : {y : Ended} (a : Answer) → ((to : Status) → a ≡ Ok (On to) → ⊥) → Said a → y ≡ stopped_by a k st → Ends w n ts vs e y
+      stops (Err c) t s q = rw q (refuses c s)
+      stops (Ok next.Refuted) t s q = rw q (refutes s)
+      stops (Ok (On to)) t s q = absurd (t to refl)
+
+      -- the same, told by the status that it gives
+      pub stops_none : {y : Ended} {o : Option Status} (a : Answer) → o ≡ onward a → o ≡ None → Said a → y ≡ stopped_by a k st → Ends w n ts vs e y
+      stops_none a p z = stops a (λ to q. none_some (sym z ∙ p ∙ ap onward q))
 
 -- no row is behind
 pub starts : (w n : ℕ) (ts log ws : List ℕ) (st : Status) → Standing w n ts ws st → Running w n ts log (run_in w n ts log ws st) ws st 0

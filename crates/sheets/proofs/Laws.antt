@@ -9,7 +9,15 @@ use lib.Dec.{leb}
 use borrow.Author.Tests.{leb-true, leb-false}
 use Rattle.std.specs.Prelude.{Result, Err}
 use Rattle.calculus.specs.declared.Refusal.{Refusal}
-use Rattle.calculus.specs.Numbers.{or_else, first_refusal, number, number_in}
+use Rattle.calculus.proofs.Facts.{unless_yes, unless_no}
+use Rattle.calculus.specs.Numbers.{unless, or_else, first_refusal, number, number_in}
+
+-- a test that fails gives its number, and one that passes the rest
+pub stop : (a : Bool) (n r : ℕ) → a ≡ false → n ≡ unless a n r
+stop a n r e = sym (unless_no n r e)
+
+pub pass : (a : Bool) (n r x : ℕ) → a ≡ true → x ≡ r → x ≡ unless a n r
+pass a n r x e q = q ∙ sym (unless_yes n r e)
 
 -- a refusal's number is not 0
 pub number_some : (r : Refusal) → number r ≡ 0 → ⊥

@@ -1,6 +1,6 @@
 -- What holds of the sheets and the lent buffers once their lengths have passed; what holds of an input row that passed.
 use mathlib.Core.Path.{◌≡◌, refl, sym}
-use mathlib.Core.Bool.{Bool, true, false, ◌&&◌, true≢false}
+use mathlib.Core.Bool.{Bool, true, false, not, ◌&&◌, true≢false}
 use mathlib.Core.List.{List}
 use Prim.Native.Nat.{ℕ, ◌*◌, ◌/◌, ◌%◌, ◌≤◌, ◌<◌}
 use native.Mathlib.Omega.{arith}
@@ -9,7 +9,8 @@ use lib.Dec.{eqb, leb, ltb, ltb→lt}
 use borrow.Author.Tests.{leb-true, eqb-true}
 use Rattle.calculus.proofs.Facts.{both_true, unless_ok, T_true}
 use Rattle.calculus.specs.Numbers.{or_else}
-use Rattle.calculus.specs.Sheets.{Call, sort_rows, term_rows, input_rows, step_rows, whole, within, roomy, length_refusal, work_words, trail_numbers}
+use Rattle.calculus.specs.Sheets.{Call, blank, sort_rows, term_rows, input_rows, step_rows, whole, within, roomy, length_refusal, work_words, trail_numbers}
+use Rattle.calculus.specs.Inputs.{value_suits}
 use Rattle.sheets.specs.Rows.{fit_refusal, given_refusal, input_row_refusal}
 use Rattle.sheets.proofs.Laws.{or_else_some}
 
@@ -62,10 +63,17 @@ lengths_passed x e =
       trail_room = leb-true (trail_numbers (term_rows x.terms)) (length x.trail) rs.1;
     }
 
--- an input row whose term and value fit: the term is a row, and number 8 is left to ask
+-- an input row whose term and value fit: the term is a row, the value suits it, and number 8 is left to ask
 pub fit_term : (ts : List ℕ) (t v : ℕ) → fit_refusal ts t v ≡ 0 → t < term_rows ts
 unfolding fit_refusal
 fit_term ts t v e = ltb→lt t (term_rows ts) (unless_ok (ltb t (term_rows ts)) 6 _ (omega arith) e).0
+
+pub fit_value : (ts : List ℕ) (t v : ℕ) → fit_refusal ts t v ≡ 0 → (not (eqb v blank) && value_suits ts t v) ≡ true
+unfolding fit_refusal
+fit_value ts t v e =
+    let row = unless_ok (ltb t (term_rows ts)) 6 _ (omega arith) e in
+    let value = unless_ok (not (eqb v blank) && value_suits ts t v) 7 0 (omega arith) row.1 in
+    T_true (not (eqb v blank) && value_suits ts t v) value.0
 
 pub row_fits : (ts : List ℕ) (t v : ℕ) (g : Bool) → fit_refusal ts t v ≡ 0 → input_row_refusal ts t v g ≡ given_refusal g
 unfolding input_row_refusal or_else

@@ -59,3 +59,10 @@ run_named (b ∷ bs) = go (run_named bs) (is_name (class_of b)) refl where
   go : named (take (run bs) bs) ≡ true → (t : Bool) → is_name (class_of b) ≡ t → named (take (pick t (suc (run bs)) 0) (b ∷ bs)) ≡ true
   go ih true e = rw (e, ih)
   go ih false e = refl
+
+-- what a test of a byte tells
+pub no_name : {b x : Bool} → b ≡ x → b ≡ false → x ≡ false
+no_name e h = sym e ∙ h
+
+pub a_name : {b x : Bool} → b ≡ x → b ≡ true → x ≡ false → ⊥
+a_name e h q = let z : ◌≡◌ {A = Bool} true false = sym h ∙ e ∙ q in absurd (let y : ◌≡◌ {A = ℕ} 0 1 = cc in omega arith)

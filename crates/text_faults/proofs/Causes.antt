@@ -1,7 +1,9 @@
 -- Laws of causes, test after test as the code has them.
-use Rattle.std.proofs.Common.{◌≡◌, ℕ, suc, Bool, true, false, ◌&&◌, ◌||◌, List, [], ◌∷◌, length, refl, sym, arith}
+use Rattle.std.proofs.Common.{◌≡◌, ℕ, suc, ◌+◌, ◌<◌, Bool, true, false, ◌&&◌, ◌||◌, List, [], ◌∷◌, length, drop, get_or, refl, sym, ◌∙◌, arith}
 use Rattle.std.specs.List.{list_all, list_any}
 use lib.Dec.{eqb, ltb}
+use lib.Seq.{drop-cons}
+use native.Mathlib.Numerals.{add-one}
 use Prim.Native.Nat.compare
 use borrow.Author.Tests.{lt-ltb}
 use Rattle.text_fields.specs.Split.{pick, before}
@@ -23,3 +25,11 @@ plain_all (b ∷ bs) = go (is_plain (class_of b)) (plain_all bs) where
   go : (t : Bool) → list_all (λ x. is_plain (class_of x)) bs ≡ plain bs → (t && list_all (λ x. is_plain (class_of x)) bs) ≡ pick t (plain bs) false
   go true e = e
   go false e = refl
+
+-- the bytes from the ith on
+module _ (l : List ℕ) (i : ℕ) (h : i < length l) {b : Bool} (b_is : b ≡ is_plain (class_of (get_or l i 0))) where
+  pub plain_not : b ≡ false → false ≡ plain (drop i l)
+  plain_not e = rw (drop-cons l i 0, sym b_is ∙ e)
+
+  pub plain_on : b ≡ true → plain (drop (i + 1) l) ≡ plain (drop i l)
+  plain_on e = rw (drop-cons l i 0, sym b_is ∙ e, add-one)

@@ -1,13 +1,14 @@
 -- Laws of the definitions of specs/.
-use Prim.Native.Nat.{ℕ, zero, suc, ◌+◌, ◌≤◌}
+use Prim.Native.Nat.{ℕ, zero, suc, ◌+◌, ◌≤◌, ◌<◌}
 use mathlib.Core.Path.{◌≡◌, refl, ap, sym, ◌∙◌}
 use mathlib.Core.Bool.{Bool, true, false, ◌&&◌}
 use mathlib.Core.List.{List, [], ◌∷◌}
 use native.Mathlib.Omega.{arith}
-use borrow.Author.Tests.{eq-eqb, eqb-true}
+use native.Mathlib.Numerals.{add-one}
+use borrow.Author.Tests.{eq-eqb, ne_eqb, eqb-true}
 use lib.Dec.{eqb, leb}
-use lib.ListN.{length, take, drop, length-drop}
-use lib.Seq.{drop-drop}
+use lib.ListN.{length, take, drop, get_or, length-drop}
+use lib.Seq.{drop-cons, drop-drop}
 use Rattle.std.specs.Cmp.Lexicographic.{pointwise}
 use Rattle.text_fields.specs.Split.{pick, before, same}
 use Rattle.text_fields.specs.Class.{class_of, is_space, is_newline}
@@ -36,6 +37,14 @@ newline_is b = go (eqb b 32) (eqb b 10) refl refl where
   go true l d e = let z : b ≡ 32 = eqb-true b 32 d in rw z
   go false true d e = sym e
   go false false d e = neither is_newline refl refl (leb 33 b) (leb b 126) ∙ sym e
+
+-- the bytes from the ith on
+module _ (c : ℕ) (l : List ℕ) (i : ℕ) where
+  pub before_hit : i < length l → get_or l i 0 ≡ c → before c (drop i l) ≡ 0
+  before_hit h e = rw (drop-cons l i 0, eq-eqb _ _ e)
+
+  pub before_miss : i < length l → (get_or l i 0 ≡ c → ⊥) → before c (drop i l) ≡ suc (before c (drop (i + 1) l))
+  before_miss h e = rw (drop-cons l i 0, ne_eqb _ _ e, add-one)
 
 -- some bytes without `c` at the front
 before_past : (c : ℕ) (l : List ℕ) (n : ℕ) → n ≤ length l → before c (take n l) ≡ length (take n l) → before c l ≡ n + before c (drop n l)

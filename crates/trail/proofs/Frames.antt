@@ -68,6 +68,9 @@ beside w N ws vs n b x laid h o =
     frame w N ws vs n laid o.long (λ k p q. o.rest k (inl (omega arith)))
     (λ u k l on q. o.rest _ (inl (omega (arith, why_in_lem w u N l))))
 
+pub still_twice : (w N : ℕ) (ws us vs : List ℕ) (n : ℕ) → Still w N ws us n → Still w N us vs n → Still w N ws vs n
+still_twice w N ws us vs n p q = record { trail = q.trail ∙ p.trail; laid = q.laid }
+
 -- ---- nothing on the trail
 
 pub started : {w N : ℕ} {ws vs : List ℕ} → conflict w N + w ≤ length ws → N ≤ 64 * w → w ≤ 1023 → Filled ws vs (kinds w N) N (λ k x. x ≡ 0)

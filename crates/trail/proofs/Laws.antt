@@ -129,6 +129,10 @@ room_all w N ws n laid = omega (arith, trail_length w N ws n, room N (trail_in w
 pub room_one : (w N : ℕ) (ws : List ℕ) (n t : ℕ) → Laid w N ws n → t < N → on (trail_in w N ws n) t ≡ false → n < N
 room_one w N ws n t laid h off = omega (arith, trail_length w N ws n, room_more N t (trail_in w N ws n) laid.distinct laid.below h off)
 
+-- a row of the trail is in a word of every set
+pub row_word : (w N t : ℕ) → N ≤ 64 * w → t < N → t / 64 < w
+row_word w N t wide h = omega arith
+
 -- the row of an entry has its word, and fits 16 bits
 pub row_fits : (w N : ℕ) (ws : List ℕ) (n i : ℕ) → Laid w N ws n × (i < n) → (order w N + i < length ws) × (row_at w N ws i < 65536)
 row_fits w N ws n i g =

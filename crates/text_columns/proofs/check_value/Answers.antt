@@ -18,9 +18,11 @@ returns-then-column-eq0 c =
 pub returns-then-not-holds_value : goal.returns-then-not-holds_value
 returns-then-not-holds_value c =
     value_bad (contents c.args.fields.now) c.args.column c.requires c.if-column-eq0.false (rw length-map (omega arith))
-    (ap (λ (f : List ℕ). is_number (value f)) (get_or-map _ c.args.fields.now (c.args.column - 1) _ [] (omega arith)) ∙ sym c.holds_value.ensures ∙ c.if-not-holds_value.true)
+    (ap (λ (f : List ℕ). is_number (value f)) (get_or-map _ c.args.fields.now (c.args.column - 1) _ [] (omega arith))
+    ∙ sym c.holds_value.ensures ∙ c.if-not-holds_value.true)
 
 pub returns : goal.returns
 returns c =
     value_good (contents c.args.fields.now) c.args.column c.requires
-    (ap (λ (f : List ℕ). is_number (value f)) (get_or-map _ c.args.fields.now (c.args.column - 1) _ [] (omega arith)) ∙ sym c.holds_value.ensures ∙ c.if-not-holds_value.false)
+    (ap (λ (f : List ℕ). is_number (value f)) (get_or-map _ c.args.fields.now (c.args.column - 1) _ [] (omega arith))
+    ∙ sym c.holds_value.ensures ∙ c.if-not-holds_value.false)

@@ -1,0 +1,2 @@
+-- The number of a sort row.
+pub mod Laws
