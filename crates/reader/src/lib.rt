@@ -234,3 +234,33 @@ pub fn read_text(
     );
     finish(f, &mut line, &mut names, sorts, terms, inputs, steps)
 }
+
+#[cfg(test)]
+mod tests {
+    use super::*;
+    use text_lines::end_line;
+    use text_stream::feed;
+
+    // A line's fault has the form that lines have: a fault that a caller gives may have the same number, field and cause.
+    #[test]
+    fn faults_of_lines() -> Result<(), &'static str> {
+        let mut line = [0u8; 526];
+        let mut names = [0u8; 55392];
+        let mut sorts = [0u16; 64];
+        let start = begin(&mut sorts, &mut [], &mut [], &mut []);
+        let good = feed(start, b"sort index value\nSlot - -\n", &mut line, &mut names, &mut sorts, &mut [], &mut [], &mut []);
+        if start.core.fault.is_some() || good.core.fault.is_some() || good.core.number() != 0 {
+            return Err("good lines have no fault");
+        }
+        let fed = feed(good, b"Slot - -\n", &mut line, &mut names, &mut sorts, &mut [], &mut [], &mut []);
+        let read = end_line(good.core, 3, b"Slot - -", &mut names, &mut sorts, &mut [], &mut [], &mut []);
+        if !matches!((fed.core.fault, read.fault), (Some(Fault::Name), Some(Fault::Name))) {
+            return Err("a name that is taken is a fault of its own");
+        }
+        let read = end_line(start.core, 1, b"sort index values", &mut names, &mut sorts, &mut [], &mut [], &mut []);
+        if !matches!(read.fault, Some(Fault::Malformed(0, Why::Header))) {
+            return Err("a header with a letter more is malformed as a whole");
+        }
+        Ok(())
+    }
+}

@@ -1,5 +1,5 @@
 -- What the code's values and buffers stand for: where the reading stands, what a line does, and the four lent sheets.
-use Rattle.std.specs.Prelude.{Option, Some, None, ℕ, ◌*◌, ◌≤◌, ◌≡◌, List, length, take}
+use Rattle.std.specs.Prelude.{Option, Some, None, Bool, true, false, ℕ, ◌*◌, ◌≤◌, ◌≡◌, List, length, take}
 use Rattle.std.proofs.lemmas.List.Edits.{sets}
 use Rattle.text_faults.specs.Why.{row_why}
 use Rattle.text_faults.specs.declared.Why.{Why}
@@ -46,6 +46,14 @@ place_at (Some f) = fault_place f
 abbrev pub why_at : Option Fault → Option Why
 why_at None = None
 why_at (Some f) = fault_why f
+
+-- whether a fault, if there is one, is of the forms that the lines of a text have, and none that a caller gave
+abbrev pub is_textual : Option Fault → Bool
+is_textual None = true
+is_textual (Some Name) = true
+is_textual (Some Ceiling) = true
+is_textual (Some (Malformed place why)) = true
+is_textual (Some (Given number place why)) = false
 
 -- the fault of a line of values that is no row
 abbrev pub row_fault : Sheet → BadRow → List ℕ → Fault

@@ -1,12 +1,12 @@
 // What one line of a text does to the reader's state and to the lent sheets.
 #![tactic(auto)]
 
-ghost use Rattle.std.specs.Prelude.{◌≡◌, List, ℕ, IfOk};
+ghost use Rattle.std.specs.Prelude.{◌≡◌, true, List, ℕ, Some, IfOk};
 ghost use Rattle.std.proofs.lemmas.List.Edits.{sets};
 ghost use Rattle.text_fields.specs.Split.{pieces};
 ghost use Rattle.text_rows.specs.View.{kept_of, taken_in, Bounded, Within};
 ghost use Rattle.text_lines.specs.Lines.{quiet, bad, enter, header_of, header, next_sheet, row_of, value_column, row, read_line, line_effect};
-ghost use Rattle.text_lines.specs.View.{fault_number, fault_place, fault_why, number_at, row_fault, control_of, effect_of, StepBounded, sheets_of, stored, LineEnded};
+ghost use Rattle.text_lines.specs.View.{fault_number, fault_place, fault_why, number_at, is_textual, row_fault, control_of, effect_of, StepBounded, sheets_of, stored, LineEnded};
 
 use text_faults::Why;
 use text_rows::{BadRow, Counts, Row};
@@ -106,6 +106,7 @@ fn quiet_line(core: Core) -> Step
     requires { Bounded core.counts }
     ensures effect_is { (t : List ℕ) → effect_of result t ≡ quiet (control_of core t) }
     ensures step_bounded { StepBounded result }
+    ensures textual { is_textual core.fault ≡ true → is_textual result.core.fault ≡ true }
 {
     Step {
         core,
@@ -119,6 +120,7 @@ fn bad_line(core: Core, why: Why) -> Step
     requires { Bounded core.counts }
     ensures effect_is { (t : List ℕ) → effect_of result t ≡ bad (control_of core t) why }
     ensures step_bounded { StepBounded result }
+    ensures textual { is_textual result.core.fault ≡ true }
 {
     quiet_line(Core {
         fault: Some(Fault::Malformed(0, why)),
@@ -131,6 +133,7 @@ fn enter_sheet(core: Core, sheet: Sheet, headed: bool) -> Step
     requires { Bounded core.counts }
     ensures effect_is { (t : List ℕ) → effect_of result t ≡ enter (control_of core t) sheet headed }
     ensures step_bounded { StepBounded result }
+    ensures textual { is_textual core.fault ≡ true → is_textual result.core.fault ≡ true }
 {
     quiet_line(Core {
         sheet,
@@ -157,6 +160,7 @@ fn header_line(core: Core, line: &[u8]) -> Step
     requires { Bounded core.counts }
     ensures effect_is { (t : List ℕ) → effect_of result t ≡ header (control_of core t) line.now }
     ensures step_bounded { StepBounded result }
+    ensures textual { is_textual core.fault ≡ true → is_textual result.core.fault ≡ true }
 {
     if line == header_of(core.sheet) {
         return enter_sheet(core, core.sheet, true);
@@ -169,6 +173,7 @@ fn empty_line(core: Core) -> Step
     requires { Bounded core.counts }
     ensures effect_is { (t : List ℕ) → effect_of result t ≡ next_sheet (control_of core t) core.sheet }
     ensures step_bounded { StepBounded result }
+    ensures textual { is_textual core.fault ≡ true → is_textual result.core.fault ≡ true }
 {
     match core.sheet {
         Sheet::Sorts => enter_sheet(core, Sheet::Terms, false),
@@ -212,7 +217,8 @@ fn value_column(sheet: Sheet) -> usize
 
 // The fault of a line of values that is no row.
 fn row_fault(sheet: Sheet, bad: BadRow, line: &[u8]) -> Fault
-    ensures { result ≡ row_fault sheet bad line.now }
+    ensures fault_is { result ≡ row_fault sheet bad line.now }
+    ensures textual { is_textual (Some result) ≡ true }
 {
     match bad {
         BadRow::Name => Fault::Name,
@@ -232,6 +238,7 @@ fn row_line(core: Core, taken: Result<Row, BadRow>, line: &[u8]) -> Step
     requires within { IfOk taken Within }
     ensures effect_is { (t t' : List ℕ) → effect_of result t' ≡ row (control_of core t) (taken_in core.counts taken t') line.now }
     ensures step_bounded { StepBounded result }
+    ensures textual { is_textual result.core.fault ≡ true }
 {
     match taken {
         Ok(row) => {
@@ -259,6 +266,7 @@ fn read_line(core: Core, line: &[u8], names: &mut [u8; 55392]) -> Step
     requires { Bounded core.counts }
     ensures names_after { effect_of result names.new ≡ read_line (control_of core names.old) line.now }
     ensures step_bounded { StepBounded result }
+    ensures textual { is_textual core.fault ≡ true → is_textual result.core.fault ≡ true }
 {
     if !core.headed {
         return header_line(core, line);
@@ -277,6 +285,7 @@ fn line_step(core: Core, n: usize, l: &[u8], names: &mut [u8; 55392]) -> Step
     requires no_fault { number_at core.fault ≡ 0 }
     ensures names_after { effect_of result names.new ≡ line_effect (control_of core names.old) n l.now }
     ensures step_bounded { StepBounded result }
+    ensures textual { is_textual core.fault ≡ true → is_textual result.core.fault ≡ true }
 {
     let here = Core { line: n, ..core };
     if l.len() > 525 {
@@ -340,6 +349,7 @@ pub fn end_line(
         (control_of result names.new)
         (sheets_of sorts.new terms.new inputs.new steps.new) }
     ensures bounded_2 { Bounded result.counts }
+    ensures textual { is_textual core.fault ≡ true → is_textual result.fault ≡ true }
 {
     let step = line_step(core, n, l, names);
     let cells = &step.cells[..step.width];

@@ -1,7 +1,7 @@
 -- Laws of the bytes up to a newline: fed one by one they do what their line does.
 use Prim.Native.Nat.{ℕ, suc, ◌+◌, ◌≤◌, ◌<◌}
 use mathlib.Core.Path.{◌≡◌, refl, ap, sym, ◌∙◌}
-use mathlib.Core.Bool.{Bool, true, false, ◌&&◌}
+use mathlib.Core.Bool.{Bool, true, false, ◌&&◌, false≢true}
 use mathlib.Core.List.{List, [], ◌∷◌, ◌++◌, append_assoc}
 use native.Mathlib.Omega.{arith}
 use native.Mathlib.Numerals.{add-one}
@@ -14,7 +14,10 @@ use Rattle.text_fields.proofs.Laws.{newline_is}
 use Rattle.text_position.specs.declared.Position.{Position}
 use Rattle.text_position.specs.Place.{next_start}
 use Rattle.text_lines.specs.Lines.{Control, Effect, quiet, line_effect}
-use Rattle.text_lines.specs.View.{Sheets, stored, LineEnded}
+use Rattle.text_lines.specs.View.{Sheets, stored, LineEnded, number_at, is_textual}
+use Rattle.text_lines.specs.declared.Fault.{Fault}
+use Rattle.text_lines.specs.declared.Fault.TheVariants.{Name, Ceiling, Malformed, Given}
+use Rattle.std.specs.Prelude.{Option, Some, None, is_some}
 use Rattle.text_lines.proofs.Lines.{effect_late, effect_cut}
 use Rattle.buffers.proofs.Room.{append_nil}
 use Rattle.text_lines.proofs.Sheets.{stored_none}
@@ -100,6 +103,14 @@ run_fed (b ∷ bs) s h e k = one (run_fed bs) (eqb b 10) refl h where
       → (t : Bool) → eqb b 10 ≡ t → pick t 0 (suc (before 10 bs)) ≡ suc (length bs) → feed_all s (b ∷ bs) ≡ fed_run s (b ∷ bs)
   one ih true p q = absurd (omega arith)
   one ih false p q = ap (λ (x : Stream). feed_all x bs) (plain s b p) ∙ two ih (omega arith) (ltb s.pos.at 526) refl
+
+-- a fault of the forms that the lines of a text have, has a number
+pub faulty : (o : Option Fault) → is_textual o ≡ true → is_some o ≡ true → number_at o ≡ 0 → ⊥
+faulty None t e z = absurd (false≢true e)
+faulty (Some Name) t e z = absurd (omega arith)
+faulty (Some Ceiling) t e z = absurd (omega arith)
+faulty (Some (Malformed p w)) t e z = absurd (omega arith)
+faulty (Some (Given n p w)) t e z = absurd (false≢true t)
 
 -- after a bad line nothing is done
 late_line : (c : Control) (n : ℕ) (l : List ℕ) (s : Sheets) → (c.number ≡ 0 → ⊥) → LineEnded c n l s c s

@@ -1,11 +1,11 @@
 // A text in pieces: bytes are held until a newline ends their line, and a line that stands whole in a piece is read where it stands.
 #![tactic(auto)]
 
-ghost use Rattle.std.specs.Prelude.{◌≡◌, ◌&&◌, [], ◌+◌, ◌≤◌, eqb, ltb, length, take, drop};
+ghost use Rattle.std.specs.Prelude.{◌≡◌, ◌&&◌, true, [], ◌+◌, ◌≤◌, eqb, ltb, length, take, drop};
 ghost use Rattle.text_fields.specs.Split.{pick, before};
 ghost use Rattle.text_rows.specs.View.{Bounded};
 ghost use Rattle.text_lines.specs.Lines.{Control};
-ghost use Rattle.text_lines.specs.View.{Sheets};
+ghost use Rattle.text_lines.specs.View.{Sheets, is_textual};
 ghost use Rattle.text_stream.specs.Stream.{holding, stream_of, feed_all};
 
 use text_lines::Core;
@@ -88,6 +88,7 @@ fn feed_part(
         line.old names.old sorts.old terms.old inputs.old steps.old)
         (take (n + 1) rest.now) }
     ensures stays_bounded { Bounded result.core.counts }
+    ensures textual { is_textual f.core.fault ≡ true → is_textual result.core.fault ≡ true }
 {
     let Progress { pos, core } = f;
     let end = rest.len();
@@ -134,6 +135,7 @@ pub fn feed(
         line.old names.old sorts.old terms.old inputs.old steps.old)
         piece.now }
     ensures bounded { Bounded result.core.counts }
+    ensures textual { is_textual start.core.fault ≡ true → is_textual result.core.fault ≡ true }
 {
     let mut f = start;
     let mut rest = piece;

@@ -11,4 +11,5 @@ loop-rest-preserved c =
       g.ensures.stays_bounded,
       ap (feed_all (stream_of g.result after.line after.names after.sorts after.terms after.inputs after.steps)) c.behind-rest.ensures
           ∙ feed_on _ _ c.loop-rest.rest.now c.scan-n.result g.ensures.steps_after ∙ c.loop-rest.invariant.1,
+      λ t. g.ensures.textual (c.loop-rest.invariant.2 t),
     )

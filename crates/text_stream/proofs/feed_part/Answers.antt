@@ -20,6 +20,7 @@ returns-then-number-ne0 c =
       steps_after = part_late _ _ _ _ c.requires.n_value _ c.stands_whole-whole.ensures _ c.to_hold.ensures _ _ c.hold-held.ensures _ _ _
           c.requires.n_in_bounds c.if-n-end.false c.next_line-next.ensures (λ z. omega arith);
       stays_bounded = c.requires.bounded;
+      textual = λ t. t;
     }
 
 pub returns : goal.returns
@@ -28,4 +29,5 @@ returns c =
       steps_after = part_ended _ _ _ _ c.requires.n_value _ c.stands_whole-whole.ensures _ c.to_hold.ensures _ _ c.hold-held.ensures _ _ _ _ _ _
           c.requires.n_in_bounds c.if-n-end.false c.next_line-next.ensures c.line_of-l.ensures c.end_line-after.ensures.line_ended;
       stays_bounded = c.end_line-after.ensures.bounded_2;
+      textual = c.end_line-after.ensures.textual;
     }
