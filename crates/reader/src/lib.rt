@@ -241,24 +241,41 @@ mod tests {
     use text_lines::end_line;
     use text_stream::feed;
 
+    // Where the reading stands after a text that has a sort sheet alone.
+    fn after(text: &[u8]) -> Core
+        ensures { Bounded result.counts }
+    {
+        let mut sorts = [0u16; 64];
+        let start = begin(&mut sorts, &mut [], &mut [], &mut []);
+        let (mut line, mut names) = ([0u8; 526], [0u8; 55392]);
+        let (terms, inputs, steps) = (&mut [], &mut [], &mut []);
+        let end = feed(
+            start, text, &mut line, &mut names, &mut sorts, terms, inputs, steps,
+        );
+        end.core
+    }
+
     // A line's fault has the form that lines have: a fault that a caller gives may have the same number, field and cause.
     #[test]
     fn faults_of_lines() -> Result<(), &'static str> {
-        let mut line = [0u8; 526];
-        let mut names = [0u8; 55392];
-        let mut sorts = [0u16; 64];
-        let start = begin(&mut sorts, &mut [], &mut [], &mut []);
-        let good = feed(start, b"sort index value\nSlot - -\n", &mut line, &mut names, &mut sorts, &mut [], &mut [], &mut []);
-        if start.core.fault.is_some() || good.core.fault.is_some() || good.core.number() != 0 {
+        let good = after(b"sort index value\nSlot - -\n");
+        if good.fault.is_some() || good.number() != 0 {
             return Err("good lines have no fault");
         }
-        let fed = feed(good, b"Slot - -\n", &mut line, &mut names, &mut sorts, &mut [], &mut [], &mut []);
-        let read = end_line(good.core, 3, b"Slot - -", &mut names, &mut sorts, &mut [], &mut [], &mut []);
-        if !matches!((fed.core.fault, read.fault), (Some(Fault::Name), Some(Fault::Name))) {
+        let twice = after(b"sort index value\nSlot - -\nSlot - -\n");
+        if !matches!(twice.fault, Some(Fault::Name)) {
             return Err("a name that is taken is a fault of its own");
         }
-        let read = end_line(start.core, 1, b"sort index values", &mut names, &mut sorts, &mut [], &mut [], &mut []);
-        if !matches!(read.fault, Some(Fault::Malformed(0, Why::Header))) {
+        let (mut names, mut sorts) = ([0u8; 55392], [0u16; 64]);
+        let (terms, inputs, steps) = (&mut [], &mut [], &mut []);
+        let bad = end_line(
+            good, 3, b"Slot -", &mut names, &mut sorts, terms, inputs, steps,
+        );
+        if !matches!(bad.fault, Some(Fault::Malformed(0, Why::Fields))) {
+            return Err("a line without a field is malformed as a whole");
+        }
+        let bad = after(b"sort index values\n");
+        if !matches!(bad.fault, Some(Fault::Malformed(0, Why::Header))) {
             return Err("a header with a letter more is malformed as a whole");
         }
         Ok(())
